@@ -21,7 +21,8 @@ use Rattle.pulsar_consumer_table.specs.Consumers as consumer
 use Rattle.pulsar_consumer_table.specs.Consumers.{Consumers}
 use Rattle.pulsar_producer_table.specs.Producers.{Producers, called_on, opened_on, why_not}
 use Rattle.pulsar_tables.specs.Rules.{parts_of, procedure_for, shares_unless, starts, unless_refused}
-use Rattle.pulsar_agenda.specs.Run.{Agenda, goes_on}
+use Rattle.pulsar_agenda.specs.Run.{goes_on}
+use Rattle.pulsar_agenda.specs.Agenda.{Agenda}
 use Rattle.pulsar_tables.specs.View.{Chosen, Tickets, View, after, alarms_built, builds, idle_period, may_call}
 use Rattle.pulsar_tables.specs.Seats.{later}
 

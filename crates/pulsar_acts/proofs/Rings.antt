@@ -11,7 +11,8 @@ use Rattle.pulsar_tables.specs.Alarms.{rings}
 use Rattle.pulsar_producer_table.specs.Producers.{Producers}
 use Rattle.pulsar_tables.specs.Rules.{rung, woken}
 use Rattle.pulsar_calls.specs.Order.{below, opens}
-use Rattle.pulsar_agenda.specs.Run.{Agenda, goes_on}
+use Rattle.pulsar_agenda.specs.Run.{goes_on}
+use Rattle.pulsar_agenda.specs.Agenda.{Agenda}
 use Rattle.pulsar_tables.specs.View.{View, after, alarms_rung, pause_rung, producers_rung}
 
 -- what is left, and what is seen

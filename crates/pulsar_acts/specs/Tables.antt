@@ -1,11 +1,18 @@
 -- For the code's contracts alone: what is seen of the tables of a client.
-use Rattle.std.specs.Prelude.{ℕ, List, [], ◌∷◌, Option, Some, None, true, if◌then◌else◌}
+use Rattle.std.specs.Prelude.{ℕ, not, ◌&&◌, List, [], ◌∷◌, Option, Some, None, true, if◌then◌else◌}
 use Rattle.std.specs.Option.{option_map}
 use Rattle.pulsar_messages.specs.Content.{authentication_values}
 use Rattle.pulsar_addresses.specs.Address.{address_key}
+use Rattle.pulsar_calls.specs.declared.act.Act.{Act}
+use Rattle.pulsar_calls.specs.declared.act.Act.TheVariants.{Comes}
 use Rattle.pulsar_calls.specs.declared.act.Alarm.{Alarm}
 use Rattle.pulsar_calls.specs.declared.act.Alarm.TheVariants as alarm
 use Rattle.pulsar_calls.specs.declared.act.Arrival.{Arrival}
+use Rattle.pulsar_calls.specs.declared.act.End.TheVariants.{Idles}
+use Rattle.pulsar_calls.specs.declared.act.LinkAct.TheVariants.{Ends}
+use Rattle.pulsar_calls.specs.declared.act.Part.TheVariants.{ToLink}
+use Rattle.pulsar_consumer_table.specs.Consumers.{Consumers, is_heard}
+use Rattle.pulsar_producer_table.specs.Producers.{Producers, is_held}
 use Rattle.pulsar_acts.specs.declared.settings.Settings.{Settings}
 use Rattle.pulsar_acts.specs.declared.tables.Tables.{Tables}
 use Rattle.pulsar_calls.specs.Content.{Shown, Retry}
@@ -83,3 +90,7 @@ unset_view v =
       addresses = record { base = λ key. if waits_on v.addresses v.alarms key then nobody else v.addresses.base key; pause = λ l. None };
       alarms = [];
     }
+
+-- the end of a link on which no subscription lives and which no topic producer has
+abbrev pub unused_act : Consumers → Producers → ℕ → List Act
+unused_act cs ps l = if not (is_heard cs l) && not (is_held ps l) then Comes (ToLink l (Ends Idles)) ∷ [] else []

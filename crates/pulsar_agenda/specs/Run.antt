@@ -1,5 +1,5 @@
 -- A good run, by the client's rules.
-use Rattle.std.specs.Prelude.{ℕ, ◌+◌, ◌-◌, ◌^◌, Bool, true, false, if◌then◌else◌, List, [], ◌∷◌, Option}
+use Rattle.std.specs.Prelude.{ℕ, ◌+◌, ◌-◌, ◌^◌, Bool, true, false, if◌then◌else◌, List, [], ◌∷◌}
 use Rattle.pulsar_run.specs.Run as run
 pub use Rattle.pulsar_run.specs.Run.{Begins, Then}
 use Rattle.pulsar_calls.specs.declared.act.Act.{Act}
@@ -12,6 +12,7 @@ use Rattle.pulsar_calls.specs.Order.{effect_below}
 use Rattle.pulsar_tables.specs.Rules.{at_once, causes, further, joins, parts}
 use Rattle.pulsar_calls.specs.Order.{below}
 use Rattle.pulsar_tables.specs.View.{Options, View, after, begun, new}
+use Rattle.pulsar_agenda.specs.Agenda.{Agenda}
 
 abbrev pub rules : run.Rules Options Heard View Act Notice Part Shown
 rules =
@@ -35,26 +36,11 @@ rules =
 abbrev pub Entry : Type 0
 Entry = run.Entry Heard Act
 
-abbrev pub Agenda : Type 0
-Agenda = run.Agenda Act Notice Part
-
 abbrev pub Step : Type 0
 Step = run.Step Heard Shown
 
 abbrev pub view : Options → List Entry → View
 view o log = run.view rules o log
-
-abbrev pub first_of : List Act → List Notice → List (List Notice) → List Part → Option Act
-first_of now here behind parts = run.first_of rules now here behind parts
-
-abbrev pub rest_of : List Act → List Notice → List (List Notice) → List Part → Agenda
-rest_of now here behind parts = run.rest_of now here behind parts
-
-abbrev pub first : Agenda → Option Act
-first g = run.first rules g
-
-abbrev pub rest : Agenda → Agenda
-rest g = run.rest g
 
 abbrev pub goes_on : View → Act → Agenda → Agenda
 goes_on v a g = run.goes_on rules v a g

@@ -4,7 +4,7 @@ ghost use Rattle.std.specs.Prelude.{◌≡◌, ◌++◌, ◌∷◌, [], map, OnO
 ghost use Rattle.pulsar_run.specs.Order.{arranged, put};
 ghost use Rattle.pulsar_run.specs.Run.{only};
 ghost use Rattle.pulsar_calls.specs.Order.{alone, below, opens};
-ghost use Rattle.pulsar_agenda.specs.Run.{first, first_of, rest, rest_of};
+ghost use Rattle.pulsar_agenda.specs.Agenda.{first, first_of, rest, rest_of};
 ghost use Rattle.pulsar_agenda.specs.Agenda.{agenda_of};
 
 use crate::queue::Queue;

@@ -11,7 +11,8 @@ use Rattle.pulsar_calls.specs.Content.{Heard, Shown, Called, Ticked}
 use Rattle.pulsar_tables.specs.Effects.{effects}
 use Rattle.pulsar_calls.specs.Order.{effect_below}
 use Rattle.pulsar_tables.specs.Rules.{at_once, brings, further, parts}
-use Rattle.pulsar_agenda.specs.Run.{Entry, Begins, Then, IsRun, Rests, Step, agenda, first_of, heard_to, rest, rest_of, rules, steps, tickets_in, view}
+use Rattle.pulsar_agenda.specs.Run.{Entry, Begins, Then, IsRun, Rests, Step, agenda, heard_to, rules, steps, tickets_in, view}
+use Rattle.pulsar_agenda.specs.Agenda.{first_of, rest, rest_of}
 use Rattle.pulsar_client.specs.History.{Stands}
 use Rattle.pulsar_tables.specs.View.{Options, View, drawn_after, is_live}
 use Rattle.pulsar_agenda.proofs.Acts.{Each, begun_same}

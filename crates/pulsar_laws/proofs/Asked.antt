@@ -22,7 +22,8 @@ use Rattle.pulsar_calls.specs.Content.{Asked, lacks_tickets, shares}
 use Rattle.pulsar_procedures.specs.Plan.{fails, told, verdict, begins}
 use Rattle.pulsar_tables.specs.Rules.{share, at_once, called, fails_as, causes, follows, follows_some, procedure_for, unless_refused, joins, left_with, sends_by, sends_with, stores_as, shares_of, shares_unless, starts, why_no_sends, unless}
 use Rattle.pulsar_calls.specs.Order.{below}
-use Rattle.pulsar_agenda.specs.Run.{Agenda, Entry, Begins, Then, IsRun, agenda, first, rules, view}
+use Rattle.pulsar_agenda.specs.Run.{Entry, Begins, Then, IsRun, agenda, rules, view}
+use Rattle.pulsar_agenda.specs.Agenda.{Agenda, first}
 use Rattle.pulsar_tables.specs.View.{Options, View, told_some, ways_of, Chosen, may_call}
 use Rattle.pulsar_outgoing.specs.declared.orders.Errand.{Errand}
 use Rattle.pulsar_messages.specs.Content.{ProducerMessageValues}

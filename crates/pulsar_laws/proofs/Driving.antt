@@ -6,7 +6,8 @@ use Rattle.pulsar_calls.specs.Content.{Heard}
 use Rattle.pulsar_tables.specs.Effects.{effects}
 use Rattle.pulsar_calls.specs.Order.{effect_below}
 use Rattle.pulsar_tables.specs.Rules.{parts}
-use Rattle.pulsar_agenda.specs.Run.{Agenda, Entry, Begins, Then, Good, IsRun, Step, agenda, first, goes_on, rest, rules, view}
+use Rattle.pulsar_agenda.specs.Run.{Entry, Begins, Then, Good, IsRun, Step, agenda, goes_on, rules, view}
+use Rattle.pulsar_agenda.specs.Agenda.{Agenda, first, rest}
 use Rattle.pulsar_tables.specs.View.{Options, View, after, begun, new}
 
 -- what is seen, what is left to do, and the steps so far

@@ -46,7 +46,8 @@ use Rattle.pulsar_tables.specs.Reading.{flow_said, tells_word}
 use Rattle.pulsar_tables.specs.Rules.{at_once, causes, follows_some, further, joins, notice}
 use Rattle.pulsar_calls.specs.Order.{below}
 use Rattle.pulsar_tables.specs.View.{Options, View, stand_after, stays, stays_some, told_some, ways_of}
-use Rattle.pulsar_agenda.specs.Run.{Agenda, Entry, Begins, Then, IsRun, agenda, first, view}
+use Rattle.pulsar_agenda.specs.Run.{Entry, Begins, Then, IsRun, agenda, view}
+use Rattle.pulsar_agenda.specs.Agenda.{Agenda, first}
 use Rattle.pulsar_agenda.proofs.Acts.{Each, begun_same, each_append, each_first, each_map, each_rest, is_served}
 use Rattle.pulsar_agenda.proofs.Raising.{IsRaised, raises}
 use Rattle.pulsar_laws.proofs.Sources.{step_more}

@@ -53,7 +53,8 @@ use Rattle.pulsar_tables.specs.Reading.{flow_said}
 use Rattle.pulsar_tables.specs.Rules.{follows, follows_some, notice}
 use Rattle.pulsar_tables.specs.View.{Options, stays, stays_some, told_some}
 use Rattle.pulsar_tables.specs.Seats.{Seat, answer_at}
-use Rattle.pulsar_agenda.specs.Run.{Entry, Begins, Then, IsRun, agenda, first, view}
+use Rattle.pulsar_agenda.specs.Run.{Entry, Begins, Then, IsRun, agenda, view}
+use Rattle.pulsar_agenda.specs.Agenda.{first}
 use Rattle.pulsar_agenda.proofs.Acts.{begun_same}
 use Rattle.pulsar_laws.specs.ConsumerLaws.{FlowsArePlaced, done_to, place_on}
 use Rattle.pulsar_laws.specs.Laws.{EndsOnce}

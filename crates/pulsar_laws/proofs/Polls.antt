@@ -29,7 +29,8 @@ use Rattle.pulsar_tables.specs.Effects.{effects, retries_on}
 use Rattle.pulsar_tables.specs.LinkEffects.{asked_at, given_at}
 use Rattle.pulsar_calls.specs.Order.{effect_below, effect_rank, is_before3}
 use Rattle.pulsar_laws.specs.Laws.{EndsOnce}
-use Rattle.pulsar_agenda.specs.Run.{Entry, Begins, Then, IsRun, Step, first_of, is_empty, rules, steps, view}
+use Rattle.pulsar_agenda.specs.Run.{Entry, Begins, Then, IsRun, Step, is_empty, rules, steps, view}
+use Rattle.pulsar_agenda.specs.Agenda.{first_of}
 use Rattle.pulsar_tables.specs.View.{Options, View, turned}
 use Rattle.pulsar_tables.specs.Seats.{Seat, answer_at, arrival_at, closing, is_asked, url_at}
 use Rattle.pulsar_calls.specs.Who.{is_same, ticket_of}

@@ -27,7 +27,8 @@ use Rattle.pulsar_tables.specs.Rules.{follows, follows_some, notice, tells}
 use Rattle.pulsar_tables.specs.LinkRules.{told_at}
 use Rattle.pulsar_tables.specs.View.{Options, stays, stays_some, told_some}
 use Rattle.pulsar_tables.specs.Seats.{answer_at}
-use Rattle.pulsar_agenda.specs.Run.{Entry, Begins, Then, IsRun, agenda, first, view}
+use Rattle.pulsar_agenda.specs.Run.{Entry, Begins, Then, IsRun, agenda, view}
+use Rattle.pulsar_agenda.specs.Agenda.{first}
 use Rattle.pulsar_agenda.proofs.Acts.{begun_same}
 use Rattle.pulsar_laws.specs.Laws.{Answered, IsLed}
 use Rattle.pulsar_laws.proofs.Receipts.{run_behind}

@@ -30,7 +30,8 @@ use Rattle.pulsar_laws.specs.BatchLaws.{StoredEndsByItsBatch, TellsFate, ends_wi
 use Rattle.pulsar_laws.specs.Laws.{Answered, Cause, ComesLate, GrantsSo, IsDropped, IsToldSo, StartsSo, counted, start_of, started}
 use Rattle.pulsar_procedures.specs.Plan.{begins, fails, fault_of, in_stored, stored, told}
 use Rattle.pulsar_tables.specs.Rules.{notice}
-use Rattle.pulsar_agenda.specs.Run.{Entry, Begins, Then, IsRun, agenda, first, rest, view}
+use Rattle.pulsar_agenda.specs.Run.{Entry, Begins, Then, IsRun, agenda, view}
+use Rattle.pulsar_agenda.specs.Agenda.{first, rest}
 use Rattle.pulsar_tables.specs.View.{Options, View, stays, stays_some, told_some}
 use Rattle.pulsar_calls.specs.Who.{is_same}
 use Rattle.pulsar_agenda.proofs.Acts.{begun_same}

@@ -21,7 +21,8 @@ use Rattle.pulsar_procedures.specs.Plan.{begins, told}
 use Rattle.pulsar_producer_table.specs.Producers.{link_at, next_batch_at}
 use Rattle.pulsar_tables.specs.Rules.{at_once, does, finds, follows, follows_some, tells}
 use Rattle.pulsar_tables.specs.LinkRules.{told_at}
-use Rattle.pulsar_agenda.specs.Run.{Agenda, Entry, Begins, Then, IsRun, agenda, first, rules, view}
+use Rattle.pulsar_agenda.specs.Run.{Entry, Begins, Then, IsRun, agenda, rules, view}
+use Rattle.pulsar_agenda.specs.Agenda.{Agenda, first}
 use Rattle.pulsar_tables.specs.View.{Options, View, stand_after, stays, stays_some, told_some}
 use Rattle.pulsar_tables.specs.Seats.{answer_at}
 use Rattle.pulsar_calls.specs.Who.{is_same}

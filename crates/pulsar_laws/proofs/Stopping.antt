@@ -45,7 +45,8 @@ use Rattle.pulsar_tables.specs.Rules.{closes, gathers, asks_topics, at_once, bui
 use Rattle.pulsar_tables.specs.LinkRules.{dropped, ended_on, failed_at, failed_over, lost, on_link, over_links, stop_act, stopped_at, tells_asker}
 use Rattle.pulsar_calls.specs.Order.{below, opens}
 use Rattle.pulsar_producer_table.specs.Notices.{stopped_all, stopped_call}
-use Rattle.pulsar_agenda.specs.Run.{Agenda, Entry, Begins, Then, IsRun, agenda, first, rules, view}
+use Rattle.pulsar_agenda.specs.Run.{Entry, Begins, Then, IsRun, agenda, rules, view}
+use Rattle.pulsar_agenda.specs.Agenda.{Agenda, first}
 use Rattle.pulsar_tables.specs.View.{after, Options, Tickets, View, alarms_after, alarms_built, alarms_on, alarms_over, begun, begun_live, builds, calls_after, is_live, link_got, live_after, live_begun, pause_after, pause_of, pause_on, pause_rung, told_some, turned_by, ways_of, Chosen, may_call, producers_after, producers_made, producers_rung, stand_after, stays_some, consumers_after, consumers_made}
 use Rattle.pulsar_tables.specs.Seats.{Addresses, Base, Links, Seat, got_at, pause_put, took_some, arrival_at, closing}
 use Rattle.pulsar_producer_table.specs.declared.table.Topic.{Topic}

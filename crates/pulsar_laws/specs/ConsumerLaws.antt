@@ -42,7 +42,8 @@ use Rattle.pulsar_tables.specs.Links.{line_places}
 use Rattle.pulsar_tables.specs.View.{Options, View, setup_of}
 use Rattle.pulsar_tables.specs.Seats.{Seat, answer_at, arrival_at, closing, is_asked, place_of, url_at}
 use Rattle.pulsar_tables.specs.Rules.{call_part, notice}
-use Rattle.pulsar_agenda.specs.Run.{Entry, Begins, Then, IsRun, Rests, Step, agenda, first, steps, view}
+use Rattle.pulsar_agenda.specs.Run.{Entry, Begins, Then, IsRun, Rests, Step, agenda, steps, view}
+use Rattle.pulsar_agenda.specs.Agenda.{first}
 use Rattle.pulsar_laws.specs.Laws.{counted}
 
 -- WHAT IS DONE TO A CONSUMER

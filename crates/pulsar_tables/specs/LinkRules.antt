@@ -1,5 +1,5 @@
 -- What links and addresses bring: who is told of a reply, of an end and of a link that is ready.
-use Rattle.std.specs.Prelude.{ℕ, ◌+◌, Bool, false, if◌then◌else◌, List, [], ◌∷◌, ◌++◌, map, Option, Some, None, Result, Ok, Err}
+use Rattle.std.specs.Prelude.{ℕ, ◌+◌, ◌==◌, nat_le, ◌&&◌, length, Bool, false, if◌then◌else◌, List, [], ◌∷◌, ◌++◌, map, Option, Some, None, Result, Ok, Err}
 use Rattle.std.specs.List.{filter_map, flat_map}
 use Rattle.std.specs.Option.{is_none, option_map, option_to_list}
 use Rattle.pulsar_wire.specs.declared.error.ConnectionError.{ConnectionError}
@@ -9,7 +9,8 @@ use Rattle.pulsar_session.specs.declared.states.Asked.{Asked}
 use Rattle.pulsar_session.specs.declared.states.Asked.TheVariants as asked
 use Rattle.pulsar_wire.specs.Failures.{Fault, fault}
 use Rattle.pulsar_session.specs.Link as session
-use Rattle.pulsar_session.specs.Link.{Came, Seen, came, due, ends}
+use Rattle.pulsar_requests.specs.Waits.{is_empty}
+use Rattle.pulsar_session.specs.Link.{Came, Seen, came, due, ends, is_ready}
 use Rattle.pulsar_link.specs.Messages.{read}
 use Rattle.pulsar_calls.specs.declared.act.Act.{Act}
 use Rattle.pulsar_calls.specs.declared.act.Act.TheVariants.{Comes}
@@ -30,7 +31,7 @@ use Rattle.pulsar_addresses.specs.Address.{address_key}
 use Rattle.pulsar_tables.specs.Links.{Change, Remains, Becomes, IsOver, closed_by, line_places, new_places, times_out}
 use Rattle.pulsar_calls.specs.Content.{numbers_from}
 use Rattle.pulsar_tables.specs.Links as links
-use Rattle.pulsar_tables.specs.Seats.{Addresses, Base, Links, Seat}
+use Rattle.pulsar_tables.specs.Seats.{Addresses, Base, Links, Seat, later}
 use Rattle.pulsar_calls.specs.Notices.{notice}
 use Rattle.pulsar_calls.specs.Who.{is_same}
 use Rattle.pulsar_calls.specs.Order.{below}
@@ -165,3 +166,11 @@ moved_on most now (Some seat) = moved_up seat.askers seat.seen (links.after (Dra
 abbrev pub stopped_at : Addresses → Option Pause → List Notice
 stopped_at known None = []
 stopped_at known (Some p) = map (λ who. notice who outcome.Stopped) (known.base (address_key p.address)).waiting
+
+-- a ready link that was not got for so long, on which no request waits and no frame stands in the line
+abbrev pub is_resting_at : (now most : ℕ) → Seat → Bool
+is_resting_at now most seat =
+    is_ready seat.seen.stage && (nat_le (later seat.got most) now && (is_empty seat.seen.waits.waiting && (length seat.seen.line == 0)))
+
+abbrev pub resting_at : (now most : ℕ) → ℕ → Seat → List ℕ
+resting_at now most l seat = if is_resting_at now most seat then l ∷ [] else []

@@ -10,11 +10,8 @@ ghost use Rattle.pulsar_calls.specs.Content.{shown};
 ghost use Rattle.pulsar_tables.specs.LinkEffects.{asked_at, given_at};
 ghost use Rattle.pulsar_tables.specs.Due.{moment_at};
 ghost use Rattle.pulsar_tables.specs.Kept.{AreStarted, AreTimed, IsEnd, is_due, links_in, live_in, seat_of};
-ghost use Rattle.pulsar_producer_table.specs.KeptProducers.{producers_of};
 ghost use Rattle.pulsar_requests.specs.Soonest.{has_come};
-ghost use Rattle.pulsar_consumer_table.specs.KeptConsumers.{consumers_in};
-ghost use Rattle.pulsar_tables.specs.Rules.{idle_act_at, is_idle_at};
-ghost use Rattle.pulsar_tables.specs.LinkRules.{answered_on, due_part, may_ping, moved_on, on_link, over_links, stop_act, told_at};
+ghost use Rattle.pulsar_tables.specs.LinkRules.{resting_at, answered_on, due_part, may_ping, moved_on, on_link, over_links, stop_act, told_at};
 ghost use Rattle.pulsar_tables.specs.Seats.{answer_at, arrival_at, got_at, room_at, has_ended, is_asked, is_busy, seat_asked, seat_got, seat_of_fresh, seat_fed, took_some, url_at};
 
 use crate::due::DueMoments;
@@ -23,9 +20,7 @@ use pulsar_addresses::content::Address;
 use pulsar_calls::act::{Act, Arrival, End, LinkAct, Notice, Outcome, Part, Who};
 use pulsar_calls::content::Cause;
 use pulsar_calls::effect::Effect;
-use pulsar_consumer_table::table::Consumers;
 use pulsar_link::content::Request;
-use pulsar_producer_table::table::Producers;
 use pulsar_session::Connection;
 use pulsar_session::states::Stage;
 use pulsar_wire::error::{ConnectionError, NoMemory};
@@ -185,21 +180,15 @@ impl Links {
         Ok(())
     }
 
-    /// The ends of the links that nothing uses and that were not got for so long, in their order.
-    pub fn idle_acts(
-        &self,
-        now: u64,
-        most: u64,
-        consumers: &Consumers,
-        producers: &Producers,
-    ) -> Result<VecDeque<Act>, NoMemory>
-        ensures { IfOk result (λ acts. acts.items ≡ over_links (idle_act_at now most (consumers_in consumers.now.rows consumers.now.numbers) (producers_of producers.now)) (links_in self.now.started self.now.live)) }
+    /// The ready links on which nothing waits and that were not got for so long, in their order.
+    pub fn resting(&self, now: u64, most: u64) -> Result<VecDeque<u64>, NoMemory>
+        ensures { IfOk result (λ links. links.items ≡ over_links (resting_at now most) (links_in self.now.started self.now.live)) }
     {
         if self.failed {
             return Err(NoMemory);
         }
-        let acts = ends_idle(self.alloc, &self.live, now, most, consumers, producers)?;
-        Ok(acts)
+        let links = all_resting(self.alloc, &self.live, now, most)?;
+        Ok(links)
     }
 
     /// A piece is fed to an open link.
@@ -394,58 +383,29 @@ fn ping_at(
     Ok(())
 }
 
-/// The ends of all links that nothing uses.
-fn ends_idle(
+/// All links that rest.
+fn all_resting(
     alloc: Global,
     live: &BTreeMap<u64, Row>,
     now: u64,
     most: u64,
-    consumers: &Consumers,
-    producers: &Producers,
-) -> Result<VecDeque<Act>, NoMemory>
-    ensures ends { IfOk result (λ acts. acts.items ≡ flat_map (on_link (idle_act_at now most (consumers_in consumers.now.rows consumers.now.numbers) (producers_of producers.now)) (live_in live.now)) (keys live.now)) }
+) -> Result<VecDeque<u64>, NoMemory>
+    ensures links { IfOk result (λ links. links.items ≡ flat_map (on_link (resting_at now most) (live_in live.now)) (keys live.now)) }
     ensures ordered { OnOk result (IsOrdered nat_cmp live.now) }
 {
-    let mut acts = VecDeque::new(alloc);
+    let mut links = VecDeque::new(alloc);
     for (link, row) in live {
-        let is_idle = is_idle(row, *link, now, most, consumers, producers);
-        end_idle(&mut acts, *link, is_idle)?;
+        let rests = row.rests(now, most);
+        add_resting(&mut links, *link, rests)?;
     }
-    Ok(acts)
+    Ok(links)
 }
 
-/// Nothing uses a link, and it was not got for so long.
-fn is_idle(
-    row: &Row,
-    link: u64,
-    now: u64,
-    most: u64,
-    consumers: &Consumers,
-    producers: &Producers,
-) -> bool
-    ensures { result ≡ is_idle_at now most (consumers_in consumers.now.rows consumers.now.numbers) (producers_of producers.now) link (seat_of row.now) }
+fn add_resting(links: &mut VecDeque<u64>, link: u64, rests: bool) -> Result<(), NoMemory>
+    ensures { OnOk result (links.new.items ≡ links.old.items ++ (if rests then link ∷ [] else [])) }
 {
-    let rests = row.rests(now, most);
-    let is_heard = consumers.hears_on(link);
-    let is_held = producers.holds(link);
-    is_unused(rests, is_heard, is_held)
-}
-
-fn is_unused(rests: bool, is_heard: bool, is_held: bool) -> bool
-    ensures { result ≡ ((rests && not is_heard) && not is_held) }
-{
-    rests && !is_heard && !is_held
-}
-
-/// A link that is idle ends.
-fn end_idle(acts: &mut VecDeque<Act>, link: u64, is_idle: bool) -> Result<(), NoMemory>
-    ensures { OnOk result (acts.new.items ≡ acts.old.items ++ (if is_idle then Act.Comes (Part.ToLink link (LinkAct.Ends End.Idles)) ∷ [] else [])) }
-{
-    if is_idle {
-        acts.push_back(Act::Comes(Part::ToLink {
-            link,
-            act: LinkAct::Ends(End::Idles),
-        }))?;
+    if rests {
+        links.push_back(link)?;
     }
     Ok(())
 }

@@ -13,7 +13,7 @@ ghost use Rattle.pulsar_tables.specs.Links.{after, arrival, arrives, change_in, 
 ghost use Rattle.pulsar_calls.specs.Content.{numbers_from};
 ghost use Rattle.pulsar_tables.specs.Links as links;
 ghost use Rattle.pulsar_tables.specs.LinkRules as rules_low;
-ghost use Rattle.pulsar_tables.specs.LinkRules.{answered_by, dropped, ended_places, lost_with, moved_up, tells_asker, told_at};
+ghost use Rattle.pulsar_tables.specs.LinkRules.{is_resting_at, answered_by, dropped, ended_places, lost_with, moved_up, tells_asker, told_at};
 ghost use Rattle.pulsar_tables.specs.Kept.{seat_of, settled};
 ghost use Rattle.pulsar_tables.specs.Seats.{asker_at, askers_left, got_since, is_asked, later, ping_left, place_of, room_in, seat_asked, seat_of_fresh, took};
 
@@ -175,7 +175,7 @@ impl Row {
 
     /// It is ready, and was not got for so long, and no request of it waits and no frame stands in its line.
     pub fn rests(&self, now: u64, most: u64) -> bool
-        ensures { result ≡ (is_ready self.now.connection.stage && (nat_le (later self.now.got most) now && (is_empty self.now.connection.waits.waiting && (length self.now.connection.line == 0)))) }
+        ensures { result ≡ is_resting_at now most (seat_of self.now) }
     {
         self.connection.stage() == Stage::Ready
             && self.got.saturating_add(most) <= now

@@ -8,18 +8,23 @@ ghost use Rattle.pulsar_tables.specs.Rules.{rung, stopped_with, woken};
 ghost use Rattle.pulsar_calls.specs.Order.{below, opens};
 ghost use Rattle.pulsar_agenda.specs.Run.{goes_on};
 ghost use Rattle.pulsar_agenda.specs.Agenda.{agenda_of};
-ghost use Rattle.pulsar_acts.specs.Tables.{rung_view, unset_view, view_of};
+ghost use Rattle.pulsar_consumer_table.specs.KeptConsumers.{consumers_in};
+ghost use Rattle.pulsar_producer_table.specs.KeptProducers.{producers_of};
+ghost use Rattle.pulsar_acts.specs.Tables.{unused_act, rung_view, unset_view, view_of};
 ghost use Rattle.pulsar_tables.specs.View.{after, is_to_follow};
 ghost use Rattle.pulsar_tables.specs.Seats.{later, nobody};
 
 use crate::tables::Tables;
 use crate::tables::calls::tell;
 use pulsar_agenda::agenda::Tasks;
-use pulsar_calls::act::{Act, Action, Alarm, LinkAct, Notice, Outcome, Part, Who};
+use pulsar_calls::act::{Act, Action, Alarm, End, LinkAct, Notice, Outcome, Part, Who};
+use pulsar_consumer_table::table::Consumers;
+use pulsar_producer_table::table::Producers;
 use pulsar_tables::addresses::{Addresses, Pause};
 use pulsar_tables::alarms::Alarms;
 use pulsar_wire::error::NoMemory;
 use std::alloc::Global;
+use std::collections::VecDeque;
 
 impl Tables {
     /// An alarm comes, where it rings still.
@@ -103,9 +108,8 @@ impl Tables {
         self.alarms
             .set(Alarm::CheckIdle, later(self.clock, IDLE_PERIOD))?;
         let most = self.settings.connection.connection_max_idle;
-        let acts = self
-            .links
-            .idle_acts(self.clock, most, &self.consumers, &self.producers)?;
+        let resting = self.links.resting(self.clock, most)?;
+        let acts = ends_idle(self.alloc, resting, &self.consumers, &self.producers)?;
         tasks.put_all(acts)
     }
 
@@ -200,4 +204,25 @@ pub(super) fn later(now: u64, delay: u64) -> u64
     ensures { result ≡ later now delay }
 {
     now.saturating_add(delay)
+}
+
+/// The ends of those of these links on which no subscription lives, and which no topic producer has.
+fn ends_idle(
+    alloc: Global,
+    links: VecDeque<u64>,
+    consumers: &Consumers,
+    producers: &Producers,
+) -> Result<VecDeque<Act>, NoMemory>
+    ensures { IfOk result (λ acts. acts.items ≡ flat_map (unused_act (consumers_in consumers.now.rows consumers.now.numbers) (producers_of producers.now)) links.items) }
+{
+    let mut acts = VecDeque::new(alloc);
+    for link in links {
+        if !consumers.hears_on(link) && !producers.holds(link) {
+            acts.push_back(Act::Comes(Part::ToLink {
+                link,
+                act: LinkAct::Ends(End::Idles),
+            }))?;
+        }
+    }
+    Ok(acts)
 }

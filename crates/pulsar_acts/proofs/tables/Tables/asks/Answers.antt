@@ -6,7 +6,7 @@ use Rattle.pulsar_consumer_table.specs.Consumers.{all_changed, closes, over_rows
 use Rattle.pulsar_consumer_table.specs.Notices.{word_to}
 use Rattle.pulsar_tables.specs.Reading.{tells}
 use Rattle.pulsar_calls.specs.Order.{below}
-use Rattle.pulsar_agenda.specs.Run.{Agenda}
+use Rattle.pulsar_agenda.specs.Agenda.{Agenda}
 use Rattle.pulsar_agenda.specs.Agenda.{agenda_of}
 use Rattle.pulsar_acts.specs.Tables.{view_of}
 use Rattle.pulsar_acts.proofs.tables.Tables.asks.Goals as goal

@@ -6,7 +6,7 @@ use Rattle.pulsar_calls.specs.Content.{lacks_tickets, shares}
 use Rattle.pulsar_consumer_table.specs.Consumers as consumer
 use Rattle.pulsar_producer_table.specs.Producers.{called_on}
 use Rattle.pulsar_tables.specs.Rules.{parts_of}
-use Rattle.pulsar_agenda.specs.Run.{Agenda}
+use Rattle.pulsar_agenda.specs.Agenda.{Agenda}
 use Rattle.pulsar_agenda.specs.Agenda.{agenda_of}
 use Rattle.pulsar_acts.specs.Tables.{view_of}
 use Rattle.pulsar_tables.specs.View.{View, may_call}

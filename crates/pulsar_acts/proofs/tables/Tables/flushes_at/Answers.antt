@@ -8,7 +8,7 @@ use Rattle.pulsar_producer_table.specs.KeptProducers.{producers_of}
 use Rattle.pulsar_producer_table.specs.Producers.{changed, is_woken}
 use Rattle.pulsar_tables.specs.Rules.{grants, ready_notice}
 use Rattle.pulsar_calls.specs.Order.{below}
-use Rattle.pulsar_agenda.specs.Run.{Agenda}
+use Rattle.pulsar_agenda.specs.Agenda.{Agenda}
 use Rattle.pulsar_agenda.specs.Agenda.{agenda_of}
 use Rattle.pulsar_acts.specs.Tables.{view_of}
 use Rattle.pulsar_calls.specs.Who.{turn_of}

@@ -9,7 +9,7 @@ use Rattle.pulsar_tables.specs.Kept.{live_in}
 use Rattle.pulsar_tables.specs.Rules.{breaks_at, reads_on, served_on, waiters_of}
 use Rattle.pulsar_tables.specs.LinkRules.{answered_on}
 use Rattle.pulsar_calls.specs.Order.{below, opens}
-use Rattle.pulsar_agenda.specs.Run.{Agenda}
+use Rattle.pulsar_agenda.specs.Agenda.{Agenda}
 use Rattle.pulsar_consumer_table.specs.Consumers.{all_changed, hears, over_rows}
 use Rattle.pulsar_consumer_table.specs.Notices.{heard_at}
 use Rattle.pulsar_agenda.specs.Agenda.{agenda_of}

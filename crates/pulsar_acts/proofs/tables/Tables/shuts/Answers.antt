@@ -7,7 +7,7 @@ use Rattle.pulsar_procedures.specs.Plan.{closed_notice}
 use Rattle.pulsar_producer_table.specs.Producers.{shut}
 use Rattle.pulsar_tables.specs.Rules.{grants}
 use Rattle.pulsar_calls.specs.Order.{below}
-use Rattle.pulsar_agenda.specs.Run.{Agenda}
+use Rattle.pulsar_agenda.specs.Agenda.{Agenda}
 use Rattle.pulsar_agenda.specs.Agenda.{agenda_of}
 use Rattle.pulsar_acts.specs.Tables.{view_of}
 use Rattle.pulsar_tables.specs.View.{View}

@@ -8,7 +8,7 @@ use Rattle.pulsar_producer_table.specs.Notices.{stopped_all}
 use Rattle.pulsar_consumer_table.specs.Consumers.{all_changed, stopped}
 use Rattle.pulsar_tables.specs.Reading.{stopped_on, tells}
 use Rattle.pulsar_calls.specs.declared.act.Outcome.TheVariants.{Stopped}
-use Rattle.pulsar_agenda.specs.Run.{Agenda}
+use Rattle.pulsar_agenda.specs.Agenda.{Agenda}
 use Rattle.pulsar_agenda.specs.Agenda.{agenda_of}
 use Rattle.pulsar_acts.specs.Tables.{view_of}
 use Rattle.pulsar_tables.specs.View.{View}

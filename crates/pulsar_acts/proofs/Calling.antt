@@ -7,7 +7,7 @@ use Rattle.pulsar_calls.specs.declared.act.Alarm.TheVariants.{CheckIdle}
 use Rattle.pulsar_calls.specs.declared.act.Makes.{Makes}
 use Rattle.pulsar_calls.specs.declared.act.Makes.TheVariants.{Nothing, Client, Consumer, RawConsumer, Producer}
 use Rattle.pulsar_calls.specs.declared.act.Part.TheVariants.{Calls}
-use Rattle.pulsar_tables.specs.Alarms.{set}
+use Rattle.pulsar_links.specs.Alarms.{set}
 use Rattle.pulsar_calls.specs.declared.act.Procedure.{Procedure}
 use Rattle.pulsar_calls.specs.declared.act.Procedure.TheVariants as procedure
 use Rattle.pulsar_calls.specs.declared.act.Refusal.TheVariants as refusal
@@ -20,11 +20,11 @@ use Rattle.pulsar_procedures.specs.Plan.{fails}
 use Rattle.pulsar_consumer_table.specs.Consumers as consumer
 use Rattle.pulsar_consumer_table.specs.Consumers.{Consumers}
 use Rattle.pulsar_producer_table.specs.Producers.{Producers, called_on, opened_on, why_not}
-use Rattle.pulsar_tables.specs.Rules.{parts_of, procedure_for, shares_unless, starts, unless_refused}
-use Rattle.pulsar_agenda.specs.Run.{goes_on}
+use Rattle.pulsar_acts.specs.Rules.{parts_of, procedure_for, shares_unless, starts, unless_refused}
+use Rattle.pulsar_acts.specs.Run.{goes_on}
 use Rattle.pulsar_agenda.specs.Agenda.{Agenda}
-use Rattle.pulsar_tables.specs.View.{Chosen, Tickets, View, after, alarms_built, builds, idle_period, may_call}
-use Rattle.pulsar_tables.specs.Seats.{later}
+use Rattle.pulsar_acts.specs.View.{Chosen, Tickets, View, after, alarms_built, builds, idle_period, may_call}
+use Rattle.pulsar_links.specs.Seats.{later}
 
 -- TICKETS
 

@@ -6,10 +6,10 @@ use Rattle.pulsar_addresses.specs.Address.{Place, address_key, is_reachable}
 use Rattle.pulsar_calls.specs.declared.act.Act.TheVariants.{Does}
 use Rattle.pulsar_calls.specs.declared.act.Action.TheVariants.{Get}
 use Rattle.pulsar_calls.specs.declared.act.Who.{Who}
-use Rattle.pulsar_tables.specs.declared.addresses.Series.{Series}
-use Rattle.pulsar_tables.specs.declared.addresses.Series.TheVariants.{Serves}
-use Rattle.pulsar_tables.specs.View.{View, after, serving, waits_for}
-use Rattle.pulsar_tables.specs.Seats.{Base, base_waiting, got_at}
+use Rattle.pulsar_links.specs.declared.addresses.Series.{Series}
+use Rattle.pulsar_links.specs.declared.addresses.Series.TheVariants.{Serves}
+use Rattle.pulsar_acts.specs.View.{View, after, serving, waits_for}
+use Rattle.pulsar_links.specs.Seats.{Base, base_waiting, got_at}
 
 -- waits where none serves yet
 abbrev pub serves : Series → Bool

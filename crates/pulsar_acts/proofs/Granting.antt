@@ -10,7 +10,7 @@ use Rattle.pulsar_calls.specs.declared.act.Act.{Act}
 use Rattle.pulsar_calls.specs.declared.act.Who.{Who}
 use Rattle.pulsar_producer_table.specs.declared.table.Topic.{Topic}
 use Rattle.pulsar_producer_table.specs.Producers.{Producers, changed, topic_after, turn_taken}
-use Rattle.pulsar_tables.specs.Rules.{grants, takes_turn, tells_lost}
+use Rattle.pulsar_acts.specs.Rules.{grants, takes_turn, tells_lost}
 use Rattle.pulsar_agenda.specs.Agenda.{Agenda}
 
 -- what comes at once stands in front

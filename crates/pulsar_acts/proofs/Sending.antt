@@ -21,9 +21,9 @@ use Rattle.pulsar_calls.specs.declared.act.Who.TheVariants.{Call}
 use Rattle.pulsar_calls.specs.Content.{SendAll}
 use Rattle.pulsar_producer_table.specs.Producers.{Producers, all_routed, batches_in, routed, sent_on, why_not}
 use Rattle.pulsar_calls.specs.Content.{next_advice}
-use Rattle.pulsar_tables.specs.Reading.{unless}
-use Rattle.pulsar_tables.specs.Rules.{parts_of, sends_as, sends_by, sends_with, share, shares_of, shares_unless}
-use Rattle.pulsar_tables.specs.View.{Chosen, View, may_call}
+use Rattle.pulsar_acts.specs.Reading.{unless}
+use Rattle.pulsar_acts.specs.Rules.{parts_of, sends_as, sends_by, sends_with, share, shares_of, shares_unless}
+use Rattle.pulsar_acts.specs.View.{Chosen, View, may_call}
 
 -- REFUSED OR MADE
 

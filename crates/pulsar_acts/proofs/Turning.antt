@@ -9,14 +9,14 @@ use Rattle.pulsar_calls.specs.declared.act.Arrival.{Arrival}
 use Rattle.pulsar_calls.specs.declared.act.End.{End}
 use Rattle.pulsar_calls.specs.declared.act.LinkAct.{LinkAct}
 use Rattle.pulsar_calls.specs.declared.act.LinkAct.TheVariants.{Opens, Reads, Drains, Pings, Ends}
-use Rattle.pulsar_tables.specs.declared.addresses.Pause.{Pause}
-use Rattle.pulsar_tables.specs.Effects.{retries, retries_on}
-use Rattle.pulsar_tables.specs.Links.{Remains, IsOver, change_at, change_in}
-use Rattle.pulsar_tables.specs.Rules.{failed_on, waiters_of}
-use Rattle.pulsar_tables.specs.LinkRules.{ended_on}
+use Rattle.pulsar_links.specs.declared.addresses.Pause.{Pause}
+use Rattle.pulsar_acts.specs.Effects.{retries, retries_on}
+use Rattle.pulsar_links.specs.Links.{Remains, IsOver, change_at, change_in}
+use Rattle.pulsar_acts.specs.Rules.{failed_on, waiters_of}
+use Rattle.pulsar_links.specs.LinkRules.{ended_on}
 use Rattle.pulsar_acts.specs.Tables.{welcomed}
-use Rattle.pulsar_tables.specs.View.{Chosen, Turned, alarms_on, base_on, pause_of, pause_on, pause_for, turned_by}
-use Rattle.pulsar_tables.specs.Seats.{Addresses, Base, Seat, arrival_at, base_turned, closing, took_some}
+use Rattle.pulsar_acts.specs.View.{Chosen, Turned, alarms_on, base_on, pause_of, pause_on, pause_for, turned_by}
+use Rattle.pulsar_links.specs.Seats.{Addresses, Base, Seat, arrival_at, base_turned, closing, took_some}
 
 -- NOTHING IS TURNED
 

@@ -5,7 +5,7 @@ ghost use Rattle.std.specs.Option.{option_map};
 ghost use Rattle.pulsar_messages.specs.Content.{authentication_values};
 ghost use Rattle.pulsar_session.specs.Link.{fresh};
 ghost use Rattle.pulsar_acts.specs.Tables.{chosen_of};
-ghost use Rattle.pulsar_tables.specs.View.{delay_with, setup, ways_of};
+ghost use Rattle.pulsar_acts.specs.View.{delay_with, setup, ways_of};
 
 use pulsar_messages::Authentication;
 use pulsar_addresses::content::Address;

@@ -1,3 +1,4 @@
 pub mod Lists
 pub mod Counted
 pub mod Parting
+pub mod Places

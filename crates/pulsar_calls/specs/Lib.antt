@@ -4,3 +4,4 @@ pub mod Parts
 pub mod Notices
 pub mod News
 pub mod Order
+pub mod Places

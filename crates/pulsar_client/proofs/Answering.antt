@@ -6,7 +6,7 @@ use Rattle.pulsar_wire.specs.declared.error.Error.{Error}
 use Rattle.pulsar_wire.specs.Failures.{failure}
 use Rattle.pulsar_outgoing.specs.Errors.{IsNoMemory}
 use Rattle.pulsar_calls.specs.Content.{Said, Shown}
-use Rattle.pulsar_agenda.specs.Run.{Step}
+use Rattle.pulsar_acts.specs.Run.{Step}
 use Rattle.pulsar_client.specs.Taken.{Held, IsPolled, IsSaid, IsUnsaid, ended_in, held_but, is_lost, left_after, poll_said, polled, polled_answer}
 
 -- one more effect

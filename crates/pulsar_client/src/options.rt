@@ -8,7 +8,7 @@ use pulsar_acts::settings::{Settings, copy_auth};
 use pulsar_messages::Authentication;
 use pulsar_addresses::options::{ConnectionRetryOptions, OperationRetryOptions};
 use pulsar_producer::CustomRoutingPolicy;
-use pulsar_tables::address::base_in;
+use pulsar_links::address::base_in;
 use pulsar_wire::error::NoMemory;
 use std::alloc::Global;
 

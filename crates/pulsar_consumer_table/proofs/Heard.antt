@@ -22,11 +22,11 @@ use Rattle.pulsar_consumer.specs.Topic as topic
 use Rattle.pulsar_consumer.specs.Topic.{Hears, Ends, Loses, is_due as is_flow_due, lives_on, resubscribes}
 use Rattle.pulsar_incoming.specs.declared.polled.Ending.TheVariants.{Closed, TopicEnded}
 use Rattle.pulsar_consumer_table.specs.Consumers.{Consumers, Member, all_changed, at_row, closes, ends_on, hears, hears_frame, lives_at, lives_with, member_after, word_if, word_of_close, word_of_frame}
-use Rattle.pulsar_consumer_table.specs.KeptConsumers.{is_listed}
+use Rattle.pulsar_calls.specs.Places.{is_listed}
 use Rattle.pulsar_calls.specs.Notices.{notice}
 use Rattle.pulsar_consumer_table.specs.Notices.{heard_at, word_to}
 use Rattle.pulsar_consumer_table.proofs.Numbered.{frame_number}
-use Rattle.pulsar_consumer_table.proofs.Places.{by_keys}
+use Rattle.pulsar_calls.proofs.Places.{by_keys}
 
 -- TWO LISTS OF TICKETS
 

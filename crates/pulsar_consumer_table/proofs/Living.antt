@@ -16,11 +16,12 @@ use Rattle.pulsar_incoming.specs.declared.polled.Ending.{Ending}
 use Rattle.pulsar_incoming.specs.declared.polled.Ending.TheVariants.{LinkLost, TopicEnded}
 use Rattle.pulsar_consumer_table.specs.declared.row.ConsumerRow.{ConsumerRow}
 use Rattle.pulsar_consumer_table.specs.Consumers.{Member, ends_on, hears_frame, link_at, lives_at, lives_with, member_after, stopped}
-use Rattle.pulsar_consumer_table.specs.KeptConsumers.{AreHeard, is_listed, listed_at, rows_in, tickets_of}
+use Rattle.pulsar_consumer_table.specs.KeptConsumers.{AreHeard, listed_at, rows_in, tickets_of}
+use Rattle.pulsar_calls.specs.Places.{is_listed}
 use Rattle.pulsar_consumer_table.proofs.Finding.{both, found_any, keyed, there_is}
 use Rattle.pulsar_consumer_table.proofs.Heard.{filtered}
 use Rattle.pulsar_consumer_table.proofs.Placed.{Holds}
-use Rattle.pulsar_consumer_table.proofs.Places.{swapped}
+use Rattle.pulsar_calls.proofs.Places.{swapped}
 
 -- AN ENGINE KEEPS ITS LINK as it goes on: what becomes of a subscription stays on its link
 

@@ -12,7 +12,7 @@ use Rattle.pulsar_incoming.specs.declared.polled.Ending.TheVariants.{Stopped, To
 use Rattle.pulsar_consumer_table.specs.Consumers.{Member, ends_on, hears_frame, lives_with, member_after, number_at, stopped}
 use Rattle.pulsar_consumer_table.specs.KeptConsumers.{is_known, known_at}
 use Rattle.pulsar_consumer_table.proofs.Placed.{Holds}
-use Rattle.pulsar_consumer_table.proofs.Places.{swapped}
+use Rattle.pulsar_calls.proofs.Places.{swapped}
 
 -- AN ENGINE WITHOUT A SUBSCRIPTION has none as it goes on
 

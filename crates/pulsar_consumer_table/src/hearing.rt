@@ -11,7 +11,8 @@ ghost use Rattle.pulsar_incoming.specs.declared.polled.Ending.{Ending};
 ghost use Rattle.pulsar_consumer.specs.Topic.{Asks, Ends, Loses, Polls, is_on, resubscribes};
 ghost use Rattle.pulsar_consumer_table.specs.Consumers as meaning;
 ghost use Rattle.pulsar_consumer_table.specs.Consumers.{at_row, flow_at, hears_frame, lives_at, member_after, polled, sought, word_if, word_of_frame};
-ghost use Rattle.pulsar_consumer_table.specs.KeptConsumers.{Drops, Moves, is_known, is_listed, known_at, listed_at, member_in, one_changed, rows_in, some_changed};
+ghost use Rattle.pulsar_consumer_table.specs.KeptConsumers.{Drops, Moves, is_known, known_at, listed_at, member_in, one_changed, rows_in, some_changed};
+ghost use Rattle.pulsar_calls.specs.Places.{is_listed};
 ghost use Rattle.pulsar_calls.specs.Notices.{stopped_one};
 ghost use Rattle.pulsar_consumer_table.specs.Notices.{again, again_at, due_at, polled_due, revived_at, stopped_seekers, word_to};
 

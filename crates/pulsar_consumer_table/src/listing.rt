@@ -2,7 +2,8 @@
 
 ghost use Rattle.std.specs.Prelude.{◌≡◌, ◌==◌, ◌&&◌, ◌||◌, not, ℕ, OnOk};
 ghost use Rattle.std.specs.Option.{option_copied};
-ghost use Rattle.pulsar_consumer_table.specs.KeptConsumers.{is_listed, listed_at, tickets_of};
+ghost use Rattle.pulsar_consumer_table.specs.KeptConsumers.{listed_at, tickets_of};
+ghost use Rattle.pulsar_calls.specs.Places.{is_listed};
 
 use pulsar_wire::error::NoMemory;
 use std::alloc::Global;

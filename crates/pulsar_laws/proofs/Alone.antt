@@ -20,12 +20,12 @@ use Rattle.pulsar_calls.specs.declared.act.Who.{Who}
 use Rattle.pulsar_addresses.specs.Address.{Place}
 use Rattle.pulsar_calls.specs.Content.{Heard, Bytes}
 use Rattle.pulsar_laws.specs.Laws.{LinksAlone, call_at, calls_of, dialed_with}
-use Rattle.pulsar_tables.specs.Links.{call_of, called, closed_by}
-use Rattle.pulsar_agenda.specs.Run.{Entry, Begins, Then, view}
-use Rattle.pulsar_tables.specs.View.{Chosen, Options, begun_live, dialed, is_at, is_live, link_got, live_begun, setup}
-use Rattle.pulsar_tables.specs.Seats.{Seat, got_at, seat_asked, seat_fed, seat_got, took, took_end, took_some}
+use Rattle.pulsar_links.specs.Links.{call_of, called, closed_by}
+use Rattle.pulsar_acts.specs.Run.{Entry, Begins, Then, view}
+use Rattle.pulsar_acts.specs.View.{Chosen, Options, begun_live, dialed, is_at, is_live, link_got, live_begun, setup}
+use Rattle.pulsar_links.specs.Seats.{Seat, got_at, seat_asked, seat_fed, seat_got, took, took_end, took_some}
 use Rattle.pulsar_session.specs.Link as session
-use Rattle.pulsar_agenda.proofs.Acts.{chosen_same}
+use Rattle.pulsar_client.proofs.Acts.{chosen_same}
 
 pub some_is : {A : Type 0} {x y : A} → Some x ≡ Some y → x ≡ y
 some_is {A} {x} {y} h = cc

@@ -16,20 +16,20 @@ use Rattle.pulsar_calls.specs.declared.act.Notice.{Notice}
 use Rattle.pulsar_calls.specs.declared.act.Part.{Part}
 use Rattle.pulsar_calls.specs.declared.act.Part.TheVariants.{ToLink, Rings}
 use Rattle.pulsar_calls.specs.declared.act.Who.{Who}
-use Rattle.pulsar_tables.specs.declared.addresses.Pause.{Pause}
-use Rattle.pulsar_tables.specs.declared.addresses.Series.{Series}
-use Rattle.pulsar_tables.specs.declared.addresses.Series.TheVariants.{Nobody, Runs, Pauses, Serves}
-use Rattle.pulsar_tables.specs.Alarms.{rings}
+use Rattle.pulsar_links.specs.declared.addresses.Pause.{Pause}
+use Rattle.pulsar_links.specs.declared.addresses.Series.{Series}
+use Rattle.pulsar_links.specs.declared.addresses.Series.TheVariants.{Nobody, Runs, Pauses, Serves}
+use Rattle.pulsar_links.specs.Alarms.{rings}
 use Rattle.pulsar_laws.specs.Laws.{base_of}
 use Rattle.pulsar_laws.specs.AddressLaws.{AttemptsFollow, Begun, Followed}
-use Rattle.pulsar_tables.specs.Links.{Change, IsOver}
-use Rattle.pulsar_tables.specs.Rules.{at_once, gets_from, tells, tries_again}
-use Rattle.pulsar_agenda.specs.Run.{Entry, Begins, Then, agenda, view}
-use Rattle.pulsar_tables.specs.View.{Chosen, Options, Turned, View, pause_after, pause_for, pause_of, pause_on, pause_rung, turned_by}
-use Rattle.pulsar_tables.specs.Seats.{Seat, is_retryable, pause_put}
+use Rattle.pulsar_links.specs.Links.{Change, IsOver}
+use Rattle.pulsar_acts.specs.Rules.{at_once, gets_from, tells, tries_again}
+use Rattle.pulsar_acts.specs.Run.{Entry, Begins, Then, agenda, view}
+use Rattle.pulsar_acts.specs.View.{Chosen, Options, Turned, View, pause_after, pause_for, pause_of, pause_on, pause_rung, turned_by}
+use Rattle.pulsar_links.specs.Seats.{Seat, is_retryable, pause_put}
 use Rattle.pulsar_calls.specs.declared.act.Outcome.TheVariants as outcome
-use Rattle.pulsar_agenda.proofs.Acts.{Each, begun_same, chosen_same, each_append, each_drop, each_map, first_case}
-use Rattle.pulsar_agenda.proofs.Raising.{IsRaised, OfAttempt, may, raises}
+use Rattle.pulsar_client.proofs.Acts.{Each, begun_same, chosen_same, each_append, each_drop, each_map, first_case}
+use Rattle.pulsar_client.proofs.Raising.{IsRaised, OfAttempt, may, raises}
 
 -- WHAT IS NO ATTEMPT
 

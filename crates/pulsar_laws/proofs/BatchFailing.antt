@@ -36,10 +36,10 @@ use Rattle.pulsar_procedures.specs.declared.plan.Turn.TheVariants.{Stays, Gives}
 use Rattle.pulsar_calls.specs.Content.{Heard as Event}
 use Rattle.pulsar_procedures.specs.Plan.{begins, news_of, told}
 use Rattle.pulsar_calls.specs.Who.{is_same}
-use Rattle.pulsar_tables.specs.Rules.{notice}
-use Rattle.pulsar_agenda.specs.Run.{Entry, Begins, Then, IsRun, view}
-use Rattle.pulsar_tables.specs.View.{Options, View, stays, stays_some, told_some}
-use Rattle.pulsar_agenda.proofs.Acts.{begun_same}
+use Rattle.pulsar_acts.specs.Rules.{notice}
+use Rattle.pulsar_acts.specs.Run.{Entry, Begins, Then, IsRun, view}
+use Rattle.pulsar_acts.specs.View.{Options, View, stays, stays_some, told_some}
+use Rattle.pulsar_client.proofs.Acts.{begun_same}
 use Rattle.pulsar_laws.specs.BatchLaws.{told_since}
 use Rattle.pulsar_laws.specs.Laws.{FailsSo, IsAnswered, IsDenied, IsInProducer, IsPartial, IsRefused, IsRefusedShare, IsSettled, IsTold, IsTurned, IsUnexpected, IsUnexpectedInProducer, has_failed, IsInUse, IsOfSeveral, IsClosed}
 use Rattle.pulsar_laws.proofs.Batched.{BatchSo, IsSending, batch_goes}

@@ -44,11 +44,11 @@ use Rattle.pulsar_laws.specs.BatchLaws.{FramesOfBatches, under_way}
 use Rattle.pulsar_procedures.specs.Plan.{action_of, begins, news_of, told}
 use Rattle.pulsar_producer_table.specs.Producers.{topic_after}
 use Rattle.pulsar_laws.specs.ProducerLaws.{HasTurn}
-use Rattle.pulsar_tables.specs.Rules.{notice}
-use Rattle.pulsar_agenda.specs.Run.{Entry, Begins, Then, IsRun, view}
-use Rattle.pulsar_tables.specs.View.{Options, draws_on, room_of, stays, stays_some, told_some}
+use Rattle.pulsar_acts.specs.Rules.{notice}
+use Rattle.pulsar_acts.specs.Run.{Entry, Begins, Then, IsRun, view}
+use Rattle.pulsar_acts.specs.View.{Options, draws_on, room_of, stays, stays_some, told_some}
 use Rattle.pulsar_calls.specs.Who.{is_same}
-use Rattle.pulsar_agenda.proofs.Acts.{begun_same}
+use Rattle.pulsar_client.proofs.Acts.{begun_same}
 use Rattle.pulsar_laws.proofs.Batched.{BatchSo, GoesOn, IsSending, StepTo, batch_goes}
 use Rattle.pulsar_laws.proofs.BatchRun.{AtDeed, Batched, PromptSo, StandsSo, batched_run, calm_at, deed_at, row_then, settles_all, some_batch, under_kept, was_done}
 use Rattle.pulsar_laws.proofs.Drawing.{Every, here}

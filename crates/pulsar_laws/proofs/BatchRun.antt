@@ -34,12 +34,12 @@ use Rattle.pulsar_laws.specs.BatchLaws.{BatchesOneByOne, MayTake, under_way}
 use Rattle.pulsar_calls.specs.Content.{Heard}
 use Rattle.pulsar_procedures.specs.Plan.{begins, overrides, told, told_to}
 use Rattle.pulsar_producer_table.specs.Producers.{next_batch_at}
-use Rattle.pulsar_tables.specs.Rules.{at_once, does, follows, follows_some, notice, performs}
-use Rattle.pulsar_agenda.specs.Run.{Entry, Begins, Then, IsRun, agenda, view}
+use Rattle.pulsar_acts.specs.Rules.{at_once, does, follows, follows_some, notice, performs}
+use Rattle.pulsar_acts.specs.Run.{Entry, Begins, Then, IsRun, agenda, view}
 use Rattle.pulsar_agenda.specs.Agenda.{first, first_of}
-use Rattle.pulsar_tables.specs.View.{Options, View, stays, stays_some, told_some}
+use Rattle.pulsar_acts.specs.View.{Options, View, stays, stays_some, told_some}
 use Rattle.pulsar_calls.specs.Who.{is_same}
-use Rattle.pulsar_agenda.proofs.Acts.{begun_same}
+use Rattle.pulsar_client.proofs.Acts.{begun_same}
 use Rattle.pulsar_laws.proofs.Batched.{BatchSo, IsRested, IsSending, IsSettling, IsTaking, StepTo, batch_goes, is_batch, takes_where, tells_where}
 use Rattle.pulsar_laws.proofs.Drawing.{Every, here}
 use Rattle.pulsar_laws.proofs.Follow.{same_is}

@@ -21,15 +21,15 @@ use Rattle.pulsar_procedures.specs.declared.plan.Plan.TheVariants.{Batching}
 use Rattle.pulsar_procedures.specs.declared.plan.Turn.{Turn}
 use Rattle.pulsar_procedures.specs.declared.plan.Turn.TheVariants.{Stays, Gives}
 use Rattle.pulsar_procedures.specs.Plan.{action_of, begins, news_of, overrides, told}
-use Rattle.pulsar_tables.specs.Rules.{at_once}
-use Rattle.pulsar_agenda.specs.Run.{Entry, Begins, Then, IsRun, agenda, view}
+use Rattle.pulsar_acts.specs.Rules.{at_once}
+use Rattle.pulsar_acts.specs.Run.{Entry, Begins, Then, IsRun, agenda, view}
 use Rattle.pulsar_agenda.specs.Agenda.{first}
-use Rattle.pulsar_tables.specs.View.{Options, View, stand_after, stays, stays_some, told_some, ways_of}
+use Rattle.pulsar_acts.specs.View.{Options, View, stand_after, stays, stays_some, told_some, ways_of}
 use Rattle.pulsar_calls.specs.Who.{is_same}
-use Rattle.pulsar_agenda.proofs.Acts.{Each, begun_same, each_append, each_first, each_map, each_rest, is_served}
+use Rattle.pulsar_client.proofs.Acts.{Each, begun_same, each_append, each_first, each_map, each_rest, is_served}
 use Rattle.pulsar_laws.proofs.Granted.{BeginsSo, IsLedSo, does_from}
 use Rattle.pulsar_laws.proofs.Left.{left_each}
-use Rattle.pulsar_agenda.proofs.Raising.{IsRaised, raises}
+use Rattle.pulsar_client.proofs.Raising.{IsRaised, raises}
 
 abbrev is_batch : Procedure → Bool
 is_batch (procedure.Batch ways errand) = true

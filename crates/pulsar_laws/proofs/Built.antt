@@ -3,9 +3,9 @@ use Rattle.std.proofs.Common.{◌∙◌, ap, [], ◌∷◌, refl}
 use Rattle.pulsar_calls.specs.declared.act.Act.TheVariants.{Does, Answers}
 use Rattle.pulsar_calls.specs.declared.act.Action.TheVariants.{StopAll}
 use Rattle.pulsar_laws.specs.Laws.{BuiltIs, StoppedIs}
-use Rattle.pulsar_agenda.specs.Run.{Begins, Then, view}
-use Rattle.pulsar_tables.specs.View.{builds}
-use Rattle.pulsar_agenda.proofs.Acts.{begun_same}
+use Rattle.pulsar_acts.specs.Run.{Begins, Then, view}
+use Rattle.pulsar_acts.specs.View.{builds}
+use Rattle.pulsar_client.proofs.Acts.{begun_same}
 
 pub built_is_lem : BuiltIs
 built_is_lem o [] = refl

@@ -27,21 +27,21 @@ use Rattle.pulsar_calls.specs.declared.act.Outcome.{Outcome}
 use Rattle.pulsar_calls.specs.declared.act.Part.{Part}
 use Rattle.pulsar_calls.specs.declared.act.Part.TheVariants.{ToLink, Rings, Polls}
 use Rattle.pulsar_calls.specs.declared.act.Who.{Who}
-use Rattle.pulsar_tables.specs.declared.addresses.Pause.{Pause}
-use Rattle.pulsar_tables.specs.declared.addresses.Series.{Series}
-use Rattle.pulsar_tables.specs.declared.addresses.Series.TheVariants.{Nobody, Runs, Pauses, Serves}
+use Rattle.pulsar_links.specs.declared.addresses.Pause.{Pause}
+use Rattle.pulsar_links.specs.declared.addresses.Series.{Series}
+use Rattle.pulsar_links.specs.declared.addresses.Series.TheVariants.{Nobody, Runs, Pauses, Serves}
 use Rattle.pulsar_addresses.specs.Address.{Place, address_key, is_reachable}
-use Rattle.pulsar_tables.specs.Alarms.{rings}
+use Rattle.pulsar_links.specs.Alarms.{rings}
 use Rattle.pulsar_laws.specs.Laws.{AttemptEnds, Cause, CutsSo, OutcomesAreCaused, LineEnds, RequestEnds, base_of, IsToldBy, GrantsSo, BuiltDue, PolledDue, RevivedDue, SaysSo}
-use Rattle.pulsar_tables.specs.Links.{arrival, change_at, change_in, closed_by, line_places, new_places, times_out}
+use Rattle.pulsar_links.specs.Links.{arrival, change_at, change_in, closed_by, line_places, new_places, times_out}
 use Rattle.pulsar_procedures.specs.Plan.{closed_notice}
-use Rattle.pulsar_tables.specs.Rules.{at_once, caused, causes, failed_by, failed_on, further, gets_from, notice, parts, served_on, stopped_with, tells, waiters_of, woken, draw_outcome, draw_said, finds, grants, joins, number_said, readied, ready_notice, recalls, stopped_one, takes_turn, turn_notice}
-use Rattle.pulsar_tables.specs.LinkRules.{answered_by, answered_on, dropped, ended_by, ended_on, failed, failed_over, failed_so, fails_so, lost, lost_so, lost_with, moved_on, over_links, served_by, stop_act, stopped_at, tells_asker, told_at}
+use Rattle.pulsar_acts.specs.Rules.{at_once, caused, causes, failed_by, failed_on, further, gets_from, notice, parts, served_on, stopped_with, tells, waiters_of, woken, draw_outcome, draw_said, finds, grants, joins, number_said, readied, ready_notice, recalls, stopped_one, takes_turn, turn_notice}
+use Rattle.pulsar_links.specs.LinkRules.{answered_by, answered_on, dropped, ended_by, ended_on, failed, failed_over, failed_so, fails_so, lost, lost_so, lost_with, moved_on, over_links, served_by, stop_act, stopped_at, tells_asker, told_at}
 use Rattle.pulsar_calls.specs.Order.{opens}
 use Rattle.pulsar_producer_table.specs.Notices.{stopped_call}
-use Rattle.pulsar_agenda.specs.Run.{Entry, Begins, Then, rules, view, IsRun}
-use Rattle.pulsar_tables.specs.View.{Options, View, pause_for, pause_of, turned_by, room_of, member_on, setup_of}
-use Rattle.pulsar_tables.specs.Seats.{Addresses, Seat, answer_at, arrival_at, closing, is_asked, url_at}
+use Rattle.pulsar_acts.specs.Run.{Entry, Begins, Then, rules, view, IsRun}
+use Rattle.pulsar_acts.specs.View.{Options, View, pause_for, pause_of, turned_by, room_of, member_on, setup_of}
+use Rattle.pulsar_links.specs.Seats.{Addresses, Seat, answer_at, arrival_at, closing, is_asked, url_at}
 use Rattle.pulsar_calls.specs.Who.{in_turn, is_same, turn_of, ticket_of}
 use Rattle.pulsar_producer.specs.Topic as topic
 use Rattle.pulsar_plans.specs.declared.making.Command.{Command}
@@ -52,10 +52,10 @@ use Rattle.pulsar_wire.specs.declared.error.IoKind.TheVariants as io_kind
 use Rattle.pulsar_session.specs.declared.states.Asked.TheVariants as placed
 use Rattle.pulsar_session.specs.Link as session
 use Rattle.pulsar_calls.specs.declared.act.Outcome.TheVariants as outcome
-use Rattle.pulsar_tables.specs.Links as links
+use Rattle.pulsar_links.specs.Links as links
 use Rattle.pulsar_outgoing.specs.declared.news.News.TheVariants as news
-use Rattle.pulsar_agenda.proofs.Acts.{Each, chosen_same, over_each}
-use Rattle.pulsar_agenda.proofs.Raising.{IsRaised, may, raises, OfNotice}
+use Rattle.pulsar_client.proofs.Acts.{Each, chosen_same, over_each}
+use Rattle.pulsar_client.proofs.Raising.{IsRaised, may, raises, OfNotice}
 use Rattle.pulsar_laws.proofs.Fitting.{is_said, is_settling}
 use Rattle.pulsar_laws.proofs.Granted.{tell_said, tell_settling}
 use Rattle.pulsar_calls.specs.declared.act.Word.{Word}
@@ -67,7 +67,7 @@ use Rattle.pulsar_consumer.specs.Commands.{command_of}
 use Rattle.pulsar_link.specs.Request.{closed_consumer}
 use Rattle.pulsar_consumer_table.specs.Consumers.{Member, over_rows}
 use Rattle.pulsar_consumer_table.specs.Notices.{again, again_at, due_at, due_to, heard_at, lost_at, stopped_seekers, word_to}
-use Rattle.pulsar_tables.specs.Reading.{closed_at, flow_said, heard_on, lost_on, made_due, numbering_said, recalled_said, revived_said, sought_said, stopped_on, tells_word}
+use Rattle.pulsar_acts.specs.Reading.{closed_at, flow_said, heard_on, lost_on, made_due, numbering_said, recalled_said, revived_said, sought_said, stopped_on, tells_word}
 use Rattle.pulsar_consumer_table.specs.declared.numbers.Numbering.{Numbering}
 use Rattle.pulsar_consumer_table.specs.declared.numbers.Numbering.TheVariants.{Has, InUse, Spent}
 use Rattle.pulsar_consumer_table.specs.declared.row.Sought.{Sought}

@@ -6,12 +6,12 @@ use Rattle.pulsar_calls.specs.declared.act.Act.TheVariants.{Told}
 use Rattle.pulsar_calls.specs.declared.act.Notice.{Notice}
 use Rattle.pulsar_calls.specs.declared.act.Outcome.{Outcome}
 use Rattle.pulsar_calls.specs.declared.act.Who.{Who}
-use Rattle.pulsar_tables.specs.Rules.{notice}
-use Rattle.pulsar_tables.specs.LinkRules.{tells_asker}
+use Rattle.pulsar_acts.specs.Rules.{notice}
+use Rattle.pulsar_links.specs.LinkRules.{tells_asker}
 use Rattle.pulsar_calls.specs.Order.{alone, opens}
-use Rattle.pulsar_agenda.specs.Run.{Entry, Begins, Then, IsRun}
-use Rattle.pulsar_tables.specs.View.{Options}
-use Rattle.pulsar_agenda.proofs.Acts.{Each}
+use Rattle.pulsar_acts.specs.Run.{Entry, Begins, Then, IsRun}
+use Rattle.pulsar_acts.specs.View.{Options}
+use Rattle.pulsar_client.proofs.Acts.{Each}
 
 -- LISTS
 

@@ -23,8 +23,8 @@ use Rattle.pulsar_messages.specs.Claims.{claim}
 use Rattle.pulsar_session.specs.Link as session
 use Rattle.pulsar_link.specs.Request.{is_awaited}
 use Rattle.pulsar_calls.specs.declared.act.Who.{Who}
-use Rattle.pulsar_tables.specs.Seats.{asker_at, place_of}
-use Rattle.pulsar_agenda.proofs.Acts.{Each, each_append, each_map}
+use Rattle.pulsar_links.specs.Seats.{asker_at, place_of}
+use Rattle.pulsar_client.proofs.Acts.{Each, each_append, each_map}
 
 none_some : {A : Type 0} {x : A} → None ≡ Some x → ⊥
 none_some {A} {x} h = cc

@@ -11,9 +11,9 @@ use Rattle.pulsar_producer_table.specs.declared.table.Topic.{Topic}
 use Rattle.pulsar_laws.specs.BatchLaws.{ClosedWithTheProducer}
 use Rattle.pulsar_procedures.specs.Plan.{closed_notice}
 use Rattle.pulsar_producer_table.specs.Producers.{Producers, changed, is_bare, numbers_at, shut_all, stored_at, stored_by, topic_after}
-use Rattle.pulsar_tables.specs.Rules.{joins}
-use Rattle.pulsar_agenda.specs.Run.{Then, view}
-use Rattle.pulsar_tables.specs.View.{View}
+use Rattle.pulsar_acts.specs.Rules.{joins}
+use Rattle.pulsar_acts.specs.Run.{Then, view}
+use Rattle.pulsar_acts.specs.View.{View}
 use Rattle.pulsar_laws.proofs.Done.{all_is_done_lem}
 
 -- WHAT IS STORED is emptied, and stays so

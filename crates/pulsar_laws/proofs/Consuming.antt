@@ -37,11 +37,11 @@ use Rattle.pulsar_calls.specs.declared.act.Refusal.{Refusal}
 use Rattle.pulsar_incoming.specs.declared.naming.Ordered.{Ordered}
 use Rattle.pulsar_incoming.specs.Naming.{order_of}
 use Rattle.pulsar_calls.specs.Content.{Asked, Done}
-use Rattle.pulsar_tables.specs.Reading.{unless, subscribes_by, subscribes as begin_subscribes, acknowledges as begin_acknowledges, leaves as begin_leaves}
+use Rattle.pulsar_acts.specs.Reading.{unless, subscribes_by, subscribes as begin_subscribes, acknowledges as begin_acknowledges, leaves as begin_leaves}
 use Rattle.pulsar_consumer_table.specs.Consumers.{Consumers, why_not}
 use Rattle.pulsar_producer_table.specs.Producers.{Producers}
-use Rattle.pulsar_tables.specs.Rules.{procedure_for, unless_refused}
-use Rattle.pulsar_tables.specs.View.{Chosen, Tickets, may_call, ways_of}
+use Rattle.pulsar_acts.specs.Rules.{procedure_for, unless_refused}
+use Rattle.pulsar_acts.specs.View.{Chosen, Tickets, may_call, ways_of}
 use Rattle.pulsar_calls.specs.Content as content
 use Rattle.pulsar_incoming.specs.declared.naming.Ordered.TheVariants as ordered
 use Rattle.pulsar_calls.specs.declared.act.Makes.TheVariants.{Nothing}

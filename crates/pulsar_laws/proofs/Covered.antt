@@ -23,10 +23,10 @@ use Rattle.pulsar_calls.specs.declared.act.Who.TheVariants.{Consumer}
 use Rattle.pulsar_calls.specs.declared.act.Word.TheVariants as word
 use Rattle.pulsar_calls.specs.Who.{ticket_of}
 use Rattle.pulsar_consumer_table.specs.Consumers.{Member, is_closed_by}
-use Rattle.pulsar_tables.specs.Rules.{notice}
-use Rattle.pulsar_tables.specs.View.{Options, View}
-use Rattle.pulsar_tables.specs.Seats.{Seat, answer_at, arrival_at, closing, is_asked, place_of, url_at}
-use Rattle.pulsar_agenda.specs.Run.{Entry, Begins, Then, IsRun, view}
+use Rattle.pulsar_acts.specs.Rules.{notice}
+use Rattle.pulsar_acts.specs.View.{Options, View}
+use Rattle.pulsar_links.specs.Seats.{Seat, answer_at, arrival_at, closing, is_asked, place_of, url_at}
+use Rattle.pulsar_acts.specs.Run.{Entry, Begins, Then, IsRun, view}
 use Rattle.pulsar_laws.proofs.Ticketed.{consumer_ticket}
 use Rattle.pulsar_laws.specs.ConsumerLaws.{Flow, arrival_does, does_to, done_since, done_to, flows_after, flows_since, frame_does, loss_does, made_with, permits_of, subscription_does}
 use Rattle.pulsar_laws.specs.Laws.{EndsOnce}

@@ -15,15 +15,15 @@ use Rattle.pulsar_calls.specs.declared.act.Notice.{Notice}
 use Rattle.pulsar_calls.specs.declared.act.Part.{Part}
 use Rattle.pulsar_calls.specs.declared.act.Part.TheVariants.{ToLink, Rings}
 use Rattle.pulsar_producer.specs.Routing.{Policy}
-use Rattle.pulsar_tables.specs.Alarms.{ringing, rings}
+use Rattle.pulsar_links.specs.Alarms.{ringing, rings}
 use Rattle.pulsar_calls.specs.Content.{Heard, Ticked}
 use Rattle.pulsar_laws.specs.Laws.{AlarmsAreTicked, DeadlinesAreTicked, IsDueAt, RingsAt}
 use Rattle.pulsar_laws.specs.AddressLaws.{IdleEnds, IsIdleAt, IsQuietAt, SignsOfLife}
-use Rattle.pulsar_tables.specs.Rules.{brings, idle_act, is_idle, keeps_alive, rung}
-use Rattle.pulsar_tables.specs.LinkRules.{due_part, may_ping, over_links}
-use Rattle.pulsar_agenda.specs.Run.{Entry, Begins, Then, rules, view}
-use Rattle.pulsar_tables.specs.View.{Options, View, is_live}
-use Rattle.pulsar_tables.specs.Seats.{Seat}
+use Rattle.pulsar_acts.specs.Rules.{brings, idle_act, is_idle, keeps_alive, rung}
+use Rattle.pulsar_links.specs.LinkRules.{due_part, may_ping, over_links}
+use Rattle.pulsar_acts.specs.Run.{Entry, Begins, Then, rules, view}
+use Rattle.pulsar_acts.specs.View.{Options, View, is_live}
+use Rattle.pulsar_links.specs.Seats.{Seat}
 use Rattle.pulsar_laws.proofs.Sources.{Any, Check, Fits, Keeping, Source, Tick, arises_fits, gives, in_append, in_links, in_map, in_one, source, step_more}
 
 -- WHAT COMES FROM ELSEWHERE

@@ -43,13 +43,13 @@ use Rattle.pulsar_calls.specs.Content.{Asked, Heard, lacks_tickets, shares}
 use Rattle.pulsar_laws.specs.Laws.{Answered, counted, end_of, started}
 use Rattle.pulsar_procedures.specs.Plan.{begins, fails, told}
 use Rattle.pulsar_producer_table.specs.Producers.{Producers, all_routed, called_on, changed, free_from, made_of, names_in, next_free, number_drawn, numbered, numbers_at, opened_on, routed, sent_on, shut_all, topic_after, why_not, with_built, with_topic, with_topics}
-use Rattle.pulsar_tables.specs.Rules.{notice}
-use Rattle.pulsar_tables.specs.Alarms.{rings}
-use Rattle.pulsar_agenda.specs.Run.{Entry, Begins, Then, IsRun, view}
-use Rattle.pulsar_tables.specs.View.{Options, View, draws_on, may_call, producers_made, producers_rung, room_of, stays, stays_some, told_some}
-use Rattle.pulsar_tables.specs.View as seen
+use Rattle.pulsar_acts.specs.Rules.{notice}
+use Rattle.pulsar_links.specs.Alarms.{rings}
+use Rattle.pulsar_acts.specs.Run.{Entry, Begins, Then, IsRun, view}
+use Rattle.pulsar_acts.specs.View.{Options, View, draws_on, may_call, producers_made, producers_rung, room_of, stays, stays_some, told_some}
+use Rattle.pulsar_acts.specs.View as seen
 use Rattle.pulsar_calls.specs.Who.{is_same, rank, turn_of}
-use Rattle.pulsar_agenda.proofs.Acts.{Each, begun_same, each_map}
+use Rattle.pulsar_client.proofs.Acts.{Each, begun_same, each_map}
 use Rattle.pulsar_laws.proofs.Batchers.{batcher_stands}
 use Rattle.pulsar_laws.proofs.Follow.{same_is}
 use Rattle.pulsar_laws.proofs.Granted.{GivenBy, granted_by, grants_given, in_each, is_grant}

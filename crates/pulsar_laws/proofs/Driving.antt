@@ -3,12 +3,12 @@ use Rattle.std.proofs.Common.{◌≡◌, ◌∙◌, sym, ap, ℕ, zero, suc, Lis
 use Rattle.pulsar_run.specs.Run.{events, in_order, only, steps_done, with_effects}
 use Rattle.pulsar_calls.specs.declared.act.Act.{Act}
 use Rattle.pulsar_calls.specs.Content.{Heard}
-use Rattle.pulsar_tables.specs.Effects.{effects}
+use Rattle.pulsar_acts.specs.Effects.{effects}
 use Rattle.pulsar_calls.specs.Order.{effect_below}
-use Rattle.pulsar_tables.specs.Rules.{parts}
-use Rattle.pulsar_agenda.specs.Run.{Entry, Begins, Then, Good, IsRun, Step, agenda, goes_on, rules, view}
+use Rattle.pulsar_acts.specs.Rules.{parts}
+use Rattle.pulsar_acts.specs.Run.{Entry, Begins, Then, Good, IsRun, Step, agenda, goes_on, rules, view}
 use Rattle.pulsar_agenda.specs.Agenda.{Agenda, first, rest}
-use Rattle.pulsar_tables.specs.View.{Options, View, after, begun, new}
+use Rattle.pulsar_acts.specs.View.{Options, View, after, begun, new}
 
 -- what is seen, what is left to do, and the steps so far
 pub record State : Type 0 where

@@ -42,14 +42,14 @@ use Rattle.pulsar_procedures.specs.declared.service.Service.TheVariants as servi
 use Rattle.pulsar_procedures.specs.declared.states.Resubscribing.{Resubscribing}
 use Rattle.pulsar_procedures.specs.Plan.{begins, in_recalling, in_resting, in_resuming, in_reviving, in_taking, news_in, overrides, resting_hears, resubscribes, told, told_service, wished}
 use Rattle.pulsar_consumer_table.specs.Consumers.{Member, flow_at, word_if, word_of, word_of_frame, word_of_loss}
-use Rattle.pulsar_tables.specs.Reading.{flow_said, tells_word}
-use Rattle.pulsar_tables.specs.Rules.{at_once, causes, follows_some, further, joins, notice}
+use Rattle.pulsar_acts.specs.Reading.{flow_said, tells_word}
+use Rattle.pulsar_acts.specs.Rules.{at_once, causes, follows_some, further, joins, notice}
 use Rattle.pulsar_calls.specs.Order.{below}
-use Rattle.pulsar_tables.specs.View.{Options, View, stand_after, stays, stays_some, told_some, ways_of}
-use Rattle.pulsar_agenda.specs.Run.{Entry, Begins, Then, IsRun, agenda, view}
+use Rattle.pulsar_acts.specs.View.{Options, View, stand_after, stays, stays_some, told_some, ways_of}
+use Rattle.pulsar_acts.specs.Run.{Entry, Begins, Then, IsRun, agenda, view}
 use Rattle.pulsar_agenda.specs.Agenda.{Agenda, first}
-use Rattle.pulsar_agenda.proofs.Acts.{Each, begun_same, each_append, each_first, each_map, each_rest, is_served}
-use Rattle.pulsar_agenda.proofs.Raising.{IsRaised, raises}
+use Rattle.pulsar_client.proofs.Acts.{Each, begun_same, each_append, each_first, each_map, each_rest, is_served}
+use Rattle.pulsar_client.proofs.Raising.{IsRaised, raises}
 use Rattle.pulsar_laws.proofs.Sources.{step_more}
 use Rattle.pulsar_laws.specs.ConsumerLaws.{FlowsAreAsked, FlowsAreTaken, TakesSo}
 use Rattle.pulsar_laws.specs.Laws.{Cause}

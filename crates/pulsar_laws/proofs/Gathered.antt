@@ -16,11 +16,11 @@ use Rattle.pulsar_calls.specs.declared.act.Who.TheVariants.{Call, Consumer, Prod
 use Rattle.pulsar_laws.specs.Laws.{Answered, Cause, counted, outcomes, started}
 use Rattle.pulsar_procedures.specs.Plan.{verdict}
 use Rattle.pulsar_laws.specs.ProducerLaws.{PartsAreGathered}
-use Rattle.pulsar_tables.specs.Rules.{notice}
-use Rattle.pulsar_agenda.specs.Run.{Entry, Begins, Then, IsRun}
-use Rattle.pulsar_tables.specs.View.{Options}
+use Rattle.pulsar_acts.specs.Rules.{notice}
+use Rattle.pulsar_acts.specs.Run.{Entry, Begins, Then, IsRun}
+use Rattle.pulsar_acts.specs.View.{Options}
 use Rattle.pulsar_calls.specs.Who.{is_same}
-use Rattle.pulsar_agenda.proofs.Acts.{Each, each_append, each_map}
+use Rattle.pulsar_client.proofs.Acts.{Each, each_append, each_map}
 use Rattle.pulsar_laws.proofs.Caused.{outcomes_are_caused_lem}
 use Rattle.pulsar_laws.proofs.Follow.{plans_follow_lem, same_is}
 use Rattle.pulsar_laws.proofs.Batchers.{batcher_does}

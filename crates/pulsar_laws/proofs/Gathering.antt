@@ -15,7 +15,7 @@ use Rattle.pulsar_calls.specs.Content.{Said, Failed}
 use Rattle.pulsar_laws.specs.Laws.{Answered, course}
 use Rattle.pulsar_calls.specs.Parts.{failed_with, sent_from}
 use Rattle.pulsar_procedures.specs.Plan.{fails, gathers, verdict}
-use Rattle.pulsar_agenda.proofs.Acts.{Each}
+use Rattle.pulsar_client.proofs.Acts.{Each}
 use Rattle.pulsar_laws.proofs.Fitting.{is_said}
 use Rattle.pulsar_laws.proofs.Sources.{in_each}
 use Rattle.pulsar_laws.proofs.Turns.{sum}

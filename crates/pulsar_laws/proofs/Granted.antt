@@ -36,33 +36,33 @@ use Rattle.pulsar_calls.specs.declared.act.Part.TheVariants.{ToLink, Rings, Poll
 use Rattle.pulsar_calls.specs.declared.act.Procedure.{Procedure}
 use Rattle.pulsar_calls.specs.declared.act.Procedure.TheVariants as procedure
 use Rattle.pulsar_calls.specs.declared.act.Who.{Who}
-use Rattle.pulsar_tables.specs.declared.addresses.Pause.{Pause}
-use Rattle.pulsar_tables.specs.declared.addresses.Series.{Series}
-use Rattle.pulsar_tables.specs.declared.addresses.Series.TheVariants.{Nobody, Runs, Pauses, Serves}
+use Rattle.pulsar_links.specs.declared.addresses.Pause.{Pause}
+use Rattle.pulsar_links.specs.declared.addresses.Series.{Series}
+use Rattle.pulsar_links.specs.declared.addresses.Series.TheVariants.{Nobody, Runs, Pauses, Serves}
 use Rattle.pulsar_procedures.specs.declared.plan.Plan.{Plan}
 use Rattle.pulsar_procedures.specs.declared.plan.Turn.TheVariants.{Stays}
 use Rattle.pulsar_producer_table.specs.declared.table.Topic.{Topic}
-use Rattle.pulsar_tables.specs.Alarms.{rings}
+use Rattle.pulsar_links.specs.Alarms.{rings}
 use Rattle.pulsar_laws.specs.Laws.{Acted, Answered}
-use Rattle.pulsar_tables.specs.Links.{Change, Becomes, IsOver}
+use Rattle.pulsar_links.specs.Links.{Change, Becomes, IsOver}
 use Rattle.pulsar_procedures.specs.Plan.{begins, closed_notice, told}
 use Rattle.pulsar_producer.specs.Topic as topic
 use Rattle.pulsar_calls.specs.Who.{turn_of, ticket_of}
 use Rattle.pulsar_producer_table.specs.Producers.{drawn, is_settled_at, is_woken, link_at, next_batch_at, number_drawn, numbers_at, recalled, stored_by, turn_passed, turn_taken, unsent, waiting}
-use Rattle.pulsar_tables.specs.Rules.{at_once, caused, causes, draw_outcome, draw_said, failed_by, failed_on, finds, gets_from, grants, joins, notice, number_said, performs, readied, ready_notice, recalls, served_on, stopped_one, stopped_with, takes_turn, tells, turn_notice, waiters_of, woken}
-use Rattle.pulsar_tables.specs.LinkRules.{answered_by, answered_on, dropped, ended_by, ended_on, failed, failed_at, failed_over, fails_so, lost, lost_so, lost_with, moved_on, over_links, served_by, stop_act, stopped_at, tells_asker, told_at}
+use Rattle.pulsar_acts.specs.Rules.{at_once, caused, causes, draw_outcome, draw_said, failed_by, failed_on, finds, gets_from, grants, joins, notice, number_said, performs, readied, ready_notice, recalls, served_on, stopped_one, stopped_with, takes_turn, tells, turn_notice, waiters_of, woken}
+use Rattle.pulsar_links.specs.LinkRules.{answered_by, answered_on, dropped, ended_by, ended_on, failed, failed_at, failed_over, fails_so, lost, lost_so, lost_with, moved_on, over_links, served_by, stop_act, stopped_at, tells_asker, told_at}
 use Rattle.pulsar_calls.specs.Order.{alone, below, opens}
 use Rattle.pulsar_producer_table.specs.Notices.{stopped_call}
-use Rattle.pulsar_agenda.specs.Run.{Entry, Begins, Then, IsRun, agenda, rules, view}
-use Rattle.pulsar_tables.specs.View.{Options, Turned, View, after, room_of, stays, stays_some, told_some, turned_by}
-use Rattle.pulsar_tables.specs.Seats.{Addresses, Base, Seat, answer_at}
-use Rattle.pulsar_agenda.proofs.Acts.{Each, each_append, each_drop, each_either, each_flat, each_map, over_each}
-use Rattle.pulsar_agenda.proofs.Raising.{IsRaised, raises}
+use Rattle.pulsar_acts.specs.Run.{Entry, Begins, Then, IsRun, agenda, rules, view}
+use Rattle.pulsar_acts.specs.View.{Options, Turned, View, after, room_of, stays, stays_some, told_some, turned_by}
+use Rattle.pulsar_links.specs.Seats.{Addresses, Base, Seat, answer_at}
+use Rattle.pulsar_client.proofs.Acts.{Each, each_append, each_drop, each_either, each_flat, each_map, over_each}
+use Rattle.pulsar_client.proofs.Raising.{IsRaised, raises}
 use Rattle.pulsar_laws.proofs.Led.{deeds_follow_lem}
 use Rattle.pulsar_laws.proofs.Spots.{same_self}
 use Rattle.pulsar_laws.proofs.Fitting.{Fits, all_settling, begins_fits, fits, is_said, is_settling, is_stop, says_so, settles_so, spot, told_fits}
 use Rattle.pulsar_laws.proofs.Wording.{IsStoppedWord, IsWord, heard_words, is_stopped_word, is_word, is_worded, joins_words, lost_words, stopped_words}
-use Rattle.pulsar_tables.specs.Reading.{heard_on, lost_on, recalled_said, sought_said, stopped_on, numbering_said}
+use Rattle.pulsar_acts.specs.Reading.{heard_on, lost_on, recalled_said, sought_said, stopped_on, numbering_said}
 use Rattle.pulsar_consumer_table.specs.Consumers as consumer
 use Rattle.pulsar_consumer_table.specs.declared.row.Sought.{Sought}
 use Rattle.pulsar_consumer_table.specs.declared.row.Sought.TheVariants.{Found, Gone, Later}

@@ -18,11 +18,11 @@ use Rattle.pulsar_procedures.specs.declared.plan.Turn.{Turn}
 use Rattle.pulsar_procedures.specs.declared.plan.Turn.TheVariants.{Stays, Gives}
 use Rattle.pulsar_laws.specs.Laws.{counted, start_of, started}
 use Rattle.pulsar_procedures.specs.Plan.{begins, gathers, told}
-use Rattle.pulsar_tables.specs.Rules.{notice}
-use Rattle.pulsar_agenda.specs.Run.{Entry, Begins, Then, IsRun, view}
-use Rattle.pulsar_tables.specs.View.{Options, stays, stays_some, told_some}
+use Rattle.pulsar_acts.specs.Rules.{notice}
+use Rattle.pulsar_acts.specs.Run.{Entry, Begins, Then, IsRun, view}
+use Rattle.pulsar_acts.specs.View.{Options, stays, stays_some, told_some}
 use Rattle.pulsar_calls.specs.Who.{is_same}
-use Rattle.pulsar_agenda.proofs.Acts.{begun_same}
+use Rattle.pulsar_client.proofs.Acts.{begun_same}
 use Rattle.pulsar_laws.proofs.Follow.{same_is}
 use Rattle.pulsar_laws.proofs.Granted.{BeginsSo, IsLedSo, does_from}
 use Rattle.pulsar_laws.proofs.Natures.{Goes, StaysSo, begins_goes, is_gathering, told_goes}

@@ -32,29 +32,29 @@ use Rattle.pulsar_calls.specs.declared.act.Part.TheVariants.{ToLink, Rings, Call
 use Rattle.pulsar_calls.specs.declared.act.Procedure.TheVariants as procedure
 use Rattle.pulsar_calls.specs.declared.act.Who.{Who}
 use Rattle.pulsar_calls.specs.declared.act.Who.TheVariants.{Call, Producer, Consumer}
-use Rattle.pulsar_tables.specs.declared.addresses.Pause.{Pause}
-use Rattle.pulsar_tables.specs.declared.addresses.Series.{Series}
-use Rattle.pulsar_tables.specs.declared.addresses.Series.TheVariants.{Nobody, Runs, Pauses, Serves}
+use Rattle.pulsar_links.specs.declared.addresses.Pause.{Pause}
+use Rattle.pulsar_links.specs.declared.addresses.Series.{Series}
+use Rattle.pulsar_links.specs.declared.addresses.Series.TheVariants.{Nobody, Runs, Pauses, Serves}
 use Rattle.pulsar_procedures.specs.declared.plan.Turn.TheVariants.{Gives}
 use Rattle.pulsar_producer_table.specs.declared.table.Topic.{Topic}
-use Rattle.pulsar_tables.specs.Alarms.{alarm_cmp, clear, is_same_alarm, moment_of, rings, set}
+use Rattle.pulsar_links.specs.Alarms.{alarm_cmp, clear, is_same_alarm, moment_of, rings, set}
 use Rattle.pulsar_calls.specs.Content.{Heard, Bytes, lacks_tickets, shares}
 use Rattle.pulsar_laws.specs.Laws.{Acts, AttemptEnds, BecomesReady, Cause, DrawsNone, Finds, GetsTurn, GrantsSo, IsDropped, IsReady, IsReplied, IsToldBy, IsUnknown, IsWoken, LineEnds, MovesUp, RequestEnds, counted, start_of, started, IsServedAs, SaysSo, WordComes}
-use Rattle.pulsar_tables.specs.Links.{Change, Remains, Becomes, IsOver}
+use Rattle.pulsar_links.specs.Links.{Change, Remains, Becomes, IsOver}
 use Rattle.pulsar_procedures.specs.Plan.{told}
 use Rattle.pulsar_producer_table.specs.Producers.{is_bare, numbers_at, stored_at, timeout_at, topic_after, turn_passed}
-use Rattle.pulsar_tables.specs.Rules.{notice}
-use Rattle.pulsar_agenda.specs.Run.{Entry, Begins, Then, IsRun, view}
-use Rattle.pulsar_tables.specs.View.{Chosen, Options, Turned, View, after, alarms_after, alarms_on, alarms_on_topic, alarms_over, alarms_rung, alarms_turned, alarms_waiting, base_after, base_on, begun_live, clear_all, is_live, link_got, live_after, live_begun, turned, waits_for, waits_from, waits_on, consumers_after, consumers_made, hears_ask, joins_as, may_call, member_on, setup_of}
-use Rattle.pulsar_tables.specs.Seats.{Addresses, Base, Seat, asker_at, base_turned, got_at, nobody, seat_asked, seat_fed, seat_got, took_end, took_some, arrival_at, closing, url_at}
+use Rattle.pulsar_acts.specs.Rules.{notice}
+use Rattle.pulsar_acts.specs.Run.{Entry, Begins, Then, IsRun, view}
+use Rattle.pulsar_acts.specs.View.{Chosen, Options, Turned, View, after, alarms_after, alarms_on, alarms_on_topic, alarms_over, alarms_rung, alarms_turned, alarms_waiting, base_after, base_on, begun_live, clear_all, is_live, link_got, live_after, live_begun, turned, waits_for, waits_from, waits_on, consumers_after, consumers_made, hears_ask, joins_as, may_call, member_on, setup_of}
+use Rattle.pulsar_links.specs.Seats.{Addresses, Base, Seat, asker_at, base_turned, got_at, nobody, seat_asked, seat_fed, seat_got, took_end, took_some, arrival_at, closing, url_at}
 use Rattle.pulsar_calls.specs.Who.{behind_all, in_turn, is_same, turn_of, ticket_of}
-use Rattle.pulsar_agenda.proofs.Acts.{Each}
+use Rattle.pulsar_client.proofs.Acts.{Each}
 use Rattle.pulsar_laws.proofs.Caused.{outcomes_are_caused_lem}
 use Rattle.pulsar_laws.proofs.Fitting.{is_said}
 use Rattle.pulsar_laws.proofs.Gathered.{GatherTold}
 use Rattle.pulsar_laws.proofs.Granted.{tell_said}
 use Rattle.pulsar_laws.proofs.Once.{ends_once_lem}
-use Rattle.pulsar_tables.proofs.Ringing.{is_this}
+use Rattle.pulsar_links.proofs.Ringing.{is_this}
 use Rattle.pulsar_laws.proofs.Sources.{in_append, in_each, step_some}
 use Rattle.pulsar_laws.proofs.Spots.{same_self}
 use Rattle.pulsar_laws.proofs.Begun.{has_begun}

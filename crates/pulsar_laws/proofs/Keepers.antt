@@ -44,15 +44,15 @@ use Rattle.pulsar_procedures.specs.declared.plan.Plan.TheVariants.{Batching, Sto
 use Rattle.pulsar_procedures.specs.declared.plan.Turn.{Turn}
 use Rattle.pulsar_procedures.specs.declared.plan.Turn.TheVariants.{Stays, Gives}
 use Rattle.pulsar_producer_table.specs.declared.table.Topic.{Topic}
-use Rattle.pulsar_tables.specs.Alarms.{rings}
+use Rattle.pulsar_links.specs.Alarms.{rings}
 use Rattle.pulsar_laws.specs.Laws.{counted, start_of}
 use Rattle.pulsar_procedures.specs.Plan.{action_of, batches_on, begins, news_of, overrides, told}
 use Rattle.pulsar_laws.specs.ProducerLaws.{acts_on, drawn_by, rung_by, shut_by, topic_acts}
 use Rattle.pulsar_producer_table.specs.Producers.{next_batch_at, numbers_at}
-use Rattle.pulsar_agenda.specs.Run.{Entry, Begins, Then, IsRun, view}
-use Rattle.pulsar_tables.specs.View.{Options, View, room_of, stays, stays_some, told_some}
+use Rattle.pulsar_acts.specs.Run.{Entry, Begins, Then, IsRun, view}
+use Rattle.pulsar_acts.specs.View.{Options, View, room_of, stays, stays_some, told_some}
 use Rattle.pulsar_calls.specs.Who.{is_same, turn_of}
-use Rattle.pulsar_agenda.proofs.Acts.{Each, begun_same, each_append, each_either, each_map}
+use Rattle.pulsar_client.proofs.Acts.{Each, begun_same, each_append, each_either, each_map}
 use Rattle.pulsar_laws.proofs.Batchers.{batcher_does}
 use Rattle.pulsar_laws.proofs.Fitting.{stores_so}
 use Rattle.pulsar_laws.proofs.Granted.{GivenBy, does_fit, granted_by, grants_given, is_grant}

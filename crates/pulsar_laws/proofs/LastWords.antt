@@ -22,8 +22,8 @@ use Rattle.pulsar_procedures.specs.declared.plan.Turn.{Turn}
 use Rattle.pulsar_procedures.specs.declared.plan.Turn.TheVariants.{Stays, Gives}
 use Rattle.pulsar_plans.specs.declared.turn.Ways.{Ways}
 use Rattle.pulsar_procedures.specs.Plan.{batches_on, fault_of, told, told_to, verdict, halted_with}
-use Rattle.pulsar_tables.specs.Rules.{follows, follows_some}
-use Rattle.pulsar_tables.specs.View.{told_some, stays, stays_some}
+use Rattle.pulsar_acts.specs.Rules.{follows, follows_some}
+use Rattle.pulsar_acts.specs.View.{told_some, stays, stays_some}
 use Rattle.pulsar_producer.specs.declared.sending.Sending.{Sending as Send}
 use Rattle.pulsar_outgoing.specs.declared.orders.Errand.{Errand}
 use Rattle.pulsar_procedures.specs.declared.plan.Plan.TheVariants.{Batching, Leaving, Reporting, Sending, Stored, Storing, Visiting}
@@ -40,7 +40,7 @@ use Rattle.pulsar_calls.specs.declared.act.Share.{Share}
 use Rattle.pulsar_calls.specs.declared.act.Outcome.TheVariants as outcome
 use Rattle.pulsar_calls.specs.declared.act.Procedure.TheVariants as procedure
 use Rattle.pulsar_producer.specs.declared.sending.Sending.TheVariants as send
-use Rattle.pulsar_agenda.proofs.Acts.{Each, each_append, each_map, each_rest}
+use Rattle.pulsar_client.proofs.Acts.{Each, each_append, each_map, each_rest}
 use Rattle.pulsar_laws.proofs.Fitting.{Leaves, Spot, spot}
 use Rattle.pulsar_laws.proofs.Keepers.{OfMember, RowSo, StateSo, ends_settled}
 use Rattle.pulsar_laws.proofs.Spots.{is_calm, spot_of}

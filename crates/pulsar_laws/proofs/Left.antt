@@ -14,9 +14,9 @@ use Rattle.pulsar_calls.specs.declared.act.Who.TheVariants as who
 use Rattle.pulsar_calls.specs.declared.content.Building.{Building}
 use Rattle.pulsar_calls.specs.declared.content.Joining.{Joining}
 use Rattle.pulsar_calls.specs.Who.{ticket_of}
-use Rattle.pulsar_tables.specs.Reading.{serves_by}
-use Rattle.pulsar_tables.specs.Rules.{batches_by, batches_from, left_with}
-use Rattle.pulsar_agenda.proofs.Acts.{Each, each_either}
+use Rattle.pulsar_acts.specs.Reading.{serves_by}
+use Rattle.pulsar_acts.specs.Rules.{batches_by, batches_from, left_with}
+use Rattle.pulsar_client.proofs.Acts.{Each, each_either}
 
 parts_each : (P : Act → Type 0) (w : Ways) (block : Bool) (bs : List Built) →
     ((e : Errand) → P (Starts (who.Producer e.producer) (procedure.Batch w e))) → Each P (map (batches_by w block) bs)

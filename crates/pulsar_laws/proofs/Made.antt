@@ -13,14 +13,14 @@ use Rattle.pulsar_calls.specs.declared.act.Who.TheVariants.{Call}
 use Rattle.pulsar_calls.specs.Content.{Asked, lacks_tickets, shares}
 use Rattle.pulsar_laws.specs.Laws.{CallsAreMade}
 use Rattle.pulsar_producer_table.specs.Producers.{advice}
-use Rattle.pulsar_tables.specs.Rules.{at_once, call_part, called, causes, further, joins, parts, starts}
-use Rattle.pulsar_agenda.specs.Run.{Entry, Begins, Then, IsRun, rules, view}
-use Rattle.pulsar_tables.specs.View.{Options}
-use Rattle.pulsar_agenda.proofs.Acts.{StartsIn, late, starts_in}
-use Rattle.pulsar_agenda.proofs.Raising.{IsRaised, OfStart, may, raises}
+use Rattle.pulsar_acts.specs.Rules.{at_once, call_part, called, causes, further, joins, parts, starts}
+use Rattle.pulsar_acts.specs.Run.{Entry, Begins, Then, IsRun, rules, view}
+use Rattle.pulsar_acts.specs.View.{Options}
+use Rattle.pulsar_client.proofs.Acts.{StartsIn, late, starts_in}
+use Rattle.pulsar_client.proofs.Raising.{IsRaised, OfStart, may, raises}
 use Rattle.pulsar_laws.proofs.Sources.{in_each, in_map, step_more, step_runs, step_some}
 use Rattle.pulsar_laws.proofs.Ticketed.{not_spent}
-use Rattle.pulsar_agenda.proofs.Single.{call_comes}
+use Rattle.pulsar_client.proofs.Single.{call_comes}
 
 -- A CALL IS MADE
 

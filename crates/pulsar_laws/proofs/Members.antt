@@ -27,8 +27,8 @@ use Rattle.pulsar_consumer_table.specs.Consumers.{Consumers, Member, at_row, cal
 use Rattle.pulsar_consumer_table.specs.declared.numbers.Numbering.{Numbering}
 use Rattle.pulsar_consumer_table.specs.declared.numbers.Numbering.TheVariants.{Has, InUse, Spent}
 use Rattle.pulsar_consumer_table.specs.Notices.{due_at, due_to, lost_at, word_to}
-use Rattle.pulsar_tables.specs.View.{consumers_left}
-use Rattle.pulsar_agenda.proofs.Acts.{Each, each_append, each_flat}
+use Rattle.pulsar_acts.specs.View.{consumers_left}
+use Rattle.pulsar_client.proofs.Acts.{Each, each_append, each_flat}
 use Rattle.pulsar_run.specs.Laws.{In}
 use Rattle.pulsar_frame.specs.Items.{Item}
 use Rattle.url.specs.Parts.{Parts}

@@ -55,7 +55,7 @@ use Rattle.pulsar_procedures.specs.declared.plan.Turn.TheVariants.{Stays, Gives}
 use Rattle.pulsar_procedures.specs.declared.plan.Wanted.{Wanted}
 use Rattle.pulsar_procedures.specs.Plan.{action_of, asks_of, batches_on, begins, builds, fails_in, goes, goes_on_sending, goes_round, gathers, halted, in_asking, in_awaiting, in_finding, in_passing, in_settling, in_stored, in_storing, in_turning, is_answer, is_settled, leaves, news_in, news_of, overrides, sends_stay, settled, stands, stored, told, told_at, told_batch, told_of, told_send, told_to, visited, visits, waits, wished}
 use Rattle.pulsar_producer.specs.Batching.{is_sent_send}
-use Rattle.pulsar_agenda.proofs.Acts.{Each}
+use Rattle.pulsar_client.proofs.Acts.{Each}
 use Rattle.pulsar_laws.proofs.Consuming.{IsModest, begins_modest, is_consumed, is_modest, stays_map, told_modest}
 pub use Rattle.pulsar_laws.proofs.Consuming.{StaysSo, either_so}
 

@@ -8,18 +8,18 @@ use Rattle.pulsar_calls.specs.declared.act.Act.TheVariants.{Comes, Does, Dials}
 use Rattle.pulsar_calls.specs.declared.act.Action.TheVariants.{Get, StopAll}
 use Rattle.pulsar_calls.specs.declared.act.Part.TheVariants.{ToLink}
 use Rattle.pulsar_calls.specs.declared.act.Who.{Who}
-use Rattle.pulsar_tables.specs.declared.addresses.Pause.{Pause}
-use Rattle.pulsar_tables.specs.declared.addresses.Series.{Series}
-use Rattle.pulsar_tables.specs.declared.addresses.Series.TheVariants.{Nobody, Runs}
+use Rattle.pulsar_links.specs.declared.addresses.Pause.{Pause}
+use Rattle.pulsar_links.specs.declared.addresses.Series.{Series}
+use Rattle.pulsar_links.specs.declared.addresses.Series.TheVariants.{Nobody, Runs}
 use Rattle.pulsar_calls.specs.Content.{Ticked}
 use Rattle.pulsar_laws.specs.Laws.{ClockIs}
 use Rattle.pulsar_laws.specs.AddressLaws.{SeriesIsNewest, newest_turn, turn_of, turn_on, turn_over}
-use Rattle.pulsar_tables.specs.Links.{Change, Remains, Becomes, IsOver}
-use Rattle.pulsar_agenda.specs.Run.{Begins, Then, view}
-use Rattle.pulsar_tables.specs.View.{Turned, View, base_on, begun, begun_live, turned, waits_for, waits_on}
-use Rattle.pulsar_tables.specs.Seats.{Base, base_over, base_turned, nobody}
+use Rattle.pulsar_links.specs.Links.{Change, Remains, Becomes, IsOver}
+use Rattle.pulsar_acts.specs.Run.{Begins, Then, view}
+use Rattle.pulsar_acts.specs.View.{Turned, View, base_on, begun, begun_live, turned, waits_for, waits_on}
+use Rattle.pulsar_links.specs.Seats.{Base, base_over, base_turned, nobody}
 use Rattle.pulsar_addresses.specs.Address.{address_key, is_reachable}
-use Rattle.pulsar_agenda.proofs.Acts.{begun_same}
+use Rattle.pulsar_client.proofs.Acts.{begun_same}
 
 -- THE CLOCK
 

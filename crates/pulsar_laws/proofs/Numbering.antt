@@ -52,7 +52,7 @@ use Rattle.pulsar_procedures.specs.declared.plan.Turn.TheVariants.{Stays, Gives}
 use Rattle.pulsar_procedures.specs.declared.plan.Wanted.{Wanted}
 use Rattle.pulsar_procedures.specs.Plan.{asks_of, batches_on, begins, builds, fails_in, goes, goes_on_sending, goes_round, halted, in_asking, in_awaiting, in_finding, in_passing, in_settling, in_turning, is_answer, leaves, makes_of, news_in, news_of, overrides, sends_stay, stands, stored, told, told_at, visited, visits, waits, acknowledges, consumer_news_of, in_departing, in_recalling, in_resting, in_resuming, in_reviving, in_subscribing, in_taking, resting_hears, resubscribes, subscribes, told_service}
 use Rattle.pulsar_producer.specs.Batching.{is_sent_send}
-use Rattle.pulsar_agenda.proofs.Acts.{Each, each_append}
+use Rattle.pulsar_client.proofs.Acts.{Each, each_append}
 use Rattle.pulsar_procedures.specs.declared.service.Service.{Service}
 use Rattle.pulsar_procedures.specs.declared.states.Resubscribing.{Resubscribing}
 use Rattle.pulsar_calls.specs.declared.act.Word.{Word}

@@ -11,10 +11,10 @@ use Rattle.pulsar_calls.specs.declared.act.LinkAct.{LinkAct}
 use Rattle.pulsar_calls.specs.declared.act.LinkAct.TheVariants.{Opens, Reads, Drains, Pings, Ends}
 use Rattle.pulsar_calls.specs.declared.effect.Settlement.TheVariants as settlement
 use Rattle.pulsar_calls.specs.Content.{Shown, Queued, Write, Settles, Close}
-use Rattle.pulsar_tables.specs.LinkEffects.{asked_at, given_at}
-use Rattle.pulsar_tables.specs.Links.{after, close, closed_by, effects, ended, is_own_end, lost, new_places, queues, queues_at, settled_in, settles, write}
-use Rattle.pulsar_tables.specs.Seats.{Seat}
-use Rattle.pulsar_agenda.proofs.Acts.{Each, each_append}
+use Rattle.pulsar_links.specs.LinkEffects.{asked_at, given_at}
+use Rattle.pulsar_links.specs.Links.{after, close, closed_by, effects, ended, is_own_end, lost, new_places, queues, queues_at, settled_in, settles, write}
+use Rattle.pulsar_links.specs.Seats.{Seat}
+use Rattle.pulsar_client.proofs.Acts.{Each, each_append}
 
 abbrev pub link_of : Shown → Option ℕ
 link_of (Queued k place bytes) = Some k

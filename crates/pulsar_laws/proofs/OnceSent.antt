@@ -28,10 +28,10 @@ use Rattle.pulsar_procedures.specs.declared.plan.Turn.TheVariants.{Stays, Gives}
 use Rattle.pulsar_laws.specs.Laws.{counted, start_of}
 use Rattle.pulsar_procedures.specs.Plan.{begins, goes_on_sending, halted, news_of, overrides, told}
 use Rattle.pulsar_laws.specs.ProducerLaws.{SentOnce, asks_send, is_queued, queued_times}
-use Rattle.pulsar_agenda.specs.Run.{Entry, Begins, Then, view}
-use Rattle.pulsar_tables.specs.View.{Options, stays, stays_some, told_some}
+use Rattle.pulsar_acts.specs.Run.{Entry, Begins, Then, view}
+use Rattle.pulsar_acts.specs.View.{Options, stays, stays_some, told_some}
 use Rattle.pulsar_calls.specs.Who.{is_same}
-use Rattle.pulsar_agenda.proofs.Acts.{begun_same}
+use Rattle.pulsar_client.proofs.Acts.{begun_same}
 use Rattle.pulsar_laws.proofs.Natures.{Goes, StaysSo, is_batching, is_gathering, is_other, is_producing, is_storing, is_visiting, told_goes}
 use Rattle.pulsar_laws.proofs.Once.{ends_once_lem}
 

@@ -19,17 +19,17 @@ use Rattle.pulsar_calls.specs.declared.act.LinkAct.{LinkAct}
 use Rattle.pulsar_calls.specs.declared.act.LinkAct.TheVariants.{Opens, Reads, Drains, Pings, Ends}
 use Rattle.pulsar_calls.specs.declared.act.Part.TheVariants.{ToLink, Rings}
 use Rattle.pulsar_calls.specs.declared.act.Who.{Who}
-use Rattle.pulsar_tables.specs.declared.addresses.Pause.{Pause}
-use Rattle.pulsar_tables.specs.declared.addresses.Series.{Series}
-use Rattle.pulsar_tables.specs.declared.addresses.Series.TheVariants.{Nobody, Runs, Pauses, Serves}
-use Rattle.pulsar_tables.specs.Alarms.{rings}
+use Rattle.pulsar_links.specs.declared.addresses.Pause.{Pause}
+use Rattle.pulsar_links.specs.declared.addresses.Series.{Series}
+use Rattle.pulsar_links.specs.declared.addresses.Series.TheVariants.{Nobody, Runs, Pauses, Serves}
+use Rattle.pulsar_links.specs.Alarms.{rings}
 use Rattle.pulsar_calls.specs.Content.{Heard, Bytes}
 use Rattle.pulsar_laws.specs.Laws.{base_of}
 use Rattle.pulsar_laws.specs.AddressLaws.{Attempted, AttemptsFollow, Begun, OneLinkEach, names_link}
-use Rattle.pulsar_tables.specs.Links.{Change, Remains, Becomes, IsOver, arrival, change_at, change_by, change_in, closed_by}
-use Rattle.pulsar_agenda.specs.Run.{Entry, Begins, Then, IsRun, view}
-use Rattle.pulsar_tables.specs.View.{Chosen, Options, Turned, View, after, base_on, begun, begun_live, dialed, is_live, is_to_follow, link_got, live_begun, pause_for, pause_on, pause_rung, turned, turned_by, waits_for, waits_on}
-use Rattle.pulsar_tables.specs.Seats.{Base, Seat, base_turned, got_at, is_for, may_retry, nobody, pause_put, pause_with, seat_asked, seat_fed, seat_got, took, took_end, took_some}
+use Rattle.pulsar_links.specs.Links.{Change, Remains, Becomes, IsOver, arrival, change_at, change_by, change_in, closed_by}
+use Rattle.pulsar_acts.specs.Run.{Entry, Begins, Then, IsRun, view}
+use Rattle.pulsar_acts.specs.View.{Chosen, Options, Turned, View, after, base_on, begun, begun_live, dialed, is_live, is_to_follow, link_got, live_begun, pause_for, pause_on, pause_rung, turned, turned_by, waits_for, waits_on}
+use Rattle.pulsar_links.specs.Seats.{Base, Seat, base_turned, got_at, is_for, may_retry, nobody, pause_put, pause_with, seat_asked, seat_fed, seat_got, took, took_end, took_some}
 use Rattle.pulsar_laws.proofs.Alone.{no_some, some_is}
 
 abbrev series_at : View → List ℕ → Series

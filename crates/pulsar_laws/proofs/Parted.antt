@@ -33,11 +33,11 @@ use Rattle.pulsar_calls.specs.Content.{Asked, lacks_tickets, shares}
 use Rattle.pulsar_laws.specs.Laws.{started}
 use Rattle.pulsar_producer_table.specs.Producers.{Producers, advice, batches_in, errand_of, numbers_at, routed, why_not}
 use Rattle.pulsar_calls.specs.Content.{next_advice}
-use Rattle.pulsar_tables.specs.Rules.{asks_raw, asks_topics, builds_with, call_part, checks, closes, flushes, flushes_all, from_base, gathers, is_taken, parts_of, procedure_for, produces, produces_from, searches, sends, sends_as, sends_by, shares_of, shares_unless, starts, stores_as, unless, unless_refused, why_no_sends, why_no_raw}
-use Rattle.pulsar_agenda.specs.Run.{Entry, Begins, Then, IsRun, view}
-use Rattle.pulsar_tables.specs.View.{Chosen, Options, View, may_call, ways_of}
+use Rattle.pulsar_acts.specs.Rules.{asks_raw, asks_topics, builds_with, call_part, checks, closes, flushes, flushes_all, from_base, gathers, is_taken, parts_of, procedure_for, produces, produces_from, searches, sends, sends_as, sends_by, shares_of, shares_unless, starts, stores_as, unless, unless_refused, why_no_sends, why_no_raw}
+use Rattle.pulsar_acts.specs.Run.{Entry, Begins, Then, IsRun, view}
+use Rattle.pulsar_acts.specs.View.{Chosen, Options, View, may_call, ways_of}
 use Rattle.pulsar_calls.specs.Who.{is_same}
-use Rattle.pulsar_agenda.proofs.Acts.{Each, begun_same}
+use Rattle.pulsar_client.proofs.Acts.{Each, begun_same}
 use Rattle.pulsar_laws.proofs.Follow.{same_is}
 use Rattle.pulsar_laws.proofs.Granted.{in_each}
 use Rattle.pulsar_laws.proofs.Made.{calls_are_made_lem}

@@ -49,13 +49,13 @@ use Rattle.pulsar_procedures.specs.declared.states.Resubscribing.{Resubscribing}
 use Rattle.pulsar_procedures.specs.Plan.{news_in}
 use Rattle.pulsar_consumer_table.specs.Consumers as consumer
 use Rattle.pulsar_consumer_table.specs.Consumers.{Member, flow_at, member_after}
-use Rattle.pulsar_tables.specs.Reading.{flow_said}
-use Rattle.pulsar_tables.specs.Rules.{follows, follows_some, notice}
-use Rattle.pulsar_tables.specs.View.{Options, stays, stays_some, told_some}
-use Rattle.pulsar_tables.specs.Seats.{Seat, answer_at}
-use Rattle.pulsar_agenda.specs.Run.{Entry, Begins, Then, IsRun, agenda, view}
+use Rattle.pulsar_acts.specs.Reading.{flow_said}
+use Rattle.pulsar_acts.specs.Rules.{follows, follows_some, notice}
+use Rattle.pulsar_acts.specs.View.{Options, stays, stays_some, told_some}
+use Rattle.pulsar_links.specs.Seats.{Seat, answer_at}
+use Rattle.pulsar_acts.specs.Run.{Entry, Begins, Then, IsRun, agenda, view}
 use Rattle.pulsar_agenda.specs.Agenda.{first}
-use Rattle.pulsar_agenda.proofs.Acts.{begun_same}
+use Rattle.pulsar_client.proofs.Acts.{begun_same}
 use Rattle.pulsar_laws.specs.ConsumerLaws.{FlowsArePlaced, done_to, place_on}
 use Rattle.pulsar_laws.specs.Laws.{EndsOnce}
 use Rattle.pulsar_laws.proofs.Consuming.{StaysSo, either_so}

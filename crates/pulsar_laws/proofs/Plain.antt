@@ -7,12 +7,12 @@ use Rattle.pulsar_calls.specs.declared.act.Action.TheVariants.{Ask}
 use Rattle.pulsar_calls.specs.declared.act.Part.TheVariants as part
 use Rattle.pulsar_calls.specs.declared.act.Who.{Who}
 use Rattle.pulsar_calls.specs.declared.act.Who.TheVariants.{Call, Consumer, Producer}
-use Rattle.pulsar_tables.specs.declared.addresses.Pause.{Pause}
-use Rattle.pulsar_tables.specs.Address.{leads_to}
+use Rattle.pulsar_links.specs.declared.addresses.Pause.{Pause}
+use Rattle.pulsar_links.specs.Address.{leads_to}
 use Rattle.pulsar_calls.specs.Content.{Said, Shown, Queued, Write, Hands, Faults}
-use Rattle.pulsar_tables.specs.Effects.{effects, ends, retries, retries_on}
-use Rattle.pulsar_tables.specs.LinkEffects.{connects_to}
-use Rattle.pulsar_tables.specs.View.{Chosen, Turned, View}
+use Rattle.pulsar_acts.specs.Effects.{effects, ends, retries, retries_on}
+use Rattle.pulsar_links.specs.LinkEffects.{connects_to}
+use Rattle.pulsar_acts.specs.View.{Chosen, Turned, View}
 
 abbrev pub is_plain : Shown → Bool
 is_plain (Write l bytes) = false

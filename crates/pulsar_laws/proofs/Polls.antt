@@ -25,18 +25,18 @@ use Rattle.pulsar_calls.specs.declared.act.Part.TheVariants.{ToLink, Polls}
 use Rattle.pulsar_calls.specs.declared.act.Who.{Who}
 use Rattle.pulsar_calls.specs.declared.act.Who.TheVariants.{Call}
 use Rattle.pulsar_calls.specs.Content.{Heard, Poll, Shown, Hands, Faults}
-use Rattle.pulsar_tables.specs.Effects.{effects, retries_on}
-use Rattle.pulsar_tables.specs.LinkEffects.{asked_at, given_at}
+use Rattle.pulsar_acts.specs.Effects.{effects, retries_on}
+use Rattle.pulsar_links.specs.LinkEffects.{asked_at, given_at}
 use Rattle.pulsar_calls.specs.Order.{effect_below, effect_rank, is_before3}
 use Rattle.pulsar_laws.specs.Laws.{EndsOnce}
-use Rattle.pulsar_agenda.specs.Run.{Entry, Begins, Then, IsRun, Step, is_empty, rules, steps, view}
+use Rattle.pulsar_acts.specs.Run.{Entry, Begins, Then, IsRun, Step, is_empty, rules, steps, view}
 use Rattle.pulsar_agenda.specs.Agenda.{first_of}
-use Rattle.pulsar_tables.specs.View.{Options, View, turned}
-use Rattle.pulsar_tables.specs.Seats.{Seat, answer_at, arrival_at, closing, is_asked, url_at}
+use Rattle.pulsar_acts.specs.View.{Options, View, turned}
+use Rattle.pulsar_links.specs.Seats.{Seat, answer_at, arrival_at, closing, is_asked, url_at}
 use Rattle.pulsar_calls.specs.Who.{is_same, ticket_of}
-use Rattle.pulsar_agenda.proofs.Acts.{Each, each_append, each_map, each_either}
+use Rattle.pulsar_client.proofs.Acts.{Each, each_append, each_map, each_either}
 use Rattle.pulsar_agenda.proofs.Orders.{effect_order}
-use Rattle.pulsar_agenda.proofs.Single.{poll_comes}
+use Rattle.pulsar_client.proofs.Single.{poll_comes}
 use Rattle.pulsar_laws.proofs.OfLink.{IsOf, asked_of, given_of}
 use Rattle.pulsar_laws.proofs.Plain.{ArePlain, effects_plain, is_plain, turned_plain}
 use Rattle.pulsar_laws.proofs.Ticketed.{consumer_ticket}

@@ -20,7 +20,7 @@ use Rattle.pulsar_session.specs.Link as session
 use Rattle.pulsar_session.proofs.Settled.{places_count, written_in_order}
 use Rattle.pulsar_laws.specs.Laws.{calls_of}
 use Rattle.pulsar_laws.specs.ProducerLaws.{FramesAreReadAgain, QueuedAsAsked}
-use Rattle.pulsar_agenda.specs.Run.{view}
+use Rattle.pulsar_acts.specs.Run.{view}
 use Rattle.pulsar_laws.proofs.Alone.{links_alone_lem}
 
 slice_end : (xs : List (List ℕ)) (x : List ℕ) → slice_get (xs ++ x ∷ []) (length xs) ≡ Some x

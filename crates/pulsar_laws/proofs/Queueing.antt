@@ -21,10 +21,10 @@ use Rattle.pulsar_calls.specs.declared.act.Who.TheVariants.{Consumer}
 use Rattle.pulsar_calls.specs.Content.{numbers_from}
 use Rattle.pulsar_calls.specs.Who.{ticket_of}
 use Rattle.pulsar_consumer_table.specs.Consumers.{Member}
-use Rattle.pulsar_tables.specs.View.{Options, View}
-use Rattle.pulsar_tables.specs.Seats.{Seat, answer_at, place_of, seat_asked}
-use Rattle.pulsar_agenda.specs.Run.{Entry, Begins, Then, IsRun, view}
-use Rattle.pulsar_agenda.proofs.Acts.{Each, each_map}
+use Rattle.pulsar_acts.specs.View.{Options, View}
+use Rattle.pulsar_links.specs.Seats.{Seat, answer_at, place_of, seat_asked}
+use Rattle.pulsar_acts.specs.Run.{Entry, Begins, Then, IsRun, view}
+use Rattle.pulsar_client.proofs.Acts.{Each, each_map}
 use Rattle.pulsar_laws.specs.ConsumerLaws.{Flow, FlowsAreQueued, flows_after, flows_since, is_so, permits_of, permits_where, place_on, stands, was_queued}
 use Rattle.pulsar_laws.specs.Laws.{EndsOnce}
 use Rattle.pulsar_laws.proofs.Claiming.{answer_adds, answer_grows, drains_grows, end_of_line, feeds_same, opens_grows, taken_grows}

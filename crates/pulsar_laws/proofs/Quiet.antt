@@ -7,10 +7,10 @@ use Rattle.pulsar_calls.specs.declared.act.Part.{Part}
 use Rattle.pulsar_calls.specs.declared.act.Part.TheVariants.{Calls, ToLink}
 use Rattle.pulsar_calls.specs.declared.act.Who.{Who}
 use Rattle.pulsar_calls.specs.declared.act.Who.TheVariants.{Call, Consumer, Producer}
-use Rattle.pulsar_tables.specs.Rules.{at_once, performs}
-use Rattle.pulsar_tables.specs.View.{View}
-use Rattle.pulsar_agenda.proofs.Acts.{Each, each_map}
-use Rattle.pulsar_agenda.proofs.Raising.{IsRaised, OfStart, OfVerdict, may, raises}
+use Rattle.pulsar_acts.specs.Rules.{at_once, performs}
+use Rattle.pulsar_acts.specs.View.{View}
+use Rattle.pulsar_client.proofs.Acts.{Each, each_map}
+use Rattle.pulsar_client.proofs.Raising.{IsRaised, OfStart, OfVerdict, may, raises}
 
 abbrev pub is_quiet : Act → Bool
 is_quiet (Comes (ToLink l x)) = true

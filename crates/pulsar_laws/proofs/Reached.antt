@@ -23,13 +23,13 @@ use Rattle.pulsar_procedures.specs.declared.plan.Plan.{Plan}
 use Rattle.pulsar_procedures.specs.declared.plan.Turn.{Turn}
 use Rattle.pulsar_procedures.specs.declared.plan.Turn.TheVariants.{Stays, Gives}
 use Rattle.pulsar_procedures.specs.Plan.{begins, fails, told}
-use Rattle.pulsar_tables.specs.Rules.{follows, follows_some, notice, tells}
-use Rattle.pulsar_tables.specs.LinkRules.{told_at}
-use Rattle.pulsar_tables.specs.View.{Options, stays, stays_some, told_some}
-use Rattle.pulsar_tables.specs.Seats.{answer_at}
-use Rattle.pulsar_agenda.specs.Run.{Entry, Begins, Then, IsRun, agenda, view}
+use Rattle.pulsar_acts.specs.Rules.{follows, follows_some, notice, tells}
+use Rattle.pulsar_links.specs.LinkRules.{told_at}
+use Rattle.pulsar_acts.specs.View.{Options, stays, stays_some, told_some}
+use Rattle.pulsar_links.specs.Seats.{answer_at}
+use Rattle.pulsar_acts.specs.Run.{Entry, Begins, Then, IsRun, agenda, view}
 use Rattle.pulsar_agenda.specs.Agenda.{first}
-use Rattle.pulsar_agenda.proofs.Acts.{begun_same}
+use Rattle.pulsar_client.proofs.Acts.{begun_same}
 use Rattle.pulsar_laws.specs.Laws.{Answered, IsLed}
 use Rattle.pulsar_laws.proofs.Receipts.{run_behind}
 use Rattle.pulsar_laws.proofs.Flows.{first_at}

@@ -22,11 +22,11 @@ use Rattle.pulsar_calls.specs.declared.act.LinkAct.TheVariants.{Opens, Reads, Dr
 use Rattle.pulsar_calls.specs.declared.act.Part.TheVariants.{ToLink}
 use Rattle.pulsar_calls.specs.declared.act.Who.{Who}
 use Rattle.pulsar_calls.specs.Content.{Heard, Bytes}
-use Rattle.pulsar_tables.specs.Links.{closed_by}
-use Rattle.pulsar_tables.specs.View.{Options, View, after, begun_live, is_live, link_got, live_begun}
-use Rattle.pulsar_tables.specs.Seats.{Seat, answer_at, got_at, seat_asked, seat_fed, seat_got, took, took_end, took_some}
-use Rattle.pulsar_agenda.specs.Run.{Entry, Begins, Then, view}
-use Rattle.pulsar_agenda.proofs.Acts.{begun_same}
+use Rattle.pulsar_links.specs.Links.{closed_by}
+use Rattle.pulsar_acts.specs.View.{Options, View, after, begun_live, is_live, link_got, live_begun}
+use Rattle.pulsar_links.specs.Seats.{Seat, answer_at, got_at, seat_asked, seat_fed, seat_got, took, took_end, took_some}
+use Rattle.pulsar_acts.specs.Run.{Entry, Begins, Then, view}
+use Rattle.pulsar_client.proofs.Acts.{begun_same}
 use Rattle.pulsar_laws.specs.Laws.{calls_of}
 use Rattle.pulsar_laws.proofs.Alone.{is_close, links_alone_lem}
 use Rattle.pulsar_laws.proofs.Early.{drawn_stage, moved_stage, ready_of}

@@ -47,13 +47,13 @@ use Rattle.pulsar_calls.specs.declared.act.Who.{Who}
 use Rattle.pulsar_calls.specs.declared.act.Who.TheVariants.{Call}
 use Rattle.pulsar_calls.specs.Content.{Heard, Bytes}
 use Rattle.pulsar_laws.specs.Laws.{Cause, calls_of, counted, start_of, started}
-use Rattle.pulsar_tables.specs.Links.{closed_by, settled_in}
+use Rattle.pulsar_links.specs.Links.{closed_by, settled_in}
 use Rattle.pulsar_laws.specs.ProducerLaws.{ReceiptsAreOwn}
-use Rattle.pulsar_agenda.specs.Run.{Entry, Begins, Then, IsRun, view}
-use Rattle.pulsar_tables.specs.View.{Options, View, begun_live, is_live, link_got, live_begun}
-use Rattle.pulsar_tables.specs.Seats.{Seat, askers_left, got_at, seat_asked, seat_fed, seat_got, took, took_end, took_some}
+use Rattle.pulsar_acts.specs.Run.{Entry, Begins, Then, IsRun, view}
+use Rattle.pulsar_acts.specs.View.{Options, View, begun_live, is_live, link_got, live_begun}
+use Rattle.pulsar_links.specs.Seats.{Seat, askers_left, got_at, seat_asked, seat_fed, seat_got, took, took_end, took_some}
 use Rattle.pulsar_calls.specs.Who.{is_same}
-use Rattle.pulsar_agenda.proofs.Acts.{Each}
+use Rattle.pulsar_client.proofs.Acts.{Each}
 use Rattle.pulsar_laws.proofs.Alone.{links_alone_lem}
 use Rattle.pulsar_laws.proofs.Caused.{outcomes_are_caused_lem}
 use Rattle.pulsar_laws.proofs.Claiming.{IsClaimed, PendsSo, asked_so, drained_so, fed, fewer, known, opened, pinged, taken}

@@ -33,10 +33,10 @@ use Rattle.pulsar_calls.specs.declared.content.Joining.{Joining}
 use Rattle.pulsar_calls.specs.Content.{Heard, Bytes}
 use Rattle.pulsar_calls.specs.Who.{is_same, ticket_of}
 use Rattle.pulsar_consumer_table.specs.Consumers.{Member, is_closed_by, subscribed_on}
-use Rattle.pulsar_tables.specs.Links.{closed_by}
-use Rattle.pulsar_tables.specs.View.{Options, View, after, begun, begun_live, is_live, link_got, live_begun, member_on}
-use Rattle.pulsar_tables.specs.Seats.{Seat, answer_at, arrival_at, closing, got_at, is_asked, seat_asked, seat_fed, seat_got, took_end, took_some, url_at}
-use Rattle.pulsar_agenda.specs.Run.{Entry, Begins, Then, IsRun, view}
+use Rattle.pulsar_links.specs.Links.{closed_by}
+use Rattle.pulsar_acts.specs.View.{Options, View, after, begun, begun_live, is_live, link_got, live_begun, member_on}
+use Rattle.pulsar_links.specs.Seats.{Seat, answer_at, arrival_at, closing, got_at, is_asked, seat_asked, seat_fed, seat_got, took_end, took_some, url_at}
+use Rattle.pulsar_acts.specs.Run.{Entry, Begins, Then, IsRun, view}
 use Rattle.pulsar_laws.proofs.Ticketed.{consumer_ticket}
 use Rattle.pulsar_laws.specs.ConsumerLaws.{arrival_does, does_to, done_since, done_to, frame_does, loss_does, made_as, made_with, making_does, subscription_does}
 use Rattle.pulsar_laws.specs.Laws.{EndsOnce}

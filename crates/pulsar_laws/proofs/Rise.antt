@@ -11,9 +11,9 @@ use Rattle.pulsar_calls.specs.declared.act.Action.TheVariants.{Ask, Draw}
 use Rattle.pulsar_calls.specs.declared.act.Who.TheVariants.{Call}
 use Rattle.pulsar_producer_table.specs.declared.table.Topic.{Topic}
 use Rattle.pulsar_laws.specs.ProducerLaws.{NumbersOfFramesRise, topic_acts}
-use Rattle.pulsar_agenda.specs.Run.{Entry, Begins, Then, IsRun, view}
-use Rattle.pulsar_tables.specs.View.{Options}
-use Rattle.pulsar_agenda.proofs.Acts.{begun_same}
+use Rattle.pulsar_acts.specs.Run.{Entry, Begins, Then, IsRun, view}
+use Rattle.pulsar_acts.specs.View.{Options}
+use Rattle.pulsar_client.proofs.Acts.{begun_same}
 use Rattle.pulsar_laws.proofs.Drawing.{drawn_run}
 use Rattle.pulsar_laws.proofs.Frames.{IsFramed, frames_are_of_their_sends_lem, framed, it}
 use Rattle.pulsar_laws.proofs.Receipts.{run_behind}

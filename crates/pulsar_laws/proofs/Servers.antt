@@ -16,13 +16,13 @@ use Rattle.pulsar_procedures.specs.declared.plan.Plan.TheVariants.{Serving}
 use Rattle.pulsar_procedures.specs.declared.plan.Turn.{Turn}
 use Rattle.pulsar_procedures.specs.declared.plan.Turn.TheVariants.{Stays, Gives}
 use Rattle.pulsar_procedures.specs.Plan.{begins, is_over, overrides, told, told_service}
-use Rattle.pulsar_tables.specs.Rules.{at_once}
-use Rattle.pulsar_agenda.specs.Run.{Entry, Begins, Then, IsRun, agenda, view}
+use Rattle.pulsar_acts.specs.Rules.{at_once}
+use Rattle.pulsar_acts.specs.Run.{Entry, Begins, Then, IsRun, agenda, view}
 use Rattle.pulsar_agenda.specs.Agenda.{first}
-use Rattle.pulsar_tables.specs.View.{Options, View, stand_after, stays, stays_some, told_some, ways_of}
+use Rattle.pulsar_acts.specs.View.{Options, View, stand_after, stays, stays_some, told_some, ways_of}
 use Rattle.pulsar_calls.specs.Who.{is_same}
-use Rattle.pulsar_agenda.proofs.Acts.{Each, begun_same, each_append, each_first, each_map, each_rest, is_served}
-use Rattle.pulsar_agenda.proofs.Raising.{IsRaised, raises}
+use Rattle.pulsar_client.proofs.Acts.{Each, begun_same, each_append, each_first, each_map, each_rest, is_served}
+use Rattle.pulsar_client.proofs.Raising.{IsRaised, raises}
 use Rattle.pulsar_laws.proofs.Consuming.{IsServing, IsModest, StaysSo, is_modest, service_serves, told_modest}
 use Rattle.pulsar_laws.proofs.Granted.{BeginsSo, IsLedSo, does_from}
 use Rattle.pulsar_laws.proofs.Left.{left_each}

@@ -8,10 +8,10 @@ use Rattle.pulsar_session.proofs.Others.{slow_down_changes_nothing}
 use Rattle.pulsar_link.specs.Request.{closed_consumer, is_awaited}
 use Rattle.pulsar_calls.specs.declared.act.Who.{Who}
 use Rattle.pulsar_laws.specs.ProducerLaws.{SlowDownLeavesAll, seat_ticked}
-use Rattle.pulsar_agenda.specs.Run.{view}
+use Rattle.pulsar_acts.specs.Run.{view}
 use Rattle.pulsar_consumer_table.specs.Consumers.{Member, closes}
-use Rattle.pulsar_tables.specs.View.{View, hears_ask}
-use Rattle.pulsar_tables.specs.Seats.{Seat, answer_at, asker_at, is_asked, place_of, seat_asked}
+use Rattle.pulsar_acts.specs.View.{View, hears_ask}
+use Rattle.pulsar_links.specs.Seats.{Seat, answer_at, asker_at, is_asked, place_of, seat_asked}
 
 module _ (who : Who) (now l : ℕ) (request : Words) where
   seat_slow : (row : Option Seat) → answer_at now request row ≡ Err error.SlowDown →

@@ -15,16 +15,16 @@ use Rattle.pulsar_calls.specs.declared.act.End.TheVariants.{Overdue, Idles}
 use Rattle.pulsar_calls.specs.declared.act.LinkAct.TheVariants.{Ends, Pings, Reads}
 use Rattle.pulsar_calls.specs.declared.act.Notice.{Notice}
 use Rattle.pulsar_calls.specs.declared.act.Part.TheVariants.{ToLink, Rings}
-use Rattle.pulsar_tables.specs.Alarms.{ringing}
+use Rattle.pulsar_links.specs.Alarms.{ringing}
 use Rattle.pulsar_calls.specs.Content.{Heard, Ticked}
 use Rattle.pulsar_calls.specs.Content.{numbers_from}
-use Rattle.pulsar_tables.specs.Rules.{at_once, brings, further, joins, parts, reads_on}
-use Rattle.pulsar_tables.specs.LinkRules.{due_part, on_link, over_links}
-use Rattle.pulsar_agenda.specs.Run.{Entry, Begins, Then, IsRun, rules, view}
-use Rattle.pulsar_tables.specs.View.{Options, View, is_live}
-use Rattle.pulsar_tables.specs.Seats.{Links, Seat, arrival_at}
-use Rattle.pulsar_agenda.proofs.Acts.{Each, each_append, each_either, each_map, over_each}
-use Rattle.pulsar_agenda.proofs.Raising.{IsRaised, raises}
+use Rattle.pulsar_acts.specs.Rules.{at_once, brings, further, joins, parts, reads_on}
+use Rattle.pulsar_links.specs.LinkRules.{due_part, on_link, over_links}
+use Rattle.pulsar_acts.specs.Run.{Entry, Begins, Then, IsRun, rules, view}
+use Rattle.pulsar_acts.specs.View.{Options, View, is_live}
+use Rattle.pulsar_links.specs.Seats.{Links, Seat, arrival_at}
+use Rattle.pulsar_client.proofs.Acts.{Each, each_append, each_either, each_map, over_each}
+use Rattle.pulsar_client.proofs.Raising.{IsRaised, raises}
 
 -- WHAT IS IN A LIST
 

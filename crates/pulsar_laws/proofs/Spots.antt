@@ -19,16 +19,16 @@ use Rattle.pulsar_procedures.specs.declared.plan.Turn.{Turn}
 use Rattle.pulsar_procedures.specs.declared.plan.Turn.TheVariants.{Stays, Gives}
 use Rattle.pulsar_procedures.specs.Plan.{begins, told}
 use Rattle.pulsar_producer_table.specs.Producers.{link_at, next_batch_at}
-use Rattle.pulsar_tables.specs.Rules.{at_once, does, finds, follows, follows_some, tells}
-use Rattle.pulsar_tables.specs.LinkRules.{told_at}
-use Rattle.pulsar_agenda.specs.Run.{Entry, Begins, Then, IsRun, agenda, rules, view}
+use Rattle.pulsar_acts.specs.Rules.{at_once, does, finds, follows, follows_some, tells}
+use Rattle.pulsar_links.specs.LinkRules.{told_at}
+use Rattle.pulsar_acts.specs.Run.{Entry, Begins, Then, IsRun, agenda, rules, view}
 use Rattle.pulsar_agenda.specs.Agenda.{Agenda, first}
-use Rattle.pulsar_tables.specs.View.{Options, View, stand_after, stays, stays_some, told_some}
-use Rattle.pulsar_tables.specs.Seats.{answer_at}
+use Rattle.pulsar_acts.specs.View.{Options, View, stand_after, stays, stays_some, told_some}
+use Rattle.pulsar_links.specs.Seats.{answer_at}
 use Rattle.pulsar_calls.specs.Who.{is_same}
 use Rattle.pulsar_outgoing.specs.declared.news.News.TheVariants as news
 use Rattle.pulsar_calls.specs.declared.act.Procedure.TheVariants as procedure
-use Rattle.pulsar_agenda.proofs.Acts.{begun_same, none_now}
+use Rattle.pulsar_client.proofs.Acts.{begun_same, none_now}
 use Rattle.pulsar_laws.proofs.Fitting.{Fits, Holds, Keeps, Leaves, Nowhere, Reports, Spot, Stores, Usual, begins_fits, fits, is_own, is_quick, is_stop, spot, told_fits}
 pub use Rattle.pulsar_laws.proofs.Same.{same_self, same_who}
 

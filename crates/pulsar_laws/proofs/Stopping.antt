@@ -29,26 +29,26 @@ use Rattle.pulsar_calls.specs.declared.act.Part.TheVariants.{Calls, ToLink, Ring
 use Rattle.pulsar_calls.specs.declared.act.Procedure.{Procedure}
 use Rattle.pulsar_calls.specs.declared.act.Who.{Who}
 use Rattle.pulsar_calls.specs.declared.act.Who.TheVariants.{Call}
-use Rattle.pulsar_tables.specs.declared.addresses.Pause.{Pause}
-use Rattle.pulsar_tables.specs.declared.addresses.Series.{Series}
-use Rattle.pulsar_tables.specs.declared.addresses.Series.TheVariants.{Nobody, Runs, Pauses, Serves}
+use Rattle.pulsar_links.specs.declared.addresses.Pause.{Pause}
+use Rattle.pulsar_links.specs.declared.addresses.Series.{Series}
+use Rattle.pulsar_links.specs.declared.addresses.Series.TheVariants.{Nobody, Runs, Pauses, Serves}
 use Rattle.pulsar_procedures.specs.declared.plan.Plan.{Plan}
 use Rattle.pulsar_plans.specs.declared.turn.Ways.{Ways}
-use Rattle.pulsar_tables.specs.Alarms.{clear, rings}
+use Rattle.pulsar_links.specs.Alarms.{clear, rings}
 use Rattle.pulsar_calls.specs.Content.{Asked, Bytes, Heard, lacks_tickets, shares}
 use Rattle.pulsar_laws.specs.Laws.{stopped}
 use Rattle.pulsar_laws.specs.AddressLaws.{NoneAfterStop}
-use Rattle.pulsar_tables.specs.Links.{line_places}
+use Rattle.pulsar_links.specs.Links.{line_places}
 use Rattle.pulsar_calls.specs.Content.{numbers_from}
 use Rattle.pulsar_procedures.specs.Plan.{fails, verdict}
-use Rattle.pulsar_tables.specs.Rules.{closes, gathers, asks_topics, at_once, builds_with, called, causes, failed_on, follows_some, from_base, notice, procedure_for, searches, stopped_with, tells, unless_refused, waiters_of, asks_raw, checks, flushes, joins, left_with, parts_of, produces, sends, shares_unless, starts, stopped_one, why_no_sends}
-use Rattle.pulsar_tables.specs.LinkRules.{dropped, ended_on, failed_at, failed_over, lost, on_link, over_links, stop_act, stopped_at, tells_asker}
+use Rattle.pulsar_acts.specs.Rules.{closes, gathers, asks_topics, at_once, builds_with, called, causes, failed_on, follows_some, from_base, notice, procedure_for, searches, stopped_with, tells, unless_refused, waiters_of, asks_raw, checks, flushes, joins, left_with, parts_of, produces, sends, shares_unless, starts, stopped_one, why_no_sends}
+use Rattle.pulsar_links.specs.LinkRules.{dropped, ended_on, failed_at, failed_over, lost, on_link, over_links, stop_act, stopped_at, tells_asker}
 use Rattle.pulsar_calls.specs.Order.{below, opens}
 use Rattle.pulsar_producer_table.specs.Notices.{stopped_all, stopped_call}
-use Rattle.pulsar_agenda.specs.Run.{Entry, Begins, Then, IsRun, agenda, rules, view}
+use Rattle.pulsar_acts.specs.Run.{Entry, Begins, Then, IsRun, agenda, rules, view}
 use Rattle.pulsar_agenda.specs.Agenda.{Agenda, first}
-use Rattle.pulsar_tables.specs.View.{after, Options, Tickets, View, alarms_after, alarms_built, alarms_on, alarms_over, begun, begun_live, builds, calls_after, is_live, link_got, live_after, live_begun, pause_after, pause_of, pause_on, pause_rung, told_some, turned_by, ways_of, Chosen, may_call, producers_after, producers_made, producers_rung, stand_after, stays_some, consumers_after, consumers_made}
-use Rattle.pulsar_tables.specs.Seats.{Addresses, Base, Links, Seat, got_at, pause_put, took_some, arrival_at, closing}
+use Rattle.pulsar_acts.specs.View.{after, Options, Tickets, View, alarms_after, alarms_built, alarms_on, alarms_over, begun, begun_live, builds, calls_after, is_live, link_got, live_after, live_begun, pause_after, pause_of, pause_on, pause_rung, told_some, turned_by, ways_of, Chosen, may_call, producers_after, producers_made, producers_rung, stand_after, stays_some, consumers_after, consumers_made}
+use Rattle.pulsar_links.specs.Seats.{Addresses, Base, Links, Seat, got_at, pause_put, took_some, arrival_at, closing}
 use Rattle.pulsar_producer_table.specs.declared.table.Topic.{Topic}
 use Rattle.pulsar_outgoing.specs.Storage.{Item}
 use Rattle.pulsar_producer.specs.Topic.{Halts, Seen, TakesBatch, left_of, next_of}
@@ -64,13 +64,13 @@ use Rattle.pulsar_calls.specs.declared.act.Procedure.TheVariants as procedure
 use Rattle.pulsar_plans.specs.declared.plan.Procedure.TheVariants as sought
 use Rattle.pulsar_calls.specs.Content as content
 use Rattle.pulsar_laws.proofs.Asked.{stop_clear}
-use Rattle.pulsar_agenda.proofs.Acts.{Each, begun_same, each_append, each_either, each_flat, each_map, first_case, none_now, over_each}
+use Rattle.pulsar_client.proofs.Acts.{Each, begun_same, each_append, each_either, each_flat, each_map, first_case, none_now, over_each}
 use Rattle.pulsar_laws.proofs.Attempts.{is_dial}
 use Rattle.pulsar_laws.proofs.Keepers.{Keeps, RowSo, batch_keeps, ends_settled, settled_some}
 use Rattle.pulsar_laws.proofs.Spots.{calm_stop, same_self, same_who, spot_of}
 use Rattle.pulsar_laws.proofs.LastWords.{AreLast, batch_fine, batch_some, batch_told, calm_fine, each_last, ends_fine, ends_some, is_fine, is_last_word, is_leaving, IsLast, IsLastNotice, IsLate, IsParting, last_append, last_rest, last_some, left_fine, left_some, makes_nothing, settling_told, some_fine, taking_told}
 use Rattle.pulsar_consumer_table.specs.Notices.{heard_at, lost_at}
-use Rattle.pulsar_tables.specs.Reading.{acknowledges, leaves, lost_on, made_due, stopped_on, subscribes}
+use Rattle.pulsar_acts.specs.Reading.{acknowledges, leaves, lost_on, made_due, stopped_on, subscribes}
 use Rattle.pulsar_consumer_table.specs.Consumers.{Consumers, Member, hears, loses_by, member_after, over_rows}
 use Rattle.pulsar_laws.proofs.Members.{Gone, called_rows, gone_map, heard_gone, left_rows, loss_gone, no_due, no_loss, poll_gone, there_each}
 use Rattle.pulsar_laws.proofs.Wording.{IsStoppedWord, is_stopped_word, rows_each, stopped_words}

@@ -25,8 +25,8 @@ use Rattle.pulsar_calls.specs.declared.act.Share.{Share}
 use Rattle.pulsar_calls.specs.declared.act.Verdict.{Verdict}
 use Rattle.pulsar_calls.specs.declared.act.Who.{Who}
 use Rattle.pulsar_calls.specs.declared.act.Who.TheVariants.{Call, Producer, Consumer}
-use Rattle.pulsar_tables.specs.declared.addresses.Series.{Series}
-use Rattle.pulsar_tables.specs.declared.addresses.Series.TheVariants.{Nobody, Runs, Pauses, Serves}
+use Rattle.pulsar_links.specs.declared.addresses.Series.{Series}
+use Rattle.pulsar_links.specs.declared.addresses.Series.TheVariants.{Nobody, Runs, Pauses, Serves}
 use Rattle.pulsar_procedures.specs.declared.plan.Plan.{Plan}
 use Rattle.pulsar_procedures.specs.declared.plan.Turn.{Turn}
 use Rattle.pulsar_procedures.specs.declared.plan.Turn.TheVariants.{Stays, Gives}
@@ -34,18 +34,18 @@ use Rattle.pulsar_producer_table.specs.declared.table.Topic.{Topic}
 use Rattle.pulsar_laws.specs.Laws.{counted, start_of}
 use Rattle.pulsar_procedures.specs.Plan.{action_of, begins, closed_notice, told}
 use Rattle.pulsar_producer_table.specs.Producers.{drawn, is_settled_at, is_woken, link_at, number_drawn, numbers_at, recalled, stored_by, turn_passed, turn_taken}
-use Rattle.pulsar_tables.specs.Rules.{at_once, causes, draw_outcome, draw_said, finds, gets_from, grants, joins, notice, number_said, performs, readied, ready_notice, recalls, takes_turn, tells, turn_notice}
-use Rattle.pulsar_tables.specs.LinkRules.{over_links, stop_act, told_at}
+use Rattle.pulsar_acts.specs.Rules.{at_once, causes, draw_outcome, draw_said, finds, gets_from, grants, joins, notice, number_said, performs, readied, ready_notice, recalls, takes_turn, tells, turn_notice}
+use Rattle.pulsar_links.specs.LinkRules.{over_links, stop_act, told_at}
 use Rattle.pulsar_calls.specs.Order.{below}
-use Rattle.pulsar_agenda.specs.Run.{Entry, Begins, Then, IsRun, agenda, rules, view}
-use Rattle.pulsar_tables.specs.View.{Options, View, room_of, stays, stays_some, told_some}
-use Rattle.pulsar_tables.specs.Seats.{answer_at}
+use Rattle.pulsar_acts.specs.Run.{Entry, Begins, Then, IsRun, agenda, rules, view}
+use Rattle.pulsar_acts.specs.View.{Options, View, room_of, stays, stays_some, told_some}
+use Rattle.pulsar_links.specs.Seats.{answer_at}
 use Rattle.pulsar_calls.specs.Who.{is_same, turn_of, ticket_of}
 use Rattle.pulsar_producer.specs.Topic as topic
 use Rattle.pulsar_producer.specs.declared.deed.Deed.{Deed}
 use Rattle.pulsar_producer.specs.declared.deed.Deed.TheVariants as deed
 use Rattle.pulsar_plans.specs.declared.turn.Action.TheVariants as wish
-use Rattle.pulsar_agenda.proofs.Acts.{Each, begun_same, each_append, each_either, over_each}
+use Rattle.pulsar_client.proofs.Acts.{Each, begun_same, each_append, each_either, over_each}
 use Rattle.pulsar_laws.proofs.Drawing.{Every, here}
 use Rattle.pulsar_laws.proofs.Follow.{same_is}
 use Rattle.pulsar_laws.proofs.Batchers.{batcher_does}
@@ -55,14 +55,14 @@ use Rattle.pulsar_laws.proofs.InTurn.{self_same, stand_starts, stand_told}
 use Rattle.pulsar_laws.proofs.Natures.{StaysSo}
 use Rattle.pulsar_laws.proofs.Once.{ends_once_lem}
 use Rattle.pulsar_laws.proofs.Parted.{parts_at, parts_more, starts_part}
-use Rattle.pulsar_agenda.proofs.Raising.{IsRaised, raises}
+use Rattle.pulsar_client.proofs.Raising.{IsRaised, raises}
 use Rattle.pulsar_laws.proofs.Sharing.{SharesSo, TicketSo, begins_shares, share_in, shares_of, told_shares}
 use Rattle.pulsar_laws.proofs.Turns.{sum, sum_append, sum_none, sum_put_all}
 use Rattle.pulsar_laws.proofs.Servers.{server_does}
 use Rattle.pulsar_laws.proofs.Consuming.{is_modest}
 use Rattle.pulsar_laws.proofs.Wording.{IsWord, is_word, is_worded, joins_words}
 use Rattle.pulsar_calls.specs.declared.act.Part.TheVariants.{Polls}
-use Rattle.pulsar_tables.specs.Reading.{numbering_said, recalled_said, sought_said}
+use Rattle.pulsar_acts.specs.Reading.{numbering_said, recalled_said, sought_said}
 use Rattle.pulsar_consumer_table.specs.declared.numbers.Numbering.{Numbering}
 use Rattle.pulsar_consumer_table.specs.declared.numbers.Numbering.TheVariants.{Has, InUse, Spent}
 use Rattle.pulsar_consumer_table.specs.declared.row.Sought.{Sought}

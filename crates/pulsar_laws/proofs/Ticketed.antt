@@ -24,19 +24,19 @@ use Rattle.pulsar_procedures.specs.declared.plan.Turn.TheVariants.{Stays, Gives}
 use Rattle.pulsar_calls.specs.Content as content
 use Rattle.pulsar_calls.specs.Content.{Asked, Heard, lacks_tickets, shares}
 use Rattle.pulsar_procedures.specs.Plan.{begins, told}
-use Rattle.pulsar_tables.specs.Rules.{at_once, called, does, follows, follows_some, performs}
-use Rattle.pulsar_agenda.specs.Run.{Entry, Begins, Then, IsRun, agenda, view}
+use Rattle.pulsar_acts.specs.Rules.{at_once, called, does, follows, follows_some, performs}
+use Rattle.pulsar_acts.specs.Run.{Entry, Begins, Then, IsRun, agenda, view}
 use Rattle.pulsar_agenda.specs.Agenda.{first}
 use Rattle.pulsar_consumer_table.specs.Consumers as consumer
 use Rattle.pulsar_consumer_table.specs.Consumers.{Consumers, Member, called_on, drew, holds, names_in, next_free, numbered, numbering, opened_on}
 use Rattle.pulsar_consumer_table.specs.declared.numbers.Numbering.{Numbering}
 use Rattle.pulsar_consumer_table.specs.declared.numbers.Numbering.TheVariants.{Has as HasNumber, InUse, Spent}
 use Rattle.pulsar_link.specs.Request.{named_consumer}
-use Rattle.pulsar_tables.specs.View.{Options, View, consumers_after, consumers_left, consumers_made, drawn_after, joins_as, may_call, stand_after, stays_some, told_some}
+use Rattle.pulsar_acts.specs.View.{Options, View, consumers_after, consumers_left, consumers_made, drawn_after, joins_as, may_call, stand_after, stays_some, told_some}
 use Rattle.pulsar_calls.specs.Who.{is_same, ticket_of}
-use Rattle.pulsar_agenda.proofs.Acts.{Each, StartsIn, begun_same, called_each, each_append, each_first, each_map, each_rest, is_served}
+use Rattle.pulsar_client.proofs.Acts.{Each, StartsIn, begun_same, called_each, each_append, each_first, each_map, each_rest, is_served}
 use Rattle.pulsar_laws.proofs.Quiet.{IsQuiet, comes_quiet, performs_quiet}
-use Rattle.pulsar_agenda.proofs.Raising.{IsRaised, raises}
+use Rattle.pulsar_client.proofs.Raising.{IsRaised, raises}
 
 -- a call whose ticket is not the greatest, or another than a call
 abbrev pub Began : Who → Type 0

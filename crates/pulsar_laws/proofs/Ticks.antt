@@ -21,20 +21,20 @@ use Rattle.pulsar_calls.specs.declared.act.LinkAct.TheVariants.{Ends}
 use Rattle.pulsar_calls.specs.declared.act.Part.{Part}
 use Rattle.pulsar_calls.specs.declared.act.Part.TheVariants.{ToLink, Rings}
 use Rattle.pulsar_calls.specs.declared.act.Who.TheVariants.{Call, Producer, Consumer}
-use Rattle.pulsar_tables.specs.declared.addresses.Pause.{Pause}
+use Rattle.pulsar_links.specs.declared.addresses.Pause.{Pause}
 use Rattle.pulsar_producer_table.specs.declared.table.Topic.{Topic}
 use Rattle.pulsar_calls.specs.Who.{turn_of}
-use Rattle.pulsar_tables.specs.Alarms.{alarm_cmp, clear, is_same_alarm, ringing, rings, set}
+use Rattle.pulsar_links.specs.Alarms.{alarm_cmp, clear, is_same_alarm, ringing, rings, set}
 use Rattle.pulsar_calls.specs.Order.{is_before3}
 use Rattle.pulsar_laws.specs.Laws.{TicksInOrder, part_below, part_rank}
-use Rattle.pulsar_tables.specs.Links.{Change, Remains, Becomes, IsOver}
+use Rattle.pulsar_links.specs.Links.{Change, Remains, Becomes, IsOver}
 use Rattle.pulsar_calls.specs.Content.{numbers_from}
 use Rattle.pulsar_producer_table.specs.Producers.{is_bare, numbers_at, timeout_at, topic_after}
-use Rattle.pulsar_tables.specs.LinkRules.{due_part, on_link, over_links}
-use Rattle.pulsar_agenda.specs.Run.{Entry, Begins, Then, view}
-use Rattle.pulsar_tables.specs.View.{Chosen, Options, Turned, View, alarms_after, alarms_on, alarms_on_topic, alarms_over, alarms_rung, alarms_turned, alarms_waiting, builds, clear_all, delay_of, idle_period, turned, waits_from}
-use Rattle.pulsar_tables.specs.Seats.{Seat, later}
-use Rattle.pulsar_agenda.proofs.Acts.{Each, begun_same, each_append, each_map}
+use Rattle.pulsar_links.specs.LinkRules.{due_part, on_link, over_links}
+use Rattle.pulsar_acts.specs.Run.{Entry, Begins, Then, view}
+use Rattle.pulsar_acts.specs.View.{Chosen, Options, Turned, View, alarms_after, alarms_on, alarms_on_topic, alarms_over, alarms_rung, alarms_turned, alarms_waiting, builds, clear_all, delay_of, idle_period, turned, waits_from}
+use Rattle.pulsar_links.specs.Seats.{Seat, later}
+use Rattle.pulsar_client.proofs.Acts.{Each, begun_same, each_append, each_map}
 use Rattle.pulsar_agenda.proofs.Orders.{one_way3, chain3}
 use Rattle.pulsar_agenda.proofs.Sorting.{cmp3, lt3}
 

@@ -20,12 +20,12 @@ use Rattle.pulsar_calls.specs.declared.act.Who.{Who}
 use Rattle.pulsar_producer_table.specs.declared.table.Topic.{Topic}
 use Rattle.pulsar_producer_table.specs.Producers.{Producers, changed, made_of, numbers_at, shut_all, topic_after, with_topic, with_topics}
 use Rattle.pulsar_laws.specs.ProducerLaws.{TopicsAlone, acts_on, drawn_by, rung_by, shut_by, topic_acts}
-use Rattle.pulsar_agenda.specs.Run.{Entry, Begins, Then, IsRun, view}
-use Rattle.pulsar_tables.specs.Alarms.{rings}
-use Rattle.pulsar_tables.specs.View.{Options, View, draws_on, producers_made, producers_rung, room_of}
-use Rattle.pulsar_tables.specs.View as seen
+use Rattle.pulsar_acts.specs.Run.{Entry, Begins, Then, IsRun, view}
+use Rattle.pulsar_links.specs.Alarms.{rings}
+use Rattle.pulsar_acts.specs.View.{Options, View, draws_on, producers_made, producers_rung, room_of}
+use Rattle.pulsar_acts.specs.View as seen
 use Rattle.pulsar_calls.specs.Who.{rank, turn_of}
-use Rattle.pulsar_agenda.proofs.Acts.{begun_same, chosen_same}
+use Rattle.pulsar_client.proofs.Acts.{begun_same, chosen_same}
 use Rattle.pulsar_laws.proofs.Drawing.{Every, Drawn, Joins, built_topics, called_kept, drawn_run, joined_row, joins_new, row_from}
 
 -- what acts make of one, the newest first

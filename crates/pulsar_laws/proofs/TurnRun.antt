@@ -29,11 +29,11 @@ use Rattle.pulsar_calls.specs.Content.{Heard}
 use Rattle.pulsar_procedures.specs.Plan.{told}
 use Rattle.pulsar_producer_table.specs.Producers.{Producers, topic_after, turn_passed}
 use Rattle.pulsar_laws.specs.ProducerLaws.{HasTurn, PassedInTurn, QueuedInTurn, ToldInTurn, acts_on, turn_of}
-use Rattle.pulsar_tables.specs.Rules.{at_once, grants, notice, takes_turn, turn_notice}
-use Rattle.pulsar_agenda.specs.Run.{Entry, Begins, Then, IsRun, view}
-use Rattle.pulsar_tables.specs.View.{Options}
+use Rattle.pulsar_acts.specs.Rules.{at_once, grants, notice, takes_turn, turn_notice}
+use Rattle.pulsar_acts.specs.Run.{Entry, Begins, Then, IsRun, view}
+use Rattle.pulsar_acts.specs.View.{Options}
 use Rattle.pulsar_calls.specs.Who.{behind_all, in_turn, is_same, turn_of as taken_as}
-use Rattle.pulsar_agenda.proofs.Acts.{begun_same}
+use Rattle.pulsar_client.proofs.Acts.{begun_same}
 use Rattle.pulsar_laws.proofs.Drawing.{Every, here}
 use Rattle.pulsar_laws.proofs.Holding.{holds, is_turn_told}
 use Rattle.pulsar_laws.proofs.InTurn.{AllTurns, IsAt, IsPassing, IsPending, IsTaking, IsTicket, OwnTurns, Turns, at_most_none, leaving_none, not_all, own_taking, own_waits, passing, self_same, stood_begun, stood_ticket, taking, who_same}

@@ -23,18 +23,18 @@ use Rattle.pulsar_calls.specs.declared.act.Who.{Who}
 use Rattle.pulsar_producer_table.specs.declared.table.Topic.{Topic}
 use Rattle.pulsar_producer_table.specs.Producers.{is_woken, numbers_at, stored_by}
 use Rattle.pulsar_laws.specs.ProducerLaws.{HasTurn, drawn_by, rung_by, shut_by, topic_acts}
-use Rattle.pulsar_tables.specs.Rules.{at_once, joins, performs, readied, ready_notice}
+use Rattle.pulsar_acts.specs.Rules.{at_once, joins, performs, readied, ready_notice}
 use Rattle.pulsar_calls.specs.Order.{below}
-use Rattle.pulsar_agenda.specs.Run.{Entry, Then, IsRun, agenda, rules, view}
-use Rattle.pulsar_tables.specs.View.{Options, View, room_of}
-use Rattle.pulsar_tables.specs.Alarms.{rings}
+use Rattle.pulsar_acts.specs.Run.{Entry, Then, IsRun, agenda, rules, view}
+use Rattle.pulsar_acts.specs.View.{Options, View, room_of}
+use Rattle.pulsar_links.specs.Alarms.{rings}
 use Rattle.pulsar_procedures.specs.Plan.{closed_notice}
 use Rattle.pulsar_calls.specs.Who.{is_same, turn_of as taken_as}
-use Rattle.pulsar_agenda.proofs.Acts.{Each, each_either}
+use Rattle.pulsar_client.proofs.Acts.{Each, each_either}
 use Rattle.pulsar_laws.proofs.Drawing.{here}
 use Rattle.pulsar_laws.proofs.Granted.{GivenBy, GivesSo, IsFree, SaysSo, all_free, clean_run, gives_so, is_given, tell_free}
 use Rattle.pulsar_laws.proofs.Holding.{is_turn_told}
-use Rattle.pulsar_agenda.proofs.Raising.{IsRaised, raises}
+use Rattle.pulsar_client.proofs.Raising.{IsRaised, raises}
 use Rattle.pulsar_laws.proofs.Topics.{all_after}
 use Rattle.pulsar_laws.proofs.Wording.{IsWord, is_word, is_worded, joins_words}
 

@@ -36,16 +36,16 @@ use Rattle.pulsar_calls.specs.declared.act.Part.TheVariants.{ToLink}
 use Rattle.pulsar_calls.specs.declared.act.Who.{Who}
 use Rattle.pulsar_calls.specs.Content.{Heard, Bytes}
 use Rattle.pulsar_laws.specs.Laws.{FramesAreCut, calls_of, dialed_with}
-use Rattle.pulsar_tables.specs.Links.{arrives, closed_by}
-use Rattle.pulsar_tables.specs.Rules.{at_once, breaks_at, brings, further, reads_on}
-use Rattle.pulsar_agenda.specs.Run.{Entry, Begins, Then, IsRun, agenda, rules, view}
+use Rattle.pulsar_links.specs.Links.{arrives, closed_by}
+use Rattle.pulsar_acts.specs.Rules.{at_once, breaks_at, brings, further, reads_on}
+use Rattle.pulsar_acts.specs.Run.{Entry, Begins, Then, IsRun, agenda, rules, view}
 use Rattle.pulsar_agenda.specs.Agenda.{first}
-use Rattle.pulsar_tables.specs.View.{Options, begun_live, dialed, is_dialing, is_live, link_got, live_begun}
-use Rattle.pulsar_tables.specs.Seats.{Seat, arrival_at, got_at, seat_asked, seat_got, took_end, took_some}
+use Rattle.pulsar_acts.specs.View.{Options, begun_live, dialed, is_dialing, is_live, link_got, live_begun}
+use Rattle.pulsar_links.specs.Seats.{Seat, arrival_at, got_at, seat_asked, seat_got, took_end, took_some}
 use Rattle.pulsar_wire.specs.declared.key.RequestKey.TheVariants as keys
 use Rattle.pulsar_session.specs.Link as session
 use Rattle.pulsar_calls.specs.declared.act.Arrival.TheVariants as arrivals
-use Rattle.pulsar_agenda.proofs.Acts.{none_now}
+use Rattle.pulsar_client.proofs.Acts.{none_now}
 use Rattle.pulsar_laws.proofs.Alone.{Made, alone, no_some, some_is}
 
 -- A CONNECTION THAT IS DIALED HAS NOTHING UNREAD

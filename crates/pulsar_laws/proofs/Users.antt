@@ -82,16 +82,16 @@ use Rattle.pulsar_procedures.specs.declared.plan.Plan.TheVariants.{Building, Get
 use Rattle.pulsar_procedures.specs.declared.plan.Turn.{Turn}
 use Rattle.pulsar_procedures.specs.declared.plan.Turn.TheVariants.{Stays, Gives}
 use Rattle.pulsar_producer_table.specs.declared.table.Topic.{Topic}
-use Rattle.pulsar_tables.specs.Alarms.{rings}
+use Rattle.pulsar_links.specs.Alarms.{rings}
 use Rattle.pulsar_procedures.specs.Plan.{action_of, asks_of, batches_on, begins, builds, fails_in, gathers, goes, goes_on_sending, goes_round, halted, is_answer, is_settled as round_settled, leaves, news_in, news_of, overrides, sends_stay, stored, told, told_at, told_to, visited, visits, wished}
 use Rattle.pulsar_producer.specs.Batching.{is_sent_send}
 use Rattle.pulsar_laws.specs.ProducerLaws.{acts_on, drawn_by, rung_by, shut_by, topic_acts}
 use Rattle.pulsar_producer_table.specs.Producers.{next_batch_at, numbers_at}
-use Rattle.pulsar_tables.specs.Rules.{notice}
-use Rattle.pulsar_agenda.specs.Run.{Entry, Begins, Then, IsRun, view}
-use Rattle.pulsar_tables.specs.View.{Options, View, room_of, stays, stays_some, told_some}
+use Rattle.pulsar_acts.specs.Rules.{notice}
+use Rattle.pulsar_acts.specs.Run.{Entry, Begins, Then, IsRun, view}
+use Rattle.pulsar_acts.specs.View.{Options, View, room_of, stays, stays_some, told_some}
 use Rattle.pulsar_calls.specs.Who.{is_same, turn_of}
-use Rattle.pulsar_agenda.proofs.Acts.{Each, begun_same, each_append, each_either}
+use Rattle.pulsar_client.proofs.Acts.{Each, begun_same, each_append, each_either}
 use Rattle.pulsar_laws.proofs.Batched.{StepWithin, is_outer, step_within}
 use Rattle.pulsar_laws.proofs.Granted.{BeginsSo, GivenBy, IsGrantedBy, IsLedSo, does_from, granted_by, grants_given}
 use Rattle.pulsar_laws.proofs.Natures.{Goes as KindGoes, KindBegun, KindOf, StaysSo, begins_goes, either_so, is_batching, told_goes}

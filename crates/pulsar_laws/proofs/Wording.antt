@@ -24,11 +24,11 @@ use Rattle.pulsar_consumer_table.specs.Consumers as consumer
 use Rattle.pulsar_consumer_table.specs.Consumers.{Consumers, Member, at_row, over_rows}
 use Rattle.pulsar_calls.specs.Notices.{stopped_one}
 use Rattle.pulsar_consumer_table.specs.Notices.{again, again_at, due_at, due_to, heard_at, lost_at, polled_due, revived_at, stopped_seekers, word_notice, word_to}
-use Rattle.pulsar_tables.specs.Reading.{closed_at, heard_on, lost_on, made_due, stopped_on}
-use Rattle.pulsar_tables.specs.Rules.{joins}
-use Rattle.pulsar_tables.specs.View.{View, member_on, setup_of}
-use Rattle.pulsar_tables.specs.Seats.{Seat, answer_at, arrival_at, closing, is_asked, url_at}
-use Rattle.pulsar_agenda.proofs.Acts.{Each, each_append, each_flat}
+use Rattle.pulsar_acts.specs.Reading.{closed_at, heard_on, lost_on, made_due, stopped_on}
+use Rattle.pulsar_acts.specs.Rules.{joins}
+use Rattle.pulsar_acts.specs.View.{View, member_on, setup_of}
+use Rattle.pulsar_links.specs.Seats.{Seat, answer_at, arrival_at, closing, is_asked, url_at}
+use Rattle.pulsar_client.proofs.Acts.{Each, each_append, each_flat}
 
 -- whatever each consumer gives
 pub rows_each : {A : Type 0} (P : A → Type 0) (f : ℕ → Member → List A) (cs : Consumers) → ((t : ℕ) (m : Member) → Each P (f t m)) → Each P (over_rows f cs)

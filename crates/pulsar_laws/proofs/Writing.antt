@@ -9,7 +9,7 @@ use Rattle.pulsar_session.specs.Link.{Act, Seen, Setup, frame_at, is_over, seen}
 use Rattle.pulsar_session.proofs.Placing.{frame_of_place}
 use Rattle.pulsar_session.proofs.Settled.{places_count, written_in_order}
 use Rattle.pulsar_calls.specs.Content.{Shown, Queued}
-use Rattle.pulsar_tables.specs.Links.{queues, queues_at}
+use Rattle.pulsar_links.specs.Links.{queues, queues_at}
 use Rattle.pulsar_calls.specs.Content.{numbers_from}
 
 -- frames that are queued one after the other, from a place on

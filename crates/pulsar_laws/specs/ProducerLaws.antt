@@ -38,7 +38,7 @@ use Rattle.pulsar_calls.specs.declared.act.Act.{Act}
 use Rattle.pulsar_calls.specs.declared.act.Act.TheVariants.{Comes, Told, Does}
 use Rattle.pulsar_calls.specs.declared.act.Alarm.TheVariants.{Batch}
 use Rattle.pulsar_calls.specs.declared.act.Part.TheVariants.{Rings}
-use Rattle.pulsar_tables.specs.Alarms.{rings}
+use Rattle.pulsar_links.specs.Alarms.{rings}
 use Rattle.pulsar_calls.specs.declared.act.Action.TheVariants.{Ask, TakeTurn, PassTurn, Draw, Remake, Shut, Store, Flush, TakeBatch, StopAll}
 use Rattle.pulsar_calls.specs.declared.act.Makes.TheVariants as makes
 use Rattle.pulsar_calls.specs.declared.act.Share.{Share}
@@ -53,14 +53,14 @@ use Rattle.pulsar_procedures.specs.declared.plan.Plan.{Plan}
 use Rattle.pulsar_procedures.specs.declared.plan.Plan.TheVariants as plan
 use Rattle.pulsar_producer_table.specs.declared.table.Topic.{Topic}
 use Rattle.pulsar_calls.specs.Content.{Said, Failed}
-use Rattle.pulsar_tables.specs.Links as links
+use Rattle.pulsar_links.specs.Links as links
 use Rattle.pulsar_calls.specs.Parts.{sent_from}
 use Rattle.pulsar_producer_table.specs.Producers.{number_drawn, numbers_at}
 use Rattle.pulsar_procedures.specs.Plan.{told}
-use Rattle.pulsar_tables.specs.Rules.{joins, notice}
-use Rattle.pulsar_agenda.specs.Run.{Entry, Begins, Then, IsRun, Rests, view}
-use Rattle.pulsar_tables.specs.View.{Options, View, room_of}
-use Rattle.pulsar_tables.specs.Seats.{Seat, answer_at}
+use Rattle.pulsar_acts.specs.Rules.{joins, notice}
+use Rattle.pulsar_acts.specs.Run.{Entry, Begins, Then, IsRun, Rests, view}
+use Rattle.pulsar_acts.specs.View.{Options, View, room_of}
+use Rattle.pulsar_links.specs.Seats.{Seat, answer_at}
 use Rattle.pulsar_calls.specs.Who.{in_turn, is_same, turn_of as taken_as}
 use Rattle.pulsar_laws.specs.Laws.{started, outcomes, deeds, Answered}
 

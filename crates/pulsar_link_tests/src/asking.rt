@@ -1,6 +1,6 @@
 //! Each raw call is copied, and asked for.
 
-use pulsar_tables::ask::ask;
+use pulsar_links::ask::ask;
 use pulsar_link::content::Request;
 use pulsar_link::{Authentication, ConsumerOptions, ProducerMessage, ProducerOptions, RawCall};
 use pulsar_session::{Asked, Connection};

@@ -2,9 +2,9 @@
 #![tactic(auto)]
 
 ghost use Rattle.std.specs.Prelude.{◌≡◌, ◌∷◌, ◌↔◌, [], IfOk, IsTrue, List};
-ghost use Rattle.pulsar_agenda.specs.Run.{Good, Step, view};
-ghost use Rattle.pulsar_tables.specs.View.{Options, Waits};
-ghost use Rattle.pulsar_tables.specs.Seats.{has_ended};
+ghost use Rattle.pulsar_acts.specs.Run.{Good, Step, view};
+ghost use Rattle.pulsar_acts.specs.View.{Options, Waits};
+ghost use Rattle.pulsar_links.specs.Seats.{has_ended};
 ghost use Rattle.pulsar_machine.specs.Machine.{step};
 
 mod from_url;

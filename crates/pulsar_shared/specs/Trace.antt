@@ -3,9 +3,9 @@ use Rattle.std.specs.Prelude.{◌≡◌, ◌≤◌, ◌||◌, ℕ, ◌+◌, Bool
 use Rattle.std.specs.Global.{Vec}
 use Rattle.pulsar_calls.specs.declared.event.Event.{Event}
 use Rattle.pulsar_calls.specs.declared.effect.Effect.{Effect}
-use Rattle.pulsar_agenda.specs.Run.{Good, Step, view}
-use Rattle.pulsar_tables.specs.View.{Options}
-use Rattle.pulsar_tables.specs.Seats.{has_ended}
+use Rattle.pulsar_acts.specs.Run.{Good, Step, view}
+use Rattle.pulsar_acts.specs.View.{Options}
+use Rattle.pulsar_links.specs.Seats.{has_ended}
 use Rattle.pulsar_machine.specs.Machine.{step}
 use Rattle.pulsar_pumps.specs.Made.{Made, OfLink, NoLink, Dialed, Came, WasLost, MayWrite, of_link}
 

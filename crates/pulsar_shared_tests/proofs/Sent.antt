@@ -74,9 +74,9 @@ use Rattle.pulsar_producer.proofs.sending.Errand.TheSendSync as producer-Errand
 use Rattle.pulsar_producer.specs.contracts.sending.Sending as producer-Sending
 use Rattle.pulsar_producer_table.proofs.table.Producers.TheSendSync as producer_table-Producers
 use Rattle.pulsar_pumps.specs.contracts.submitter.Receipt as pumps-Receipt
-use Rattle.pulsar_tables.proofs.addresses.Addresses.TheSendSync as tables-Addresses
-use Rattle.pulsar_tables.proofs.alarms.Alarms.TheSendSync as tables-Alarms
-use Rattle.pulsar_tables.proofs.links.Links.TheSendSync as tables-Links
+use Rattle.pulsar_links.proofs.addresses.Addresses.TheSendSync as tables-Addresses
+use Rattle.pulsar_links.proofs.alarms.Alarms.TheSendSync as tables-Alarms
+use Rattle.pulsar_links.proofs.links.Links.TheSendSync as tables-Links
 use Rattle.pulsar_wire.proofs.commands.ids.MessageIdData.TheSendSync as wire-MessageIdData
 
 pub wire-Error-field_send : IsSend (wire-Error.the_field).row

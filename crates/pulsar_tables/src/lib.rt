@@ -2,10 +2,3 @@
 //! itself; and what is seen of all that a client keeps, with the rules by which it changes.
 #![tactic(auto)]
 
-pub mod address;
-pub mod addresses;
-pub mod alarms;
-pub mod ask;
-pub mod due;
-pub mod links;
-pub mod row;

@@ -5,12 +5,12 @@ ghost use Rattle.pulsar_run.specs.Order.{arranged, put_all};
 ghost use Rattle.pulsar_producer_table.specs.KeptProducers.{producers_of};
 ghost use Rattle.pulsar_procedures.specs.Plan.{closed_notice};
 ghost use Rattle.pulsar_producer_table.specs.Producers.{is_bare, numbers_at, timeout_at};
-ghost use Rattle.pulsar_tables.specs.Rules.{batches_by, batches_from, batches_made, ready_notice, woken};
+ghost use Rattle.pulsar_acts.specs.Rules.{batches_by, batches_from, batches_made, ready_notice, woken};
 ghost use Rattle.pulsar_calls.specs.Order.{below, opens};
-ghost use Rattle.pulsar_agenda.specs.Run.{goes_on};
+ghost use Rattle.pulsar_acts.specs.Run.{goes_on};
 ghost use Rattle.pulsar_agenda.specs.Agenda.{agenda_of};
 ghost use Rattle.pulsar_acts.specs.Tables.{chosen_of, rung_view, view_of};
-ghost use Rattle.pulsar_tables.specs.View.{after, alarms_waiting, clear_all, producers_rung, ways_of};
+ghost use Rattle.pulsar_acts.specs.View.{after, alarms_waiting, clear_all, producers_rung, ways_of};
 ghost use Rattle.pulsar_calls.specs.declared.act.Act.{Act};
 
 use crate::tables::Tables;

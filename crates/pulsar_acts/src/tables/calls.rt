@@ -2,19 +2,19 @@
 
 ghost use Rattle.std.specs.Prelude.{◌≡◌, ◌+◌, ◌&&◌, ◌++◌, ◌∷◌, not, map, IfOk, MatchBool, None, Some, OnOk, string_bytes, true, false, if◌then◌else◌};
 ghost use Rattle.pulsar_calls.specs.Content.{Build, asked, lacks_tickets, shares, shown};
-ghost use Rattle.pulsar_tables.specs.Effects.{effects, ends};
+ghost use Rattle.pulsar_acts.specs.Effects.{effects, ends};
 ghost use Rattle.pulsar_link.specs.RawCall.{words_of};
 ghost use Rattle.pulsar_link.specs.Request.{named_consumer, named_producer};
 ghost use Rattle.pulsar_consumer_table.specs.Consumers as consumer;
 ghost use Rattle.pulsar_producer_table.specs.Producers.{called_on, names_in, opened_on};
 ghost use Rattle.pulsar_calls.specs.Notices.{notice};
-ghost use Rattle.pulsar_tables.specs.Reading.{unless};
-ghost use Rattle.pulsar_tables.specs.Rules.{asks_raw, asks_topics, builds_with, does, follows, from_base, is_taken, parts_of, procedure_for, searches, taken_by, unless_refused};
-ghost use Rattle.pulsar_agenda.specs.Run.{goes_on, ticket_for};
+ghost use Rattle.pulsar_acts.specs.Reading.{unless};
+ghost use Rattle.pulsar_acts.specs.Rules.{asks_raw, asks_topics, builds_with, does, follows, from_base, is_taken, parts_of, procedure_for, searches, taken_by, unless_refused};
+ghost use Rattle.pulsar_acts.specs.Run.{goes_on, ticket_for};
 ghost use Rattle.pulsar_agenda.specs.Agenda.{agenda_of};
 ghost use Rattle.pulsar_acts.specs.Tables.{chosen_of, view_of};
 ghost use Rattle.pulsar_procedures.specs.Standing.{stand_of};
-ghost use Rattle.pulsar_tables.specs.View.{after, alarms_built, builds, may_call, stays, ways_of};
+ghost use Rattle.pulsar_acts.specs.View.{after, alarms_built, builds, may_call, stays, ways_of};
 ghost use Rattle.pulsar_calls.specs.Who.{is_same};
 ghost use Rattle.pulsar_calls.specs.declared.act.Who.{Who as Meant};
 
@@ -34,7 +34,7 @@ use pulsar_addresses::content::{Address, Text as Topic};
 use pulsar_plans::plan::Procedure as Sought;
 use pulsar_procedures::plan::{Plan, Turn, begins, failure, told};
 use pulsar_procedures::table::Plans;
-use pulsar_tables::addresses::Series;
+use pulsar_links::addresses::Series;
 use pulsar_wire::commands::topics::Mode;
 use pulsar_wire::error::{ConnectionError, NoMemory};
 use std::collections::VecDeque;

@@ -2,16 +2,16 @@
 
 ghost use Rattle.std.specs.Prelude.{◌≡◌, ◌++◌, map, OnOk};
 ghost use Rattle.pulsar_calls.specs.Content.{shown};
-ghost use Rattle.pulsar_tables.specs.Effects.{effects};
-ghost use Rattle.pulsar_tables.specs.Kept.{addresses_of, live_in};
-ghost use Rattle.pulsar_tables.specs.Rules.{breaks_at, reads_on, served_on, waiters_of};
-ghost use Rattle.pulsar_agenda.specs.Run.{goes_on};
+ghost use Rattle.pulsar_acts.specs.Effects.{effects};
+ghost use Rattle.pulsar_links.specs.Kept.{addresses_of, live_in};
+ghost use Rattle.pulsar_acts.specs.Rules.{breaks_at, reads_on, served_on, waiters_of};
+ghost use Rattle.pulsar_acts.specs.Run.{goes_on};
 ghost use Rattle.pulsar_consumer_table.specs.Consumers.{all_changed, hears, over_rows};
 ghost use Rattle.pulsar_consumer_table.specs.KeptConsumers.{consumers_in};
 ghost use Rattle.pulsar_consumer_table.specs.Notices.{heard_at};
 ghost use Rattle.pulsar_agenda.specs.Agenda.{agenda_of};
 ghost use Rattle.pulsar_acts.specs.Tables.{chosen_of, retry_set, retry_shown, turned_view, view_of, welcomed};
-ghost use Rattle.pulsar_tables.specs.View.{after};
+ghost use Rattle.pulsar_acts.specs.View.{after};
 
 use crate::tables::Tables;
 use crate::tables::alarms::later;
@@ -19,7 +19,7 @@ use pulsar_agenda::agenda::Tasks;
 use pulsar_calls::act::{Act, Alarm, Arrival, End, LinkAct, Notice, Part, Who};
 use pulsar_calls::effect::Effect;
 use pulsar_addresses::content::Address;
-use pulsar_tables::address::connect;
+use pulsar_links::address::connect;
 use pulsar_wire::error::NoMemory;
 
 impl Tables {

@@ -2,14 +2,14 @@
 
 ghost use Rattle.std.specs.Prelude.{◌≡◌, ◌∷◌, [], IfOk, OnOk};
 ghost use Rattle.std.specs.Option.{option_to_list};
-ghost use Rattle.pulsar_tables.specs.Kept.{live_in};
+ghost use Rattle.pulsar_links.specs.Kept.{live_in};
 ghost use Rattle.pulsar_producer_table.specs.KeptProducers.{producers_of};
 ghost use Rattle.pulsar_consumer_table.specs.KeptConsumers.{consumers_in, member_in};
 ghost use Rattle.pulsar_consumer_table.specs.Notices.{due_to};
-ghost use Rattle.pulsar_tables.specs.Reading.{made_due, serves_by};
-ghost use Rattle.pulsar_tables.specs.Rules.{left_with};
+ghost use Rattle.pulsar_acts.specs.Reading.{made_due, serves_by};
+ghost use Rattle.pulsar_acts.specs.Rules.{left_with};
 ghost use Rattle.pulsar_acts.specs.Tables.{chosen_of, view_of};
-ghost use Rattle.pulsar_tables.specs.View.{consumers_left, consumers_made, joins_as, member_on, producers_made, setup_of, ways_of};
+ghost use Rattle.pulsar_acts.specs.View.{consumers_left, consumers_made, joins_as, member_on, producers_made, setup_of, ways_of};
 ghost use Rattle.pulsar_calls.specs.Who.{ticket_of};
 
 use crate::tables::Tables;

@@ -4,13 +4,13 @@ ghost use Rattle.std.specs.Prelude.{◌≡◌, ◌++◌, OnOk, map};
 ghost use Rattle.std.specs.Option.{option_map, option_to_list};
 ghost use Rattle.pulsar_run.specs.Order.{put_all};
 ghost use Rattle.pulsar_wire.specs.Failures.{fault};
-ghost use Rattle.pulsar_tables.specs.Reading.{tells};
-ghost use Rattle.pulsar_tables.specs.Rules.{grants, turn_notice};
+ghost use Rattle.pulsar_acts.specs.Reading.{tells};
+ghost use Rattle.pulsar_acts.specs.Rules.{grants, turn_notice};
 ghost use Rattle.pulsar_calls.specs.Order.{below};
-ghost use Rattle.pulsar_agenda.specs.Run.{goes_on};
+ghost use Rattle.pulsar_acts.specs.Run.{goes_on};
 ghost use Rattle.pulsar_agenda.specs.Agenda.{agenda_of};
 ghost use Rattle.pulsar_acts.specs.Tables.{view_of};
-ghost use Rattle.pulsar_tables.specs.View.{after, room_of};
+ghost use Rattle.pulsar_acts.specs.View.{after, room_of};
 ghost use Rattle.pulsar_calls.specs.declared.act.Act.{Act};
 
 use crate::tables::Tables;

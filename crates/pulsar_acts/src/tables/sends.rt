@@ -9,11 +9,11 @@ ghost use Rattle.pulsar_producer_table.specs.KeptProducers.{producers_of};
 ghost use Rattle.pulsar_calls.specs.Content.{SendAll, lacks_tickets};
 ghost use Rattle.pulsar_calls.specs.declared.act.Action.{Action};
 ghost use Rattle.pulsar_producer_table.specs.Producers.{all_routed, routed, sent_on, why_not};
-ghost use Rattle.pulsar_tables.specs.Rules as rules;
-ghost use Rattle.pulsar_agenda.specs.Run.{goes_on};
+ghost use Rattle.pulsar_acts.specs.Rules as rules;
+ghost use Rattle.pulsar_acts.specs.Run.{goes_on};
 ghost use Rattle.pulsar_agenda.specs.Agenda.{agenda_of};
 ghost use Rattle.pulsar_acts.specs.Tables.{chosen_of, view_of};
-ghost use Rattle.pulsar_tables.specs.View.{after, may_call};
+ghost use Rattle.pulsar_acts.specs.View.{after, may_call};
 
 use crate::tables::Tables;
 use pulsar_agenda::agenda::Tasks;

@@ -6,7 +6,7 @@ use Rattle.pulsar_outgoing.specs.declared.news.News.TheVariants.{Done}
 use Rattle.pulsar_run.specs.Order.{put_all}
 use Rattle.pulsar_producer_table.specs.KeptProducers.{producers_of}
 use Rattle.pulsar_producer_table.specs.Producers.{changed, is_woken}
-use Rattle.pulsar_tables.specs.Rules.{grants, ready_notice}
+use Rattle.pulsar_acts.specs.Rules.{grants, ready_notice}
 use Rattle.pulsar_calls.specs.Order.{below}
 use Rattle.pulsar_agenda.specs.Agenda.{Agenda}
 use Rattle.pulsar_agenda.specs.Agenda.{agenda_of}

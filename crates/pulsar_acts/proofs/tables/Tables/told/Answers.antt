@@ -12,7 +12,7 @@ use Rattle.pulsar_procedures.specs.Plan.{told}
 use Rattle.pulsar_calls.specs.Notices.{notice}
 use Rattle.pulsar_acts.specs.Tables.{view_of}
 use Rattle.pulsar_procedures.specs.Standing.{stand_of}
-use Rattle.pulsar_tables.specs.View.{stand_after, stays, stays_some, told_some}
+use Rattle.pulsar_acts.specs.View.{stand_after, stays, stays_some, told_some}
 use Rattle.pulsar_calls.specs.Who.{is_same}
 use Rattle.pulsar_acts.proofs.tables.Tables.told.Goals as goal
 

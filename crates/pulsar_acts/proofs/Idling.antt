@@ -21,4 +21,3 @@ pub idle_is : (ready late empty heard held : Bool) (standing : ℕ) →
 idle_is ready late empty heard held standing =
     ap (λ b. ((ready && (late && (empty && b))) && not heard) && not held) (none_stand standing)
     ∙ idle_by ready late empty (nat_lt 0 standing) heard held
-

@@ -83,7 +83,7 @@ use Rattle.pulsar_consumer_table.specs.Consumers as consumer
 pub use Rattle.pulsar_calls.specs.Notices.{notice, stopped_one}
 pub use Rattle.pulsar_acts.specs.Reading.{tells, unless}
 use Rattle.pulsar_consumer_table.specs.Notices.{again_at, polled_due, revived_at}
-pub use Rattle.pulsar_acts.specs.Reading.{tells, unless}
+use Rattle.pulsar_acts.specs.Reading.{acknowledges, closed_at, flow_said, heard_on, leaves, lost_on, made_due, numbering_said, recalled_said, revived_said, serves_by, sought_said, stopped_on, subscribes, tells_word}
 use Rattle.pulsar_consumer_table.specs.Consumers.{Consumers, is_heard, over_rows}
 use Rattle.pulsar_calls.specs.Who.{in_turn, ticket_of, turn_of}
 use Rattle.pulsar_calls.specs.Order.{opens, alone}

@@ -7,12 +7,11 @@ ghost use Rattle.pulsar_session.specs.Link.{fresh};
 ghost use Rattle.pulsar_acts.specs.Tables.{chosen_of};
 ghost use Rattle.pulsar_acts.specs.View.{delay_with, setup, ways_of};
 
-use pulsar_messages::Authentication;
 use pulsar_addresses::content::Address;
-use pulsar_addresses::options::backoff;
+use pulsar_addresses::options::{ConnectionRetryOptions, OperationRetryOptions, backoff};
 use pulsar_addresses::random::{connection_id, jitter};
+use pulsar_messages::Authentication;
 use pulsar_plans::turn::Ways;
-use pulsar_addresses::options::{ConnectionRetryOptions, OperationRetryOptions};
 use pulsar_session::Connection;
 use pulsar_wire::error::NoMemory;
 use std::alloc::Global;

@@ -82,27 +82,27 @@ pub use crate::outside::Failed;
 pub use crate::outside::sink::{FailingSink, MemorySink, Sink};
 pub use crate::outside::source::{FailingSource, MemorySource, Source};
 pub use crate::pulsar::Pulsar;
+pub use pulsar_addresses::address::BrokerAddress;
+pub use pulsar_addresses::options::{ConnectionRetryOptions, OperationRetryOptions};
 pub use pulsar_calls::effect::{Answer, Effect, Handed, Settlement};
 pub use pulsar_calls::event::{Call, Event};
 pub use pulsar_consumer::consumer::Consumer;
+pub use pulsar_consumer::topic_consumer::TopicConsumer;
+pub use pulsar_consumer::{InitialPosition, SubType};
+pub use pulsar_frame::Payload;
 pub use pulsar_incoming::builder::ConsumerBuilder;
 pub use pulsar_incoming::config::{ConsumerConfig, DeadLetterPolicy};
 pub use pulsar_incoming::deserialize::DeserializeMessage;
-pub use pulsar_consumer::{InitialPosition, SubType};
 pub use pulsar_incoming::message::MessageData;
-pub use pulsar_consumer::topic_consumer::TopicConsumer;
-pub use pulsar_frame::Payload;
 pub use pulsar_link::raw_call::RawCall;
+pub use pulsar_messages::message_builder::MessageBuilder;
+pub use pulsar_messages::serialize::{SerializeMessage, message_from_bytes, message_from_text};
 pub use pulsar_messages::{
     Authentication, ConsumerOptions, Message, ProducerMessage, ProducerOptions, RoutingPolicy,
 };
-pub use pulsar_addresses::address::BrokerAddress;
-pub use pulsar_addresses::options::{ConnectionRetryOptions, OperationRetryOptions};
-pub use pulsar_producer::routing::{CustomRoutingPolicy, PartitionedProducer};
-pub use pulsar_messages::message_builder::MessageBuilder;
-pub use pulsar_producer::producer::Producer;
 pub use pulsar_outgoing::producer_builder::ProducerBuilder;
-pub use pulsar_messages::serialize::{SerializeMessage, message_from_bytes, message_from_text};
+pub use pulsar_producer::producer::Producer;
+pub use pulsar_producer::routing::{CustomRoutingPolicy, PartitionedProducer};
 pub use pulsar_wire::{
     AuthenticationError, Body, CommandConsumerStatsResponse, CommandGetLastMessageIdResponse,
     CommandGetSchemaResponse, CommandGetTopicsOfNamespaceResponse, CommandLookupTopicResponse,

@@ -6,10 +6,10 @@ ghost use Rattle.pulsar_client.specs.Client.{StandsFor, options_of};
 
 use crate::options::ClientOptions;
 use crate::pulsar::Pulsar;
+use pulsar_addresses::options::{ConnectionRetryOptions, OperationRetryOptions};
 use pulsar_calls::effect::Effect;
 use pulsar_calls::event::Event;
 use pulsar_machine::{FromUrl, Machine};
-use pulsar_addresses::options::{ConnectionRetryOptions, OperationRetryOptions};
 use pulsar_producer::CustomRoutingPolicy;
 use pulsar_wire::error::NoMemory;
 use std::alloc::Global;

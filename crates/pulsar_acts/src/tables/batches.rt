@@ -15,15 +15,15 @@ ghost use Rattle.pulsar_calls.specs.declared.act.Act.{Act};
 
 use crate::tables::Tables;
 use crate::tables::alarms::later;
+use pulsar_addresses::content::Refusal;
 use pulsar_agenda::agenda::Tasks;
 use pulsar_calls::act::{Act as Deed, Action, Alarm, Notice, Outcome, Procedure, Who};
 use pulsar_calls::content::{Building, Granted, Notices};
 use pulsar_calls::who::turn_of;
-use pulsar_addresses::content::Refusal;
-use pulsar_plans::turn::Ways;
 use pulsar_outgoing::content::{Built, Entry};
-use pulsar_producer::deed::News;
 use pulsar_outgoing::orders::Errand;
+use pulsar_plans::turn::Ways;
+use pulsar_producer::deed::News;
 use pulsar_wire::error::{Error, NoMemory, ProducerError};
 use std::alloc::Global;
 use std::collections::VecDeque;

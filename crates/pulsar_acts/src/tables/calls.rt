@@ -21,6 +21,7 @@ ghost use Rattle.pulsar_calls.specs.declared.act.Who.{Who as Meant};
 use crate::tables::Tables;
 use crate::tables::alarms::{IDLE_PERIOD, later};
 use crate::tables::consumers::{join_all, join_some};
+use pulsar_addresses::content::{Address, Text as Topic};
 use pulsar_agenda::agenda::Tasks;
 use pulsar_calls::act::{
     Act, Action, Alarm, Makes, Notice, Outcome, Part, Place, Procedure, Refusal, Says, Verdict, Who,
@@ -30,11 +31,10 @@ use pulsar_calls::effect::Effect;
 use pulsar_calls::event::Call;
 use pulsar_link::content::Request;
 use pulsar_link::raw_call::RawCall;
-use pulsar_addresses::content::{Address, Text as Topic};
+use pulsar_links::addresses::Series;
 use pulsar_plans::plan::Procedure as Sought;
 use pulsar_procedures::plan::{Plan, Turn, begins, failure, told};
 use pulsar_procedures::table::Plans;
-use pulsar_links::addresses::Series;
 use pulsar_wire::commands::topics::Mode;
 use pulsar_wire::error::{ConnectionError, NoMemory};
 use std::collections::VecDeque;

@@ -15,10 +15,10 @@ ghost use Rattle.pulsar_acts.specs.View.{after};
 
 use crate::tables::Tables;
 use crate::tables::alarms::later;
+use pulsar_addresses::content::Address;
 use pulsar_agenda::agenda::Tasks;
 use pulsar_calls::act::{Act, Alarm, Arrival, End, LinkAct, Notice, Part, Who};
 use pulsar_calls::effect::Effect;
-use pulsar_addresses::content::Address;
 use pulsar_links::address::connect;
 use pulsar_wire::error::NoMemory;
 

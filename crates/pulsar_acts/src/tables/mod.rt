@@ -23,11 +23,11 @@ use pulsar_agenda::agenda::Tasks;
 use pulsar_calls::act::{Act, Notice, Part};
 use pulsar_calls::effect::Effect;
 use pulsar_consumer_table::table::Consumers;
-use pulsar_procedures::table::Plans;
-use pulsar_producer_table::table::Producers;
 use pulsar_links::addresses::Addresses;
 use pulsar_links::alarms::Alarms;
 use pulsar_links::links::Links;
+use pulsar_procedures::table::Plans;
+use pulsar_producer_table::table::Producers;
 use pulsar_wire::error::NoMemory;
 use std::alloc::Global;
 

@@ -16,14 +16,14 @@ ghost use Rattle.pulsar_acts.specs.Tables.{chosen_of, view_of};
 ghost use Rattle.pulsar_acts.specs.View.{after, may_call};
 
 use crate::tables::Tables;
+use pulsar_addresses::content::Text;
 use pulsar_agenda::agenda::Tasks;
 use pulsar_calls::act::{Act, Notice, Procedure, Refusal, Round, Share, Who};
 use pulsar_calls::content::Advice;
 use pulsar_messages::Message;
-use pulsar_addresses::content::Text;
-use pulsar_outgoing::producer_builder::ProducerBuilder;
-use pulsar_outgoing::orders::Order;
 use pulsar_outgoing::content::{Entry, Outgoing, Settings};
+use pulsar_outgoing::orders::Order;
+use pulsar_outgoing::producer_builder::ProducerBuilder;
 use pulsar_producer::deed::News;
 use pulsar_wire::error::NoMemory;
 use std::alloc::Global;

@@ -17,7 +17,6 @@ use pulsar_wire::error::NoMemory;
 use std::alloc::Global;
 
 /// What the options of a client say of its run.
-#[derive(Drop)]
 pub struct Settings {
     /// The address of the service, where the options have one.
     pub base: Option<Address>,
@@ -29,6 +28,21 @@ pub struct Settings {
     pub first_number: u64,
     /// The time at which the client was made, in milliseconds since 1970.
     pub start: u64,
+}
+
+impl Drop for Settings {
+    fn drop(self) {
+        let Settings {
+            base: _,
+            auth: _,
+            connection: _,
+            operation: _,
+            outbound: _,
+            seed: _,
+            first_number: _,
+            start: _,
+        } = self;
+    }
 }
 
 impl Settings {

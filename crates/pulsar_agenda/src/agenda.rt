@@ -14,13 +14,24 @@ use std::alloc::Global;
 use std::collections::VecDeque;
 
 /// What arose at once, whom the present cause still serves, the causes that wait, and the parts that the event still brings.
-#[derive(Drop)]
 pub struct Tasks {
     pub alloc: Global,
     pub now: VecDeque<Act>,
     pub here: Queue,
     pub behind: VecDeque<Queue>,
     pub parts: VecDeque<Part>,
+}
+
+impl Drop for Tasks {
+    fn drop(self) {
+        let Tasks {
+            alloc: _,
+            now: _,
+            here: _,
+            behind: _,
+            parts: _,
+        } = self;
+    }
 }
 
 impl Tasks {

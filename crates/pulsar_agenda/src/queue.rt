@@ -14,9 +14,14 @@ use std::collections::VecDeque;
 use std::marker::Model;
 
 /// Those whom a cause still serves, by rank; those that rank alike stand as they came.
-#[derive(Drop)]
 pub struct Queue {
     notices: VecDeque<Notice>,
+}
+
+impl Drop for Queue {
+    fn drop(self) {
+        let Queue { notices: _ } = self;
+    }
 }
 
 impl Model for Queue {

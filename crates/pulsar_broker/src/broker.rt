@@ -30,7 +30,6 @@ enum Reading {
 ///
 /// It answers connect, ping, producer, send, subscribe, close_producer and close_consumer; a lookup by its own URL, and a question for
 /// partitions by none. It serves its consumers as they grant permits, takes acknowledgements without a word, and refuses each other request.
-#[derive(Drop)]
 pub struct Broker {
     alloc: Global,
     url: String,
@@ -39,6 +38,19 @@ pub struct Broker {
     tables: Tables,
     // a call ran out of memory
     failed: bool,
+}
+
+impl Drop for Broker {
+    fn drop(self) {
+        let Broker {
+            alloc: _,
+            url: _,
+            readings: _,
+            outbox: _,
+            tables: _,
+            failed: _,
+        } = self;
+    }
 }
 
 impl Broker {

@@ -12,8 +12,8 @@ use crate::generated::payload;
 use crate::tally::item_of;
 use pulsar_client::{Call, ConsumerOptions, Effect, Event, Handed, InitialPosition};
 use pulsar_incoming::builder::ConsumerBuilder;
-use pulsar_outgoing::producer_builder::ProducerBuilder;
 use pulsar_messages::serialize::message_from_bytes;
+use pulsar_outgoing::producer_builder::ProducerBuilder;
 use pulsar_wire::NoMemory;
 use std::alloc::Global;
 

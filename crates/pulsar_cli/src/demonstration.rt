@@ -1,7 +1,7 @@
 //! The demo: a client against a broker in memory.
 
 ghost use Rattle.std.specs.Prelude.{[], Bool, List, IfOk};
-ghost use Rattle.pulsar_acts.specs.Run.{Step};
+ghost use Rattle.pulsar_acts.specs.Run.{Good, Step};
 ghost use Rattle.pulsar_cli.specs.Demo.{IsDemo};
 ghost use Rattle.pulsar_cli.specs.Played.{Holds, IsPlayed, counted, history, numbers};
 ghost use Rattle.pulsar_cli.specs.Script.{defaults};
@@ -53,7 +53,8 @@ fn play(alloc: Global, seed: u64, count: u64, keeps: bool) -> Result<Play, NoMem
 }
 
 fn drive<M: Machine>(client: M, play: Play, seed: u64, count: u64) -> Result<Play, NoMemory>
-    ensures { IfOk result (λ p. (keeps : Bool) → M.stands (defaults []) client [] → Holds keeps [] seed count play [] → IsPlayed keeps seed count p) }
+    ensures { IfOk result (λ p. (keeps : Bool) → ((h : List Step) → M.good (defaults []) h → Good (defaults []) h)
+        → M.stands (defaults []) client [] → Holds keeps [] seed count play [] → IsPlayed keeps seed count p) }
 {
     let mut client = client;
     let mut play = play;

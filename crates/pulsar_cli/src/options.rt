@@ -8,9 +8,9 @@ ghost use Rattle.pulsar_cli.specs.Choice.{choice_of};
 ghost use Rattle.pulsar_script.specs.Parsed.{setting_of};
 ghost use Rattle.pulsar_cli.specs.Script.{chooses, default_choice};
 
-use pulsar_client::{Authentication, CustomRoutingPolicy};
-use pulsar_client::options::ClientOptions;
 use pulsar_addresses::options::{ConnectionRetryOptions, OperationRetryOptions};
+use pulsar_client::options::ClientOptions;
+use pulsar_client::{Authentication, CustomRoutingPolicy};
 use pulsar_script::grammar::setting::Setting;
 use pulsar_wire::NoMemory;
 use std::alloc::Global;

@@ -4,7 +4,7 @@ ghost use Rattle.std.specs.Prelude.{◌≡◌, ◌<◌, ◌++◌, ◌≤◌, ◌
 ghost use Rattle.pulsar_client.specs.Client.{StandsFor};
 ghost use Rattle.pulsar_calls.specs.Content.{heard};
 ghost use Rattle.pulsar_client.specs.Outside.{Rose};
-ghost use Rattle.pulsar_acts.specs.Run.{Step};
+ghost use Rattle.pulsar_acts.specs.Run.{Good, Step};
 ghost use Rattle.pulsar_acts.specs.View.{Options};
 ghost use Rattle.pulsar_producer.specs.Routing.{Policy};
 ghost use Rattle.pulsar_cli.specs.Script.{Adds, AddsFront, IsDone, Printed, Ran, Seen, seen, since};
@@ -47,7 +47,7 @@ pub fn run<R: Threads + Wait + Sync, S: Source, K: Sink, E: Edge>(
     ensures shows { (seed count : ℕ) → form (map string_bytes words.now) ≡ Some (Demo seed count)
         → Shows seed count result (seen K.holds K.faults sink.old sink.new) × (source.new ≡ source.old) × (edge.new ≡ edge.old) }
     ensures works { (a : Asking) → form (map string_bytes words.now) ≡ Some (Job a)
-        → HasGone a (map (λ p. routes p) policies.items) result (seen S.left S.faults source.old source.new) (seen K.holds K.faults sink.old sink.new)
+        → HasGone (λ o h. Good o h) a (map (λ p. routes p) policies.items) result (seen S.left S.faults source.old source.new) (seen K.holds K.faults sink.old sink.new)
         (edge_seen E.failures E.first E.greatest edge.old edge.new) }
 {
     match Form::of(words) {

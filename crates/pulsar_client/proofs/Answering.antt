@@ -1,11 +1,16 @@
 -- The answers that are kept until they are taken, and what a send is told of them.
 use Rattle.std.proofs.Common.{◌≡◌, ◌∙◌, ◌⊎◌, ℕ, ap, sym, refl, List, [], ◌∷◌, ◌++◌, Some, None, inl, inr}
-use Rattle.std.specs.Prelude.{MatchResult, Result, Ok, Err}
+use Rattle.std.specs.Prelude.{MatchOption, MatchResult, Option, Result, Ok, Err}
+use Rattle.pulsar_wire.specs.Row.{spelling}
+use Rattle.pulsar_wire.specs.Rows.{send_receipt}
+use Rattle.pulsar_wire.specs.Views.{send_receipt_values}
 use Rattle.pulsar_wire.specs.declared.commands.producer.CommandSendReceipt.{CommandSendReceipt}
 use Rattle.pulsar_wire.specs.declared.error.Error.{Error}
 use Rattle.pulsar_wire.specs.Failures.{failure}
 use Rattle.pulsar_outgoing.specs.Errors.{IsNoMemory}
-use Rattle.pulsar_calls.specs.Content.{Said, Shown}
+use Rattle.pulsar_calls.specs.Content.{Receipt, Said, Shown, answered, receipt_in}
+use Rattle.pulsar_calls.specs.declared.effect.Answer.{Answer}
+use Rattle.pulsar_calls.specs.declared.effect.Answer.TheVariants as answer
 use Rattle.pulsar_acts.specs.Run.{Step}
 use Rattle.pulsar_client.specs.Taken.{Held, IsPolled, IsSaid, IsUnsaid, ended_in, held_but, is_lost, left_after, poll_said, polled, polled_answer}
 
@@ -15,6 +20,23 @@ ended_end [] e t row = refl
 ended_end (x ∷ es) e t row = ended_end es e t (left_after x t row)
 
 -- A SEND IS TOLD
+
+-- an answer that is no receipt
+polled_other : (a : Answer) → receipt_in (answered a) ≡ None → polled_answer (answered a) ≡ Err is_lost
+polled_other answer.Done h = refl
+polled_other (answer.Topics names) h = refl
+polled_other (answer.Address a) h = refl
+polled_other (answer.Count n) h = refl
+polled_other (answer.Addresses names) h = refl
+polled_other (answer.Receipt receipt) h = absurd cc
+polled_other (answer.Sends tickets) h = refl
+polled_other (answer.Replies bodies) h = refl
+
+pub polled_receipt : (a : Answer) (r : Option CommandSendReceipt) →
+    MatchOption r (receipt_in (answered a) ≡ None) (λ x. answered a ≡ Receipt (spelling send_receipt (send_receipt_values x))) →
+    MatchOption r (polled_answer (answered a) ≡ Err is_lost) (λ x. polled_answer (answered a) ≡ poll_said (Ok x))
+polled_receipt a None h = polled_other a h
+polled_receipt a (Some x) h = ap polled_answer h
 
 module _ (t : ℕ) (h : List Step) (ts : List ℕ) where
   pub told_answer : (r : Result CommandSendReceipt Error) (a : Said) →

@@ -24,10 +24,15 @@ pub enum Taken {
 }
 
 /// The tickets whose answers were not taken: those of the calls that wait, and what the others ended with.
-#[derive(Drop)]
 pub struct Answers {
     pub alloc: Global,
     pub held: BTreeMap<u64, Option<Said>>,
+}
+
+impl Drop for Answers {
+    fn drop(self) {
+        let Answers { alloc: _, held: _ } = self;
+    }
 }
 
 impl Answers {

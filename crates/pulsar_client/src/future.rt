@@ -64,16 +64,7 @@ fn receipt_in(alloc: Global, answer: Result<Answer, Error>) -> Result<CommandSen
 fn receipt_of(answer: Answer) -> Option<CommandSendReceipt>
     ensures { MatchOption result (polled_answer (answered answer) ≡ Err is_lost) (λ r. polled_answer (answered answer) ≡ poll_said (Ok r)) }
 {
-    match answer {
-        Answer::Receipt(receipt) => Some(receipt),
-        Answer::Done => None,
-        Answer::Topics(_) => None,
-        Answer::Address(_) => None,
-        Answer::Count(_) => None,
-        Answer::Addresses(_) => None,
-        Answer::Sends(_) => None,
-        Answer::Replies(_) => None,
-    }
+    answer.into_receipt()
 }
 
 /// There is no receipt.

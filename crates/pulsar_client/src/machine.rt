@@ -1,6 +1,9 @@
 //! The client as whoever records it sees it.
 
-ghost use Rattle.std.specs.Prelude.{[], ◌≡◌, map};
+ghost use Rattle.std.specs.Prelude.{[], ◌≡◌, ◌↔◌, IsTrue, map};
+ghost use Rattle.pulsar_acts.specs.Run.{Good, view};
+ghost use Rattle.pulsar_acts.specs.View.{Waits};
+ghost use Rattle.pulsar_links.specs.Seats.{has_ended};
 ghost use Rattle.pulsar_client.specs.Client as meaning;
 ghost use Rattle.pulsar_client.specs.Client.{StandsFor, options_of};
 
@@ -22,6 +25,12 @@ impl Machine for Pulsar {
     ghost means = { λ o. meaning.options (λ p. (CustomRoutingPolicy-box p).routes p.value) o };
 
     ghost given = { λ c. meaning.options (λ p. (CustomRoutingPolicy-box p).routes p.value) (options_of c) };
+
+    ghost good = { λ o h. Good o h };
+
+    ghost says_ended = { λ o h link b. (g : Good o h) → b ≡ has_ended link (view o g.log).links };
+
+    ghost says_waits = { λ o h link b. (g : Good o h) → IsTrue b ↔ Waits link (view o g.log) };
 
     // nobody takes answers of a client that is recorded
     ghost stands = { λ o c h. StandsFor (λ p. (CustomRoutingPolicy-box p).routes p.value) o c h [] };

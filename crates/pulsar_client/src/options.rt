@@ -13,7 +13,6 @@ use pulsar_wire::error::NoMemory;
 use std::alloc::Global;
 
 /// The options of a client.
-#[derive(Drop)]
 pub struct ClientOptions {
     /// The address of the service, as `pulsar://HOST:PORT`; without a port it is 6650. With any other URL, and with a text that
     /// is no URL, a Build ends with ConnectionError::NotFound.
@@ -34,6 +33,22 @@ pub struct ClientOptions {
     pub first_number: u64,
     /// By these a producer chooses partitions, where its options say so.
     pub policies: Vec<Box<dyn CustomRoutingPolicy>>,
+}
+
+impl Drop for ClientOptions {
+    fn drop(self) {
+        let ClientOptions {
+            url: _,
+            auth: _,
+            connection_retry: _,
+            operation_retry: _,
+            outbound_channel_size: _,
+            seed: _,
+            now: _,
+            first_number: _,
+            policies: _,
+        } = self;
+    }
 }
 
 impl ClientOptions {

@@ -30,13 +30,23 @@ use pulsar_wire::error::NoMemory;
 use std::alloc::Global;
 
 /// A client of Apache Pulsar: an event goes in, and its effects come out. It is driven by one caller.
-#[derive(Drop)]
 pub struct Pulsar {
     options: Box<ClientOptions>,
     tables: Tables,
     answers: Answers,
     // a step ran out of memory
     failed: bool,
+}
+
+impl Drop for Pulsar {
+    fn drop(self) {
+        let Pulsar {
+            options: _,
+            tables: _,
+            answers: _,
+            failed: _,
+        } = self;
+    }
 }
 
 impl Pulsar {

@@ -25,11 +25,20 @@ pub enum Numbering {
 
 /// The numbers that are held while consumers are built, by the tickets of the calls that build them; those that raw calls have named; and
 /// the number from which on the next is drawn.
-#[derive(Drop)]
 pub struct Numbers {
     pub held: BTreeMap<u64, u64>,
     pub named: BTreeSet<u64>,
     pub next: u64,
+}
+
+impl Drop for Numbers {
+    fn drop(self) {
+        let Numbers {
+            held: _,
+            named: _,
+            next: _,
+        } = self;
+    }
 }
 
 impl Numbers {

@@ -32,10 +32,18 @@ pub enum Sought {
 }
 
 /// A consumer, and those who wait until it is subscribed again.
-#[derive(Drop)]
 pub struct ConsumerRow {
     pub consumer: Consumer,
     pub seekers: Vec<Who>,
+}
+
+impl Drop for ConsumerRow {
+    fn drop(self) {
+        let ConsumerRow {
+            consumer: _,
+            seekers: _,
+        } = self;
+    }
 }
 
 impl ConsumerRow {

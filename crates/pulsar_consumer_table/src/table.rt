@@ -35,7 +35,6 @@ use url::Url;
 
 /// The consumers of a client, by the tickets of the calls that made them, and their numbers. Those that have a number are found without a
 /// look at the others.
-#[derive(Drop)]
 pub struct Consumers {
     pub alloc: Global,
     pub rows: BTreeMap<u64, ConsumerRow>,
@@ -49,6 +48,19 @@ pub struct Consumers {
     ghost ordered: { failed ≡ false → IsOrdered nat_cmp rows } by { Prim.hlevel props },
     ghost listed: { failed ≡ false → AreListed listing (rows_in rows) },
     ghost lives: { failed ≡ false → AreHeard heard (rows_in rows) },
+}
+
+impl Drop for Consumers {
+    fn drop(self) {
+        let Consumers {
+            alloc: _,
+            rows: _,
+            numbers: _,
+            listing: _,
+            heard: _,
+            failed: _,
+        } = self;
+    }
 }
 
 impl Consumers {

@@ -1,6 +1,7 @@
 //! Links to a broker in memory, which threads may share.
 
 ghost use Rattle.std.specs.Prelude.{◌≡◌, ◌≤◌, ◌<◌, IfOk, IfSome, None, length};
+ghost use Rattle.pulsar_wire.specs.declared.error.IoKind.{IoKind};
 ghost use Rattle.pulsar_edges.specs.Counts.{failures_of};
 
 use crate::counts::{Failures, Moments};
@@ -137,9 +138,13 @@ pub struct BrokerOutput<'a, R: Wait> {
     shut: bool,
 }
 
-impl<'a, R: Wait> BrokerEdge<'a, R> {
+impl<'a, R: Wait + Sync> BrokerEdge<'a, R> {
     /// No link is open yet.
-    pub fn new(rt: &'a R, alloc: Global, host: &'a Host) -> BrokerEdge<'a, R> {
+    pub fn new(rt: &'a R, alloc: Global, host: &'a Host) -> BrokerEdge<'a, R>
+        ensures failures { (k : IoKind) → ⟦<BrokerEdge<'a, R> as Edge>⟧.failures result k ≡ 0 }
+        ensures first { ⟦<BrokerEdge<'a, R> as Edge>⟧.first result ≡ None }
+        ensures greatest { ⟦<BrokerEdge<'a, R> as Edge>⟧.greatest result ≡ None }
+    {
         BrokerEdge {
             rt,
             alloc,
@@ -149,7 +154,9 @@ impl<'a, R: Wait> BrokerEdge<'a, R> {
             moments: Moments::new(),
         }
     }
+}
 
+impl<'a, R: Wait> BrokerEdge<'a, R> {
     fn open(
         &self,
         host: &str,

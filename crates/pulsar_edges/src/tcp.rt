@@ -1,6 +1,7 @@
 //! Links over TCP. They count their faults and tell no content.
 
 ghost use Rattle.std.specs.Prelude.{◌≡◌, ◌≤◌, None, IfOk, length};
+ghost use Rattle.pulsar_wire.specs.declared.error.IoKind.{IoKind};
 ghost use Rattle.pulsar_edges.specs.Counts.{failures_of};
 
 use crate::counts::{Failures, Moments};
@@ -22,7 +23,9 @@ pub struct Limits {
 
 impl Limits {
     /// Ten seconds for a dial, a minute for a silence.
-    pub fn new() -> Limits {
+    pub fn new() -> Limits
+        ensures { (result.dial ≡ 10000) × (result.silence ≡ 60000) }
+    {
         Limits {
             dial: 10_000,
             silence: 60_000,
@@ -55,7 +58,11 @@ pub struct TcpOutput {
 
 impl<'a, R: Net<Stream = TcpStream> + Clock> TcpEdge<'a, R> {
     /// An edge whose links wait so long.
-    pub fn new(rt: &'a R, limits: Limits) -> TcpEdge<'a, R> {
+    pub fn new(rt: &'a R, limits: Limits) -> TcpEdge<'a, R>
+        ensures failures { (k : IoKind) → ⟦<TcpEdge<'a, R> as Edge>⟧.failures result k ≡ 0 }
+        ensures first { ⟦<TcpEdge<'a, R> as Edge>⟧.first result ≡ None }
+        ensures greatest { ⟦<TcpEdge<'a, R> as Edge>⟧.greatest result ≡ None }
+    {
         TcpEdge {
             rt,
             limits,

@@ -7,7 +7,7 @@ use Rattle.std.specs.List.{remove, slice_index_or}
 use Rattle.pulsar_wire.specs.declared.error.IoKind.{IoKind}
 use Rattle.pulsar_producer.specs.Routing.{Policy}
 use Rattle.pulsar_acts.specs.View.{Options}
-use Rattle.pulsar_acts.specs.Run.{Good, Step}
+use Rattle.pulsar_acts.specs.Run.{Step}
 use Rattle.pulsar_machine.specs.Machine.{options_for}
 use Rattle.pulsar_pumps.specs.Outside.{first_of}
 use Rattle.pulsar_work.specs.Calls.{Work, Sends, Takes}
@@ -99,11 +99,11 @@ halted-whole s source bytes is gave end within = subst (λ x. IsHalted x source)
 
 -- A JOB ENDS
 
-drove-how : (o o' : Options) (h : List Step) (w : Work) (before after : IoKind → ℕ) (greatest : Option ℕ) (status : ℕ) (sink : Seen) (seen links : List LinkSeen) (trace : Option (Options × List Step)) → o' ≡ o → AreLinks h seen → DialsInTime h → Fits before after greatest h
-    → MatchOption trace (IsIdle status sink) (λ t. (t.0 ≡ o') × (t.1 ≡ h) × (links ≡ seen) × ∥ Good t.0 t.1 ∥₁ × Ended status w sink t.1)
-    → MatchOption trace (IsIdle status sink) (λ t. (t.0 ≡ o) × ∥ Good t.0 t.1 ∥₁ × Ran before after greatest links t.1 × Ended status w sink t.1)
-drove-how o o' h w before after greatest status sink seen links None same are in_time fits f = f
-drove-how o o' h w before after greatest status sink seen links (Some t) same are in_time fits f = (
+drove-how : (IsGood : Options → List Step → Type 0) (o o' : Options) (h : List Step) (w : Work) (before after : IoKind → ℕ) (greatest : Option ℕ) (status : ℕ) (sink : Seen) (seen links : List LinkSeen) (trace : Option (Options × List Step)) → o' ≡ o → AreLinks h seen → DialsInTime h → Fits before after greatest h
+    → MatchOption trace (IsIdle status sink) (λ t. (t.0 ≡ o') × (t.1 ≡ h) × (links ≡ seen) × ∥ IsGood t.0 t.1 ∥₁ × Ended status w sink t.1)
+    → MatchOption trace (IsIdle status sink) (λ t. (t.0 ≡ o) × ∥ IsGood t.0 t.1 ∥₁ × Ran before after greatest links t.1 × Ended status w sink t.1)
+drove-how IsGood o o' h w before after greatest status sink seen links None same are in_time fits f = f
+drove-how IsGood o o' h w before after greatest status sink seen links (Some t) same are in_time fits f = (
   f.0 ∙ same,
   f.3,
   record {
@@ -114,10 +114,10 @@ drove-how o o' h w before after greatest status sink seen links (Some t) same ar
   f.4,
 )
 
-pub drives-finished : (o o' : Options) (h : List Step) (w : Work) (before after : IoKind → ℕ) (greatest : Option ℕ) (status : ℕ) (sink : Seen) (seen links : List LinkSeen) (trace : Option (Options × List Step)) → o' ≡ o → AreLinks h seen → DialsInTime h
-    → Fits before after greatest h → Finishes o' h w status sink seen links trace → Drives o w before after greatest status sink links trace
-drives-finished o o' h w before after greatest status sink seen links trace same are in_time fits f =
-    record { sink_failed = f.sink_failed; how = drove-how o o' h w before after greatest status sink seen links trace same are in_time fits f.how }
+pub drives-finished : {IsGood : Options → List Step → Type 0} (o o' : Options) (h : List Step) (w : Work) (before after : IoKind → ℕ) (greatest : Option ℕ) (status : ℕ) (sink : Seen) (seen links : List LinkSeen) (trace : Option (Options × List Step)) → o' ≡ o → AreLinks h seen → DialsInTime h
+    → Fits before after greatest h → Finishes IsGood o' h w status sink seen links trace → Drives IsGood o w before after greatest status sink links trace
+drives-finished {IsGood = IsGood} o o' h w before after greatest status sink seen links trace same are in_time fits f =
+    record { sink_failed = f.sink_failed; how = drove-how IsGood o o' h w before after greatest status sink seen links trace same are in_time fits f.how }
 
 -- an edge tells its first moment when the client is made
 pub made-at : (before told after : Option ℕ) (now : ℕ) → told ≡ Some (first_of before now) → ((n : ℕ) → told ≡ Some n → after ≡ Some n) → before ≡ None → after ≡ Some now
@@ -126,18 +126,18 @@ made-at before told after now first keeps none = keeps now (first ∙ ap (λ o. 
 pub fits-none : (before after : IoKind → ℕ) (greatest : Option ℕ) → ((k : IoKind) → before k ≤ after k) → Fits before after greatest []
 fits-none before after greatest grows = record { failures = λ k. inl (omega (arith, grows k)); ticks = ticks-none greatest }
 
-performed-how : {X : Type 0} (trace : X → Options × List Step) (raw : Option X) (url : List ℕ) (policies : List Policy) (w : Work) (edge : EdgeSeen) (now : ℕ) (o : Options) (status : ℕ) (sink : Seen) (links : List LinkSeen)
+performed-how : {X : Type 0} (IsGood : Options → List Step → Type 0) (trace : X → Options × List Step) (raw : Option X) (url : List ℕ) (policies : List Policy) (w : Work) (edge : EdgeSeen) (now : ℕ) (o : Options) (status : ℕ) (sink : Seen) (links : List LinkSeen)
     → IfSome raw (λ x. IsMadeAt edge now) → o ≡ options_for url now policies
-    → MatchOption (option_map trace raw) (IsIdle status sink) (λ t. (t.0 ≡ o) × ∥ Good t.0 t.1 ∥₁ × Ran edge.failed_before edge.failed_after edge.greatest links t.1 × Ended status w sink t.1)
-    → MatchOption (option_map trace raw) (IsIdle status sink) (λ t. Drove url policies edge links t.0 t.1 × Ended status w sink t.1)
-performed-how trace None url policies w edge now o status sink links made is f = f
-performed-how trace (Some x) url policies w edge now o status sink links made is f = (record { now = now; made = made; options = f.0 ∙ is; good = f.1; ran = f.2 }, f.3)
+    → MatchOption (option_map trace raw) (IsIdle status sink) (λ t. (t.0 ≡ o) × ∥ IsGood t.0 t.1 ∥₁ × Ran edge.failed_before edge.failed_after edge.greatest links t.1 × Ended status w sink t.1)
+    → MatchOption (option_map trace raw) (IsIdle status sink) (λ t. Drove IsGood url policies edge links t.0 t.1 × Ended status w sink t.1)
+performed-how IsGood trace None url policies w edge now o status sink links made is f = f
+performed-how IsGood trace (Some x) url policies w edge now o status sink links made is f = (record { now = now; made = made; options = f.0 ∙ is; good = f.1; ran = f.2 }, f.3)
 
-pub performs-driven : {X : Type 0} (trace : X → Options × List Step) (raw : Option X) (url : List ℕ) (policies : List Policy) (w : Work) (edge : EdgeSeen) (now : ℕ) (o : Options) (status : ℕ) (sink : Seen) (links : List LinkSeen)
+pub performs-driven : {IsGood : Options → List Step → Type 0} {X : Type 0} (trace : X → Options × List Step) (raw : Option X) (url : List ℕ) (policies : List Policy) (w : Work) (edge : EdgeSeen) (now : ℕ) (o : Options) (status : ℕ) (sink : Seen) (links : List LinkSeen)
     → IfSome raw (λ x. IsMadeAt edge now) → o ≡ options_for url now policies
-    → Drives o w edge.failed_before edge.failed_after edge.greatest status sink links (option_map trace raw) → Performs url policies w status sink edge links (option_map trace raw)
-performs-driven trace raw url policies w edge now o status sink links made is d =
-    record { sink_failed = d.sink_failed; how = performed-how trace raw url policies w edge now o status sink links made is d.how }
+    → Drives IsGood o w edge.failed_before edge.failed_after edge.greatest status sink links (option_map trace raw) → Performs IsGood url policies w status sink edge links (option_map trace raw)
+performs-driven {IsGood = IsGood} trace raw url policies w edge now o status sink links made is d =
+    record { sink_failed = d.sink_failed; how = performed-how IsGood trace raw url policies w edge now o status sink links made is d.how }
 
 -- what is said where there is a trace
 pub if-some : {X : Type 0} (raw : Option X) (P Q : Type 0) → IfSome raw (λ x. P) → (P → Q) → IfSome raw (λ x. Q)
@@ -145,9 +145,9 @@ if-some None P Q h f = h
 if-some (Some x) P Q h f = f h
 
 -- the turns have ended, and the report was printed
-pub drives-ended : (o o' : Options) (h h' h'' : List Step) (w : Work) (p : Progress) (ls ls' : List LinkNow) (e e' : EdgeNow) (before : IoKind → ℕ) (all_well : Bool) (status : ℕ) (sink : Seen) (links : List LinkSeen) (trace : Option (Options × List Step))
+pub drives-ended : {IsGood : Options → List Step → Type 0} (o o' : Options) (h h' h'' : List Step) (w : Work) (p : Progress) (ls ls' : List LinkNow) (e e' : EdgeNow) (before : IoKind → ℕ) (all_well : Bool) (status : ℕ) (sink : Seen) (links : List LinkSeen) (trace : Option (Options × List Step))
     → o' ≡ o → Runs true w h p ls → p.stopped ≡ false → h'' ≡ h' → h ≡ [] → Ends w h h' p ls ls' all_well → (p.stopped ≡ false → Knits h h' e e') → Fits before e.failed e.greatest []
-    → ((x : Work) → ComesOut x h'' all_well → Finishes o' h'' x status sink (seen_of ls') links trace) → Drives o w before e'.failed e'.greatest status sink links trace
+    → ((x : Work) → ComesOut x h'' all_well → Finishes IsGood o' h'' x status sink (seen_of ls') links trace) → Drives IsGood o w before e'.failed e'.greatest status sink links trace
 drives-ended o o' h h' h'' w p ls ls' e e' before all_well status sink links trace same runs going is none ends knits fits finishes =
     let at = ends.links runs going in
     drives-finished o o' h'' w before e'.failed e'.greatest status sink (seen_of ls') links trace same (subst (λ t. AreLinks t (seen_of ls')) (sym is) at.0) (subst DialsInTime (sym is) at.1)

@@ -3,7 +3,7 @@ use Rattle.std.specs.Prelude.{◌≡◌, ◌≤◌, ◌<◌, ℕ, List, Option, 
 use Rattle.pulsar_wire.specs.declared.error.IoKind.{IoKind}
 use Rattle.pulsar_producer.specs.Routing.{Policy}
 use Rattle.pulsar_acts.specs.View.{Options}
-use Rattle.pulsar_acts.specs.Run.{Good, Step}
+use Rattle.pulsar_acts.specs.Run.{Step}
 use Rattle.pulsar_work.specs.Calls.{Work}
 use Rattle.pulsar_work.specs.Form.{Asking, url_of}
 use Rattle.pulsar_job.specs.Links.{LinkSeen}
@@ -42,16 +42,16 @@ pub record IsIdle (status : ℕ) (sink : Seen) : Type 0 where
   pub printed : sink.after ≡ sink.before
 
 -- the report of this history was printed
-pub record Finishes (o : Options) (h : List Step) (w : Work) (status : ℕ) (sink : Seen) (before links : List LinkSeen) (trace : Option (Options × List Step)) : Type 0 where
+pub record Finishes (IsGood : Options → List Step → Type 0) (o : Options) (h : List Step) (w : Work) (status : ℕ) (sink : Seen) (before links : List LinkSeen) (trace : Option (Options × List Step)) : Type 0 where
   pub sink_failed : status ≡ 5 → HasFault sink
-  pub how : MatchOption trace (IsIdle status sink) (λ t. (t.0 ≡ o) × (t.1 ≡ h) × (links ≡ before) × ∥ Good t.0 t.1 ∥₁ × Ended status w sink t.1)
+  pub how : MatchOption trace (IsIdle status sink) (λ t. (t.0 ≡ o) × (t.1 ≡ h) × (links ≡ before) × ∥ IsGood t.0 t.1 ∥₁ × Ended status w sink t.1)
 
 -- a client of these options was driven
-pub record Drives (o : Options) (w : Work) (before after : IoKind → ℕ) (greatest : Option ℕ) (status : ℕ) (sink : Seen) (links : List LinkSeen) (trace : Option (Options × List Step)) : Type 0 where
+pub record Drives (IsGood : Options → List Step → Type 0) (o : Options) (w : Work) (before after : IoKind → ℕ) (greatest : Option ℕ) (status : ℕ) (sink : Seen) (links : List LinkSeen) (trace : Option (Options × List Step)) : Type 0 where
   pub sink_failed : status ≡ 5 → HasFault sink
-  pub how : MatchOption trace (IsIdle status sink) (λ t. (t.0 ≡ o) × ∥ Good t.0 t.1 ∥₁ × Ran before after greatest links t.1 × Ended status w sink t.1)
+  pub how : MatchOption trace (IsIdle status sink) (λ t. (t.0 ≡ o) × ∥ IsGood t.0 t.1 ∥₁ × Ran before after greatest links t.1 × Ended status w sink t.1)
 
 -- a client for this address was driven
-pub record Performs (url : List ℕ) (policies : List Policy) (w : Work) (status : ℕ) (sink : Seen) (edge : EdgeSeen) (links : List LinkSeen) (trace : Option (Options × List Step)) : Type 0 where
+pub record Performs (IsGood : Options → List Step → Type 0) (url : List ℕ) (policies : List Policy) (w : Work) (status : ℕ) (sink : Seen) (edge : EdgeSeen) (links : List LinkSeen) (trace : Option (Options × List Step)) : Type 0 where
   pub sink_failed : status ≡ 5 → HasFault sink
-  pub how : MatchOption trace (IsIdle status sink) (λ t. Drove url policies edge links t.0 t.1 × Ended status w sink t.1)
+  pub how : MatchOption trace (IsIdle status sink) (λ t. Drove IsGood url policies edge links t.0 t.1 × Ended status w sink t.1)

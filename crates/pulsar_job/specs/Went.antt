@@ -3,7 +3,7 @@ use Rattle.std.specs.Prelude.{◌≡◌, ◌≤◌, ◌<◌, ◌⊎◌, ◌↔�
 use Rattle.pulsar_wire.specs.declared.error.IoKind.{IoKind}
 use Rattle.pulsar_producer.specs.Routing.{Policy}
 use Rattle.pulsar_acts.specs.View.{Options}
-use Rattle.pulsar_acts.specs.Run.{Good, Step}
+use Rattle.pulsar_acts.specs.Run.{Step}
 use Rattle.pulsar_machine.specs.Machine.{options_for}
 use Rattle.pulsar_work.specs.Form.{Asking, Produce, Consume, lines_of, url_of}
 use Rattle.pulsar_job.specs.Outside.{Adds, AddsFront, Given, HasFault, Seen, limit}
@@ -46,12 +46,12 @@ pub record Ran (before after : IoKind → ℕ) (greatest : Option ℕ) (links : 
   pub carried : AreLinks h links
   pub fits : Fits before after greatest h
 
--- The trace of a run. It is a good run of the client for the address among the words.
-pub record Drove (url : List ℕ) (policies : List Policy) (edge : EdgeSeen) (links : List LinkSeen) (o : Options) (h : List Step) : Type 0 where
+-- The trace of a run. It is a good run of the client for the address among the words; `IsGood` says of options and a history that they are one.
+pub record Drove (IsGood : Options → List Step → Type 0) (url : List ℕ) (policies : List Policy) (edge : EdgeSeen) (links : List LinkSeen) (o : Options) (h : List Step) : Type 0 where
   pub now : ℕ
   pub made : IsMadeAt edge now
   pub options : o ≡ options_for url now policies
-  pub good : ∥ Good o h ∥₁
+  pub good : ∥ IsGood o h ∥₁
   pub ran : Ran edge.failed_before edge.failed_after edge.greatest links h
 
 -- What is said of it by the status: at 0 the work is done, and at 7 an error stands in it. The report of it is what was printed, or a front
@@ -75,24 +75,24 @@ ReadToItsEnd (Consume url topic subscription n) count bytes = Unit {0}
 
 -- How a run went for what the words ask. With status 4 the source has had a fault, with status 5 the sink, and with status 6 and no other one
 -- more bytes than the limit were taken. Where a trace is there the source of `produce` was read to its end.
-pub record Went (a : Asking) (policies : List Policy) (status : ℕ) (source sink : Seen) (edge : EdgeSeen) (links : List LinkSeen)
+pub record Went (IsGood : Options → List Step → Type 0) (a : Asking) (policies : List Policy) (status : ℕ) (source sink : Seen) (edge : EdgeSeen) (links : List LinkSeen)
     (trace : Option (Options × List Step)) : Type 0 where
   pub given : Given source
   pub source_failed : status ≡ 4 → HasFault source
   pub sink_failed : status ≡ 5 → HasFault sink
   pub limits : (status ≡ 6) ↔ (limit < given.count)
   pub how : MatchOption trace (Idled status sink)
-      (λ t. Drove (url_of a) policies edge links t.0 t.1 × Ended status (work_of a given.bytes) sink t.1 × ReadToItsEnd a given.count given.bytes)
+      (λ t. Drove IsGood (url_of a) policies edge links t.0 t.1 × Ended status (work_of a given.bytes) sink t.1 × ReadToItsEnd a given.count given.bytes)
 
 -- so it went, with some links and some trace
-pub record HasGone (a : Asking) (policies : List Policy) (status : ℕ) (source sink : Seen) (edge : EdgeSeen) : Type 0 where
+pub record HasGone (IsGood : Options → List Step → Type 0) (a : Asking) (policies : List Policy) (status : ℕ) (source sink : Seen) (edge : EdgeSeen) : Type 0 where
   pub links : List LinkSeen
   pub trace : Option (Options × List Step)
-  pub went : Went a policies status source sink edge links trace
+  pub went : Went IsGood a policies status source sink edge links trace
 
 -- Without faults, and within the limit, a run is done, or has failed by an error in its trace, unless memory runs out.
-abbrev pub Completes : Type 0
-Completes =
+abbrev pub Completes : (IsGood : Options → List Step → Type 0) → Type 0
+Completes IsGood =
     (a : Asking) (policies : List Policy) (status : ℕ) (source sink : Seen) (edge : EdgeSeen) (links : List LinkSeen) (trace : Option (Options × List Step))
-    → (went : Went a policies status source sink edge links trace) → (HasFault source → ⊥) → (HasFault sink → ⊥) → went.given.count ≤ limit
+    → (went : Went IsGood a policies status source sink edge links trace) → (HasFault source → ⊥) → (HasFault sink → ⊥) → went.given.count ≤ limit
     → (status ≡ 0) ⊎ (status ≡ 3) ⊎ (status ≡ 7)

@@ -2,7 +2,9 @@
 
 ghost use Rattle.pulsar_job.specs.Went.{Completes};
 
+use pulsar_machine::Machine;
+
 /// Without faults, and within the limit, a run is done, or has failed by an error in its trace, unless memory runs out.
-pub fn completes()
-    ensures { Completes }
+pub fn completes<C: Machine>()
+    ensures { Completes C.good }
 {}

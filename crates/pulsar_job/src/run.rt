@@ -42,7 +42,7 @@ pub fn job<C: FromUrl, R: Threads + Wait + Sync, S: Source, K: Sink, E: Edge>(
 ) -> Job<C, E>
     ensures no_form { (result.status ≡ 2) ↔ (form_of (map string_bytes words.now) ≡ None) }
     ensures nothing { result.status ≡ 2 → (source.new ≡ source.old) × (sink.new ≡ sink.old) × (edge.new ≡ edge.old) }
-    ensures went { MatchOption (form_of (map string_bytes words.now)) (Unit {0}) (λ a. Went a (C.routes policies) result.status
+    ensures went { MatchOption (form_of (map string_bytes words.now)) (Unit {0}) (λ a. Went C.good a (C.routes policies) result.status
         (seen S.left S.faults source.old source.new) (seen K.holds K.faults sink.old sink.new) (edge_seen E.failures E.first E.greatest edge.old edge.new)
         (map (link_seen E.Input.given E.Input.faults E.Output.taken E.Output.faults) result.halves.items)
         (option_map (λ t. (C.given t.client, history t.trace.items)) result.trace)) }
@@ -66,7 +66,7 @@ pub fn served<C: FromUrl, R: Threads + Wait + Sync, S: Source, K: Sink, E: Edge>
 ) -> Status
     ensures no_form { (result ≡ 2) ↔ (form_of (map string_bytes words.now) ≡ None) }
     ensures nothing { result ≡ 2 → (source.new ≡ source.old) × (sink.new ≡ sink.old) × (edge.new ≡ edge.old) }
-    ensures went { MatchOption (form_of (map string_bytes words.now)) (Unit {0}) (λ a. HasGone a (C.routes policies) result
+    ensures went { MatchOption (form_of (map string_bytes words.now)) (Unit {0}) (λ a. HasGone C.good a (C.routes policies) result
         (seen S.left S.faults source.old source.new) (seen K.holds K.faults sink.old sink.new) (edge_seen E.failures E.first E.greatest edge.old edge.new)) }
 {
     let job = job::<C, R, S, K, E>(rt, alloc, words, source, sink, edge, policies);
@@ -134,7 +134,7 @@ fn perform<C: FromUrl, R: Wait, K: Sink, E: Edge>(
     edge: &mut E,
     policies: C::Policies,
 ) -> Job<C, E>
-    ensures { Performs url.now (C.routes policies) (work_in task.now) result.status (seen K.holds K.faults sink.old sink.new)
+    ensures { Performs C.good url.now (C.routes policies) (work_in task.now) result.status (seen K.holds K.faults sink.old sink.new)
         (edge_seen E.failures E.first E.greatest edge.old edge.new) (map (link_seen E.Input.given E.Input.faults E.Output.taken E.Output.faults) result.halves.items)
         (option_map (λ t. (C.given t.client, history t.trace.items)) result.trace) }
 {
@@ -159,7 +159,7 @@ fn drive<T: Terms, C: Machine, R: Wait, K: Sink, E: Edge>(
 ) -> Job<C, E>
     requires { C.given traced.client ≡ T.given }
     ensures drives { traced.trace.items ≡ [] → (before : IoKind → ℕ) → Fits before (E.failures edge.old) (E.greatest edge.old) []
-        → Drives T.given (work_in task.now) before (E.failures edge.new) (E.greatest edge.new) result.status (seen K.holds K.faults sink.old sink.new)
+        → Drives C.good T.given (work_in task.now) before (E.failures edge.new) (E.greatest edge.new) result.status (seen K.holds K.faults sink.old sink.new)
         (map (link_seen E.Input.given E.Input.faults E.Output.taken E.Output.faults) result.halves.items)
         (option_map (λ t. (C.given t.client, history t.trace.items)) result.trace) }
     ensures first { IfSome result.trace (λ _. (now : ℕ) → E.first edge.old ≡ Some now → E.first edge.new ≡ Some now) }
@@ -186,7 +186,7 @@ fn finish<C: Machine, K: Sink, E: Edge>(
     sink: &mut K,
 ) -> Job<C, E>
     ensures { (w : Work) → ComesOut w (history traced.trace.items) is_done
-        → Finishes (C.given traced.client) (history traced.trace.items) w result.status (seen K.holds K.faults sink.old sink.new)
+        → Finishes C.good (C.given traced.client) (history traced.trace.items) w result.status (seen K.holds K.faults sink.old sink.new)
         (seen_of (map (link_now E.Input.given E.Input.faults E.Output.taken E.Output.faults) links.items))
         (map (link_seen E.Input.given E.Input.faults E.Output.taken E.Output.faults) result.halves.items)
         (option_map (λ t. (C.given t.client, history t.trace.items)) result.trace) }

@@ -35,10 +35,18 @@ pub enum Series {
 }
 
 /// What runs for an address, and who waits for that, in the order of their asking.
-#[derive(Drop)]
 pub struct Base {
     pub series: Series,
     pub waiting: Vec<Who>,
+}
+
+impl Drop for Base {
+    fn drop(self) {
+        let Base {
+            series: _,
+            waiting: _,
+        } = self;
+    }
 }
 
 /// An attempt that is to follow: its address, who started the series, and the retries so far.
@@ -51,11 +59,20 @@ pub struct Pause {
 
 /// The addresses for which something runs, by key, and the attempts that are to follow, by the link whose attempt failed. Nothing is
 /// kept of an address for which nothing runs.
-#[derive(Drop)]
 pub struct Addresses {
     pub alloc: Global,
     pub bases: BTreeMap<String, Base>,
     pub pauses: BTreeMap<u64, Pause>,
+}
+
+impl Drop for Addresses {
+    fn drop(self) {
+        let Addresses {
+            alloc: _,
+            bases: _,
+            pauses: _,
+        } = self;
+    }
 }
 
 impl Addresses {

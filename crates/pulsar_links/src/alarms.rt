@@ -17,13 +17,22 @@ use std::marker::Model;
 use std::mem::replace;
 
 /// The alarms that are set, each with its moment. Those whose moment has come are found without a look at the others.
-#[derive(Drop)]
 pub struct Alarms {
     alloc: Global,
     // by alarm
     moments: BTreeMap<Alarm, u64>,
     // the alarms of each moment
     alarms: BTreeMap<u64, BTreeSet<Alarm>>,
+}
+
+impl Drop for Alarms {
+    fn drop(self) {
+        let Alarms {
+            alloc: _,
+            moments: _,
+            alarms: _,
+        } = self;
+    }
 }
 
 impl Model for Alarms {

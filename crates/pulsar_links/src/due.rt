@@ -14,13 +14,22 @@ use std::marker::Model;
 use std::mem::replace;
 
 /// When links are due, for each of them its next moment. Those that are due are found without a look at the others.
-#[derive(Drop)]
 pub struct DueMoments {
     alloc: Global,
     // by link
     moments: BTreeMap<u64, u64>,
     // the links of each moment
     links: BTreeMap<u64, BTreeSet<u64>>,
+}
+
+impl Drop for DueMoments {
+    fn drop(self) {
+        let DueMoments {
+            alloc: _,
+            moments: _,
+            links: _,
+        } = self;
+    }
 }
 
 impl Model for DueMoments {

@@ -29,7 +29,6 @@ use std::collections::{BTreeMap, BTreeSet, VecDeque};
 use url::Url;
 
 /// How many links were started, and those of them that have not ended, by number.
-#[derive(Drop)]
 pub struct Links {
     pub alloc: Global,
     pub started: u64,
@@ -40,6 +39,18 @@ pub struct Links {
     failed: bool,
     ghost timed: { failed ≡ false → AreTimed due live },
     ghost fresh: { failed ≡ false → AreStarted started live },
+}
+
+impl Drop for Links {
+    fn drop(self) {
+        let Links {
+            alloc: _,
+            started: _,
+            live: _,
+            due: _,
+            failed: _,
+        } = self;
+    }
 }
 
 impl Links {

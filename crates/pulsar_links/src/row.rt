@@ -31,13 +31,24 @@ use std::collections::BTreeMap;
 
 /// A link: the address that it is for, its connection, who asked for the frames of its places that are to be told something, the
 /// moment at which it was last got, and the place of the ping that keeps it alive, while that waits.
-#[derive(Drop)]
 pub struct Row {
     pub address: Address,
     pub connection: Connection,
     pub askers: BTreeMap<u64, Who>,
     pub got: u64,
     pub ping: Option<u64>,
+}
+
+impl Drop for Row {
+    fn drop(self) {
+        let Row {
+            address: _,
+            connection: _,
+            askers: _,
+            got: _,
+            ping: _,
+        } = self;
+    }
 }
 
 impl Row {

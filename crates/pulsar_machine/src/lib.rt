@@ -1,10 +1,9 @@
 //! What a client offers to whoever keeps a record of its run.
 #![tactic(auto)]
 
-ghost use Rattle.std.specs.Prelude.{◌≡◌, ◌∷◌, ◌↔◌, [], IfOk, IsTrue, List};
-ghost use Rattle.pulsar_acts.specs.Run.{Good, Step, view};
-ghost use Rattle.pulsar_acts.specs.View.{Options, Waits};
-ghost use Rattle.pulsar_links.specs.Seats.{has_ended};
+ghost use Rattle.std.specs.Prelude.{◌≡◌, ◌∷◌, [], ℕ, Bool, IfOk, List};
+ghost use Rattle.pulsar_acts.specs.Run.{Step};
+ghost use Rattle.pulsar_acts.specs.View.{Options};
 ghost use Rattle.pulsar_machine.specs.Machine.{step};
 
 mod from_url;
@@ -30,7 +29,16 @@ pub trait Machine: Drop {
     /// What the options say that the client was made with.
     ghost given: { Self → Options };
 
-    /// The client stands for this history, newest step first, of these options.
+    /// This history, newest step first, is one that such a client may have with these options.
+    ghost good: { Options → List Step → Type 0 };
+
+    /// After this history it is right to say of a link that it has ended, or that it has not.
+    ghost says_ended: { Options → List Step → ℕ → Bool → Type 0 };
+
+    /// After this history it is right to say of a link that it is open and something waits for it, or that it is not so.
+    ghost says_waits: { Options → List Step → ℕ → Bool → Type 0 };
+
+    /// The client stands for this history of these options.
     ghost stands: { Options → Self → List Step → Type 0 };
 
     /// A client to which nothing has happened.
@@ -48,15 +56,15 @@ pub trait Machine: Drop {
 
     /// The link of this number has ended. It takes no memory.
     fn link_ended(&self, link: u64) -> bool
-        ensures { (o : Options) (h : List Step) → stands o self.now h → (g : Good o h) → result ≡ has_ended link (view o g.log).links };
+        ensures { (o : Options) (h : List Step) → stands o self.now h → says_ended o h link result };
 
     /// The link of this number is open, and something waits for it. It takes no memory.
     fn link_waits(&self, link: u64) -> bool
-        ensures { (o : Options) (h : List Step) → stands o self.now h → (g : Good o h) → IsTrue result ↔ Waits link (view o g.log) };
+        ensures { (o : Options) (h : List Step) → stands o self.now h → says_waits o h link result };
 
     /// A client stands for histories of its own options alone.
     ghost made: { (o : Options) (c : Self) (h : List Step) → stands o c h → o ≡ given c };
 
-    /// Each history that a client stands for is legal.
-    ghost legal: { (o : Options) (c : Self) (h : List Step) → stands o c h → Good o h };
+    /// Each history that a client stands for is good.
+    ghost legal: { (o : Options) (c : Self) (h : List Step) → stands o c h → good o h };
 }

@@ -1,10 +1,10 @@
 //! Which partition a message goes to.
 
-use pulsar_messages::{Message, ProducerOptions, RoutingPolicy};
 use pulsar_addresses::content::Text;
 use pulsar_addresses::random::connection_id;
-use pulsar_producer::Producer;
+use pulsar_messages::{Message, ProducerOptions, RoutingPolicy};
 use pulsar_outgoing::content::Settings;
+use pulsar_producer::Producer;
 use pulsar_producer::routing::{Partition, PartitionedProducer};
 use std::alloc::Global;
 use std::test::Fail;

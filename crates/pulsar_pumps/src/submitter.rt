@@ -9,12 +9,21 @@ use pulsar_calls::event::Event;
 use pulsar_wire::error::NoMemory;
 
 /// An event's place in the trace, and its effects.
-#[derive(Debug, Drop)]
+#[derive(Debug)]
 pub struct Receipt {
     /// How many events stand before it in the trace.
     pub index: u64,
     /// What the client wants done for it.
     pub effects: Vec<Effect>,
+}
+
+impl Drop for Receipt {
+    fn drop(self) {
+        let Receipt {
+            index: _,
+            effects: _,
+        } = self;
+    }
 }
 
 /// Takes events for a client.

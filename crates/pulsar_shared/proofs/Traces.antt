@@ -8,13 +8,13 @@ use Rattle.pulsar_calls.specs.declared.event.Event.{Event}
 use Rattle.pulsar_calls.specs.declared.effect.Effect.{Effect}
 use Rattle.pulsar_calls.specs.Content.{heard, shown}
 use Rattle.pulsar_wire.specs.declared.error.NoMemory.{NoMemory}
-use Rattle.pulsar_acts.specs.Run.{Good, Step}
+use Rattle.pulsar_acts.specs.Run.{Step}
 use Rattle.pulsar_acts.specs.View.{Options}
 use Rattle.pulsar_machine.specs.Machine.{step}
 use Rattle.pulsar_pumps.specs.declared.submitter.Receipt.{Receipt}
 use Rattle.pulsar_pumps.specs.Made.{made_by}
 use Rattle.pulsar_pumps.specs.Outside.{Grows}
-use Rattle.pulsar_shared.specs.Trace.{Had, Legal, SaysEnded, has_news, history, numbered, step_of, steps}
+use Rattle.pulsar_shared.specs.Trace.{Had, Legal, has_news, history, numbered, step_of, steps}
 
 same_step : (d e : Event) (x y : List Effect) → heard d ≡ heard e → map shown x ≡ map shown y → step d x ≡ step e y
 same_step d e x y p q = ap (λ t. record { event = t; effects = map shown x }) p ∙ ap (λ t. record { event = heard e; effects = t }) q
@@ -44,17 +44,17 @@ stands_more S o p c d xs ys e x is same goes s =
     ∥∥₁_map s (λ t. subst P (sym same) (subst Q (sym (history_more xs ys e x is)) (goes o (history xs) t)))
 
 -- what a client stands for is legal
-pub legal_of : {C : Type 0} (S : Options → C → List Step → Type 0) (legal : (o : Options) (c : C) (h : List Step) → S o c h → Good o h) (o : Options) (c : C) (h : List Step) → ∥ S o c h ∥₁ → ∥ Good o h ∥₁
-legal_of S legal o c h s = ∥∥₁_map s (λ t. legal o c h t)
+pub legal_of : {C : Type 0} (good : Options → List Step → Type 0) (S : Options → C → List Step → Type 0) (legal : (o : Options) (c : C) (h : List Step) → S o c h → good o h) (o : Options) (c : C) (h : List Step) → ∥ S o c h ∥₁ → ∥ good o h ∥₁
+legal_of good S legal o c h s = ∥∥₁_map s (λ t. legal o c h t)
 
 -- the trace is legal behind an entry that was tried
-pub made_legal : {C : Type 0} (S : Options → C → List Step → Type 0) (legal : (o : Options) (c : C) (h : List Step) → S o c h → Good o h) (r : Result Receipt NoMemory) (o p : Options) (c d : C) (xs ys : List (Event × Vec Effect)) (k e : Event) (x : List Effect) →
-    heard k ≡ heard e → p ≡ o → ((q : Options) (h : List Step) → S q c h → S q d (step e x ∷ h)) → ∥ S o c (history xs) ∥₁ → ∥ Good o (history xs) ∥₁ →
-    OnOk r (steps ys ≡ steps xs ++ step k x ∷ []) → OnErr r (ys ≡ xs) → ∥ Good p (history ys) ∥₁
-made_legal S legal (Ok r) o p c d xs ys k e x h same goes s good entry unchanged =
-    legal_of S legal p d (history ys) (stands_more S o p c d xs ys e x (entry_same (steps xs) (steps ys) k e x x entry h refl) same goes s)
-made_legal S legal (Err r) o p c d xs ys k e x h same goes s good entry unchanged =
-    subst (λ (q : Options). ∥ Good q (history ys) ∥₁) (sym same) (subst (λ (zs : List (Event × Vec Effect)). ∥ Good o (history zs) ∥₁) (sym unchanged) good)
+pub made_legal : {C : Type 0} (good : Options → List Step → Type 0) (S : Options → C → List Step → Type 0) (legal : (o : Options) (c : C) (h : List Step) → S o c h → good o h) (r : Result Receipt NoMemory) (o p : Options) (c d : C) (xs ys : List (Event × Vec Effect)) (k e : Event) (x : List Effect) →
+    heard k ≡ heard e → p ≡ o → ((q : Options) (h : List Step) → S q c h → S q d (step e x ∷ h)) → ∥ S o c (history xs) ∥₁ → ∥ good o (history xs) ∥₁ →
+    OnOk r (steps ys ≡ steps xs ++ step k x ∷ []) → OnErr r (ys ≡ xs) → ∥ good p (history ys) ∥₁
+made_legal good S legal (Ok r) o p c d xs ys k e x h same goes s was entry unchanged =
+    legal_of good S legal p d (history ys) (stands_more S o p c d xs ys e x (entry_same (steps xs) (steps ys) k e x x entry h refl) same goes s)
+made_legal good S legal (Err r) o p c d xs ys k e x h same goes s was entry unchanged =
+    subst (λ (q : Options). ∥ good q (history ys) ∥₁) (sym same) (subst (λ (zs : List (Event × Vec Effect)). ∥ good o (history zs) ∥₁) (sym unchanged) was)
 
 -- where it is busy nothing is said of its client
 pub while_busy : {C : Type 0} (S : Options → C → List Step → Type 0) (o : Options) (c : C) (h : List Step) (failed : Bool) → failed ≡ true → failed ≡ false → ∥ S o c h ∥₁
@@ -62,30 +62,30 @@ while_busy S o c h failed busy clear = absurd cc
 
 -- WHAT A DESK HAD
 
-module _ (o p : Options) (opening total amount : ℕ) (xs : List (Event × Vec Effect)) (same : o ≡ p) (good : ∥ Good o (history xs) ∥₁) (counted : length xs ≡ opening + total) (bound : amount ≤ total) where
-  pub had : Had p (opening + amount) (steps xs)
+module _ (good : Options → List Step → Type 0) (o p : Options) (opening total amount : ℕ) (xs : List (Event × Vec Effect)) (same : o ≡ p) (was : ∥ good o (history xs) ∥₁) (counted : length xs ≡ opening + total) (bound : amount ≤ total) where
+  pub had : Had good p (opening + amount) (steps xs)
   had = record {
-    legal = subst (λ (q : Options). ∥ Good q (history xs) ∥₁) same good;
+    legal = subst (λ (q : Options). ∥ good q (history xs) ∥₁) same was;
     long = omega (arith, counted, bound, length-map xs step_of);
   }
 
   pub since_had : {E : Type 0} (r : Result (Vec (Event × Vec Effect)) E) (from : ℕ) → IfOk r (λ v. steps v.items ≡ steps (drop from xs)) →
-      IfOk r (λ v. (ss : List Step) × Had p (opening + amount) ss × (steps v.items ≡ drop from ss))
+      IfOk r (λ v. (ss : List Step) × Had good p (opening + amount) ss × (steps v.items ≡ drop from ss))
   since_had (Ok v) from is = (steps xs, had, is ∙ sym (drop-map step_of from xs))
   since_had (Err e) from is = tt
 
-  pub ended_had : {E : Type 0} (r : Result Bool E) (link : ℕ) → IfOk r (λ b. SaysEnded o (history xs) link b) → IfOk r (λ b. (ss : List Step) × Had p (opening + amount) ss × SaysEnded p (reverse ss) link b)
-  ended_had (Ok b) link is = (steps xs, had, subst (λ (q : Options). SaysEnded q (history xs) link b) same is)
-  ended_had (Err e) link is = tt
+  pub ended_had : {E : Type 0} (says : Options → List Step → ℕ → Bool → Type 0) (r : Result Bool E) (link : ℕ) → IfOk r (λ b. says o (history xs) link b) → IfOk r (λ b. (ss : List Step) × Had good p (opening + amount) ss × says p (reverse ss) link b)
+  ended_had says (Ok b) link is = (steps xs, had, subst (λ (q : Options). says q (history xs) link b) same is)
+  ended_had says (Err e) link is = tt
 
-  pub news_had : (from : ℕ) (b : Bool) → b ≡ has_news (steps (drop from xs)) → b ≡ true → (ss : List Step) × Had p (opening + amount) ss × (has_news (drop from ss) ≡ true)
+  pub news_had : (from : ℕ) (b : Bool) → b ≡ has_news (steps (drop from xs)) → b ≡ true → (ss : List Step) × Had good p (opening + amount) ss × (has_news (drop from ss) ≡ true)
   news_had from b is yes_news = (steps xs, had, ap has_news (drop-map step_of from xs) ∙ (sym is ∙ yes_news))
 
-  pub submitted_had : (ys : List (Event × Vec Effect)) (q : Options) (e : Event) (r : Receipt) → q ≡ o → ∥ Good q (history ys) ∥₁ → steps ys ≡ steps xs ++ step e r.effects.items ∷ [] → r.index ≡ length xs →
-      (ss : List Step) × Had p (opening + amount) ss × (r.index ≡ length ss) × Legal p (ss ++ step e r.effects.items ∷ [])
+  pub submitted_had : (ys : List (Event × Vec Effect)) (q : Options) (e : Event) (r : Receipt) → q ≡ o → ∥ good q (history ys) ∥₁ → steps ys ≡ steps xs ++ step e r.effects.items ∷ [] → r.index ≡ length xs →
+      (ss : List Step) × Had good p (opening + amount) ss × (r.index ≡ length ss) × Legal good p (ss ++ step e r.effects.items ∷ [])
   submitted_had ys q e r new there is index =
-      let P : List Step → Type 0 = λ ss. ∥ Good p (reverse ss) ∥₁ in
-      let at : ∥ Good p (history ys) ∥₁ = subst (λ (z : Options). ∥ Good z (history ys) ∥₁) (new ∙ same) there in
+      let P : List Step → Type 0 = λ ss. ∥ good p (reverse ss) ∥₁ in
+      let at : ∥ good p (history ys) ∥₁ = subst (λ (z : Options). ∥ good z (history ys) ∥₁) (new ∙ same) there in
       (steps xs, had, omega (arith, index, length-map xs step_of), subst P is at)
 
 -- A LIST WITH ITS PLACES

@@ -3,9 +3,8 @@ use Rattle.std.specs.Prelude.{◌≡◌, ◌≤◌, ◌||◌, ℕ, ◌+◌, Bool
 use Rattle.std.specs.Global.{Vec}
 use Rattle.pulsar_calls.specs.declared.event.Event.{Event}
 use Rattle.pulsar_calls.specs.declared.effect.Effect.{Effect}
-use Rattle.pulsar_acts.specs.Run.{Good, Step, view}
+use Rattle.pulsar_acts.specs.Run.{Step}
 use Rattle.pulsar_acts.specs.View.{Options}
-use Rattle.pulsar_links.specs.Seats.{has_ended}
 use Rattle.pulsar_machine.specs.Machine.{step}
 use Rattle.pulsar_pumps.specs.Made.{Made, OfLink, NoLink, Dialed, Came, WasLost, MayWrite, of_link}
 
@@ -20,22 +19,18 @@ steps entries = map step_of entries
 abbrev pub history : List (Event × Vec Effect) → List Step
 history entries = reverse (steps entries)
 
--- the steps are, oldest first, a legal history of these options
-abbrev pub Legal : Options → List Step → Type 0
-Legal o ss = ∥ Good o (reverse ss) ∥₁
+-- the steps are, oldest first, a good history of these options
+abbrev pub Legal : (good : Options → List Step → Type 0) → Options → List Step → Type 0
+Legal good o ss = ∥ good o (reverse ss) ∥₁
 
 -- steps with their places, from the place n on
 abbrev pub numbered : ℕ → List Step → List Made
 numbered n [] = []
 numbered n (s ∷ ss) = record { index = n; event = s.event; effects = s.effects } ∷ numbered (n + 1) ss
 
--- it is right to say, after this history, that the link has ended, or that it has not
-abbrev pub SaysEnded : Options → List Step → (link : ℕ) → Bool → Type 0
-SaysEnded o h link b = (g : Good o h) → b ≡ has_ended link (view o g.log).links
-
--- what the client behind a lock had done at one moment: a legal history of these options, at least as long as this
-pub record Had (o : Options) (least : ℕ) (ss : List Step) : Type 0 where
-  pub legal : Legal o ss
+-- what the client behind a lock had done at one moment: a good history of these options, at least as long as this
+pub record Had (good : Options → List Step → Type 0) (o : Options) (least : ℕ) (ss : List Step) : Type 0 where
+  pub legal : Legal good o ss
   pub long : least ≤ length ss
 
 -- an event is none that asks for bytes to write

@@ -4,7 +4,7 @@ ghost use Rattle.std.specs.Prelude.{◌≡◌, ◌∷◌, ◌++◌, ◌+◌, ◌
 ghost use Rattle.pulsar_acts.specs.Run.{Step};
 ghost use Rattle.pulsar_acts.specs.View.{Options};
 ghost use Rattle.pulsar_machine.specs.Machine.{step};
-ghost use Rattle.pulsar_shared.specs.Trace.{Had, Legal, SaysEnded, has_news, steps};
+ghost use Rattle.pulsar_shared.specs.Trace.{Had, Legal, has_news, steps};
 ghost use Rattle.pulsar_shared.specs.Unset.{unset};
 
 use crate::traced::Traced;
@@ -71,7 +71,7 @@ impl<L: Opening> Pass<L> {
 
 impl<L: Opening, C: Machine> Desk<L, C> {
     fn submit(&mut self, pass: &mut Pass<L>, event: Event) -> Result<Receipt, NoMemory>
-        ensures stands { IfOk result (λ r. (ss : List Step) × Had L.given (L.opening + pass.old.share.amount) ss × (r.index ≡ length ss) × Legal L.given (ss ++ step event r.effects.items ∷ [])) }
+        ensures stands { IfOk result (λ r. (ss : List Step) × Had C.good L.given (L.opening + pass.old.share.amount) ss × (r.index ≡ length ss) × Legal C.good L.given (ss ++ step event r.effects.items ∷ [])) }
         ensures counted { OnOk result (pass.new.share.amount ≡ pass.old.share.amount + 1) }
         ensures err { OnErr result (pass.new.share.amount ≡ pass.old.share.amount) }
         ensures parts { pass.new.parts ≡ pass.old.parts }
@@ -90,7 +90,7 @@ impl<L: Opening, C: Machine> Desk<L, C> {
 
     /// None while it has neither run out of memory nor has news from this place on.
     fn news(&mut self, pass: &mut Pass<L>, seen: u64) -> Option<Result<(), NoMemory>>
-        ensures had { IfSome result (λ r. OnOk r ((ss : List Step) × Had L.given (L.opening + pass.old.share.amount) ss × (has_news (drop seen ss) ≡ true))) }
+        ensures had { IfSome result (λ r. OnOk r ((ss : List Step) × Had C.good L.given (L.opening + pass.old.share.amount) ss × (has_news (drop seen ss) ≡ true))) }
         ensures same { (pass.new.parts ≡ pass.old.parts) × (pass.new.share.amount ≡ pass.old.share.amount) }
     {
         let Desk { traced, events } = self;
@@ -106,7 +106,7 @@ impl<L: Opening, C: Machine> Desk<L, C> {
     }
 
     fn ended(&mut self, pass: &mut Pass<L>, link: u64) -> Result<bool, NoMemory>
-        ensures had { IfOk result (λ b. (ss : List Step) × Had L.given (L.opening + pass.old.share.amount) ss × SaysEnded L.given (reverse ss) link b) }
+        ensures had { IfOk result (λ b. (ss : List Step) × Had C.good L.given (L.opening + pass.old.share.amount) ss × ∥ C.says_ended L.given (reverse ss) link b ∥₁) }
         ensures same { (pass.new.parts ≡ pass.old.parts) × (pass.new.share.amount ≡ pass.old.share.amount) }
     {
         let Desk { traced, events } = self;
@@ -120,7 +120,7 @@ impl<L: Opening, C: Machine> Desk<L, C> {
         pass: &mut Pass<L>,
         from: u64,
     ) -> Result<Vec<(Event, Vec<Effect>)>, NoMemory>
-        ensures had { IfOk result (λ v. (ss : List Step) × Had L.given (L.opening + pass.old.share.amount) ss × (steps v.items ≡ drop from ss)) }
+        ensures had { IfOk result (λ v. (ss : List Step) × Had C.good L.given (L.opening + pass.old.share.amount) ss × (steps v.items ≡ drop from ss)) }
         ensures same { (pass.new.parts ≡ pass.old.parts) × (pass.new.share.amount ≡ pass.old.share.amount) }
     {
         let Desk { traced, events } = self;
@@ -189,7 +189,7 @@ impl<L: Opening, C: Machine> Shared<L, C> {
         pass: &mut Pass<L>,
         event: Event,
     ) -> Result<Receipt, NoMemory>
-        ensures stands { IfOk result (λ r. (ss : List Step) × Had L.given (L.opening + pass.old.share.amount) ss × (r.index ≡ length ss) × Legal L.given (ss ++ step event r.effects.items ∷ [])) }
+        ensures stands { IfOk result (λ r. (ss : List Step) × Had C.good L.given (L.opening + pass.old.share.amount) ss × (r.index ≡ length ss) × Legal C.good L.given (ss ++ step event r.effects.items ∷ [])) }
         ensures counted { OnOk result (pass.new.share.amount ≡ pass.old.share.amount + 1) }
         ensures err { OnErr result (pass.new.share.amount ≡ pass.old.share.amount) }
         ensures parts { pass.new.parts ≡ pass.old.parts }
@@ -206,7 +206,7 @@ impl<L: Opening, C: Machine> Shared<L, C> {
         pass: &mut Pass<L>,
         from: u64,
     ) -> Result<Vec<(Event, Vec<Effect>)>, NoMemory>
-        ensures entries { IfOk result (λ v. (ss : List Step) × Had L.given (L.opening + pass.old.share.amount) ss × (steps v.items ≡ drop from ss)) }
+        ensures entries { IfOk result (λ v. (ss : List Step) × Had C.good L.given (L.opening + pass.old.share.amount) ss × (steps v.items ≡ drop from ss)) }
         ensures same { (pass.new.parts ≡ pass.old.parts) × (pass.new.share.amount ≡ pass.old.share.amount) }
     {
         self.desk.lock(rt).since(pass, from)
@@ -215,7 +215,7 @@ impl<L: Opening, C: Machine> Shared<L, C> {
     /// Waits until an entry that is no Drain stands at this place of the trace or later. Once the client has run out of memory it answers that,
     /// also where it waits already.
     pub fn wait<R: Wait>(&self, rt: &R, pass: &mut Pass<L>, seen: u64) -> Result<(), NoMemory>
-        ensures had { OnOk result ((ss : List Step) × Had L.given (L.opening + pass.old.share.amount) ss × (has_news (drop seen ss) ≡ true)) }
+        ensures had { OnOk result ((ss : List Step) × Had C.good L.given (L.opening + pass.old.share.amount) ss × (has_news (drop seen ss) ≡ true)) }
         ensures same { (pass.new.parts ≡ pass.old.parts) × (pass.new.share.amount ≡ pass.old.share.amount) }
     {
         let mut desk = self.desk.lock(rt);
@@ -230,7 +230,7 @@ impl<L: Opening, C: Machine> Shared<L, C> {
 
     /// Waits for the lock, and says whether the link has ended. Once the client has run out of memory it answers that.
     pub fn ended<R: Wait>(&self, rt: &R, pass: &mut Pass<L>, link: u64) -> Result<bool, NoMemory>
-        ensures had { IfOk result (λ b. (ss : List Step) × Had L.given (L.opening + pass.old.share.amount) ss × SaysEnded L.given (reverse ss) link b) }
+        ensures had { IfOk result (λ b. (ss : List Step) × Had C.good L.given (L.opening + pass.old.share.amount) ss × ∥ C.says_ended L.given (reverse ss) link b ∥₁) }
         ensures same { (pass.new.parts ≡ pass.old.parts) × (pass.new.share.amount ≡ pass.old.share.amount) }
     {
         self.desk.lock(rt).ended(pass, link)

@@ -2,10 +2,10 @@
 
 ghost use Rattle.std.specs.Prelude.{◌≡◌, ◌∷◌, ◌++◌, ◌+◌, [], List, false, true, IfOk, IsErr, OnErr, OnOk, Some, drop, length};
 ghost use Rattle.pulsar_calls.specs.Content.{heard};
-ghost use Rattle.pulsar_acts.specs.Run.{Good, Step};
+ghost use Rattle.pulsar_acts.specs.Run.{Step};
 ghost use Rattle.pulsar_acts.specs.View.{Options};
 ghost use Rattle.pulsar_machine.specs.Machine.{step};
-ghost use Rattle.pulsar_shared.specs.Trace.{SaysEnded, has_news, history, numbered, steps};
+ghost use Rattle.pulsar_shared.specs.Trace.{has_news, history, numbered, steps};
 
 use crate::copies::{any_news, copy_effects, copy_entries, copy_in_box, rest};
 use pulsar_calls::effect::Effect;
@@ -17,15 +17,25 @@ use std::alloc::Global;
 
 /// A client, and all that has happened to it with the effects. Only its own calls change it, so what stands in the trace is what the client
 /// did.
-#[derive(Drop)]
 pub struct Traced<C: Machine> {
     client: C,
     trace: Vec<(Event, Vec<Effect>)>,
     // a call ran out of memory
     failed: bool,
     alloc: Global,
-    ghost legal: { ∥ Good (C.given client) (history trace.items) ∥₁ },
+    ghost legal: { ∥ C.good (C.given client) (history trace.items) ∥₁ },
     ghost stands: { failed ≡ false → ∥ C.stands (C.given client) client (history trace.items) ∥₁ },
+}
+
+impl<C: Machine> Drop for Traced<C> {
+    fn drop(self) {
+        let Traced {
+            client: _,
+            trace: _,
+            failed: _,
+            alloc: _,
+        } = self;
+    }
 }
 
 impl<C: Machine> Traced<C> {
@@ -56,7 +66,7 @@ impl<C: Machine> Traced<C> {
     /// What has happened, each event with its effects, in order.
     pub fn trace(&self) -> &[(Event, Vec<Effect>)]
         ensures trace { result.now ≡ self.now.trace.items }
-        ensures legal { ∥ Good (C.given self.now.client) (history result.now) ∥₁ }
+        ensures legal { ∥ C.good (C.given self.now.client) (history result.now) ∥₁ }
     {
         &self.trace
     }
@@ -64,7 +74,7 @@ impl<C: Machine> Traced<C> {
     /// The trace by itself.
     pub fn into_trace(self) -> Vec<(Event, Vec<Effect>)>
         ensures trace { result.items ≡ self.trace.items }
-        ensures legal { ∥ Good (C.given self.client) (history result.items) ∥₁ }
+        ensures legal { ∥ C.good (C.given self.client) (history result.items) ∥₁ }
     {
         let Traced {
             client,
@@ -110,7 +120,7 @@ impl<C: Machine> Traced<C> {
 
     /// The link has ended. After want of memory it answers that.
     pub fn link_ended(&self, link: u64) -> Result<bool, NoMemory>
-        ensures ended { IfOk result (λ b. SaysEnded (C.given self.now.client) (history self.now.trace.items) link b) }
+        ensures ended { IfOk result (λ b. ∥ C.says_ended (C.given self.now.client) (history self.now.trace.items) link b ∥₁) }
         ensures ok { OnOk result (self.now.failed ≡ false) }
         ensures failed { OnErr result (self.now.failed ≡ true) }
     {
@@ -201,7 +211,7 @@ fn keep(
 impl<C: Machine> Submitter for Traced<C> {
     ghost told = { λ t. Some (numbered 0 (steps t.trace.items)) };
 
-    ghost over = { λ t link b. SaysEnded (C.given t.client) (history t.trace.items) link b };
+    ghost over = { λ t link b. ∥ C.says_ended (C.given t.client) (history t.trace.items) link b ∥₁ };
 
     ghost others = { false };
 

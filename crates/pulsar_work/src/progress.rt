@@ -13,22 +13,38 @@ use pulsar_wire::{NoMemory, Wire};
 use std::alloc::Global;
 
 /// A link that is to be dialed.
-#[derive(Debug, Drop)]
+#[derive(Debug)]
 pub struct Dial {
     pub link: u64,
     pub host: String,
     pub port: u16,
 }
 
+impl Drop for Dial {
+    fn drop(self) {
+        let Dial {
+            link: _,
+            host: _,
+            port: _,
+        } = self;
+    }
+}
+
 /// An item that was given, and is not acknowledged yet.
-#[derive(Debug, Drop)]
+#[derive(Debug)]
 pub struct Owed {
     pub topic: String,
     pub id: MessageIdData,
 }
 
+impl Drop for Owed {
+    fn drop(self) {
+        let Owed { topic: _, id: _ } = self;
+    }
+}
+
 /// How far a job is.
-#[derive(Debug, Drop)]
+#[derive(Debug)]
 pub struct Progress {
     /// Whether the call of each ticket has ended well.
     pub ended: Vec<bool>,
@@ -50,6 +66,23 @@ pub struct Progress {
     pub failed_before: bool,
     /// What is to be dialed.
     pub dials: Vec<Dial>,
+}
+
+impl Drop for Progress {
+    fn drop(self) {
+        let Progress {
+            ended: _,
+            first_open: _,
+            failed: _,
+            given: _,
+            owed: _,
+            is_dry: _,
+            is_over: _,
+            stopped: _,
+            failed_before: _,
+            dials: _,
+        } = self;
+    }
 }
 
 impl Progress {

@@ -32,7 +32,6 @@ use pulsar_wire::error::NoMemory;
 use std::alloc::Global;
 
 /// The tables of a client.
-#[derive(Drop)]
 pub struct Tables {
     pub alloc: Global,
     pub settings: Settings,
@@ -50,6 +49,25 @@ pub struct Tables {
     pub alarms: Alarms,
     pub consumers: Consumers,
     pub producers: Producers,
+}
+
+impl Drop for Tables {
+    fn drop(self) {
+        let Tables {
+            alloc: _,
+            settings: _,
+            clock: _,
+            is_built: _,
+            is_stopped: _,
+            tickets: _,
+            plans: _,
+            links: _,
+            addresses: _,
+            alarms: _,
+            consumers: _,
+            producers: _,
+        } = self;
+    }
 }
 
 impl Tables {

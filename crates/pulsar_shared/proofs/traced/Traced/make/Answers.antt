@@ -18,7 +18,7 @@ returns-clause-stands g c =
 pub invariant_of-self-2 : goal.invariant_of-self-2
 invariant_of-self-2 g c =
     record {
-      legal = made_legal g.C.Machine.stands g.met.C.Machine.legal c.keep.result (g.C.Machine.given c.args.self.now.client) (g.C.Machine.given c.advance.new.client) c.args.self.now.client c.advance.new.client c.args.self.now.trace.items c.keep.new.trace.items c.in_ok-kept.kept.value c.args.event c.in_ok-kept.effects.items
+      legal = made_legal g.C.Machine.good g.C.Machine.stands g.met.C.Machine.legal c.keep.result (g.C.Machine.given c.args.self.now.client) (g.C.Machine.given c.advance.new.client) c.args.self.now.client c.advance.new.client c.args.self.now.trace.items c.keep.new.trace.items c.in_ok-kept.kept.value c.args.event c.in_ok-kept.effects.items
           c.in_ok-kept.ensures.kept c.advance.ensures.given c.in_ok-kept.ensures.stands c.requires.stands c.args.self.now.legal c.keep.ensures.entry c.keep.ensures.unchanged;
       stands = while_busy g.C.Machine.stands _ _ _ c.args.self.now.failed c.requires.busy;
     }

@@ -23,7 +23,8 @@ use Rattle.pulsar_producer_table.specs.Producers.{Producers, called_on, opened_o
 use Rattle.pulsar_acts.specs.Rules.{parts_of, procedure_for, shares_unless, starts, unless_refused}
 use Rattle.pulsar_acts.specs.Run.{goes_on}
 use Rattle.pulsar_agenda.specs.Agenda.{Agenda}
-use Rattle.pulsar_acts.specs.View.{Chosen, Tickets, View, after, alarms_built, builds, idle_period, may_call}
+use Rattle.pulsar_acts.specs.View.{Tickets, View, after, alarms_built, builds, idle_period, may_call}
+use Rattle.pulsar_machine.specs.Options.{Chosen}
 use Rattle.pulsar_links.specs.Seats.{later}
 
 -- TICKETS

@@ -23,7 +23,8 @@ use Rattle.pulsar_producer_table.specs.Producers.{Producers, all_routed, batches
 use Rattle.pulsar_calls.specs.Content.{next_advice}
 use Rattle.pulsar_acts.specs.Reading.{unless}
 use Rattle.pulsar_acts.specs.Rules.{parts_of, sends_as, sends_by, sends_with, share, shares_of, shares_unless}
-use Rattle.pulsar_acts.specs.View.{Chosen, View, may_call}
+use Rattle.pulsar_acts.specs.View.{View, may_call}
+use Rattle.pulsar_machine.specs.Options.{Chosen}
 
 -- REFUSED OR MADE
 

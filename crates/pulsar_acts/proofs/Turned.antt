@@ -15,7 +15,8 @@ use Rattle.pulsar_links.specs.Links.{Remains, change_in}
 use Rattle.pulsar_acts.specs.Rules.{served_on, waiters_of}
 use Rattle.pulsar_agenda.specs.Agenda.{Agenda}
 use Rattle.pulsar_acts.specs.Tables.{retry_set, retry_shown, turned_view, welcomed}
-use Rattle.pulsar_acts.specs.View.{Chosen, Turned, View, addresses_after, alarms_after, alarms_over, is_to_follow, links_after, turned}
+use Rattle.pulsar_acts.specs.View.{Turned, View, addresses_after, alarms_after, alarms_over, is_to_follow, links_after, turned}
+use Rattle.pulsar_machine.specs.Options.{Chosen}
 use Rattle.pulsar_links.specs.Seats.{Addresses, Links, Seat, is_for, pause_with, took_some}
 use Rattle.pulsar_acts.proofs.Turning.{IsStill, alarms_still, base_still, pause_still}
 

@@ -15,7 +15,8 @@ use Rattle.pulsar_links.specs.Links.{Remains, IsOver, change_at, change_in}
 use Rattle.pulsar_acts.specs.Rules.{failed_on, waiters_of}
 use Rattle.pulsar_links.specs.LinkRules.{ended_on}
 use Rattle.pulsar_acts.specs.Tables.{welcomed}
-use Rattle.pulsar_acts.specs.View.{Chosen, Turned, alarms_on, base_on, pause_of, pause_on, pause_for, turned_by}
+use Rattle.pulsar_acts.specs.View.{Turned, alarms_on, base_on, pause_of, pause_on, pause_for, turned_by}
+use Rattle.pulsar_machine.specs.Options.{Chosen}
 use Rattle.pulsar_links.specs.Seats.{Addresses, Base, Seat, arrival_at, base_turned, closing, took_some}
 
 -- NOTHING IS TURNED

@@ -11,7 +11,8 @@ use Rattle.pulsar_calls.specs.declared.act.Who.TheVariants.{Call, Consumer, Prod
 use Rattle.pulsar_calls.specs.Content.{Said, Shown, Ends, Retry}
 use Rattle.pulsar_links.specs.Links as links
 use Rattle.pulsar_consumer_table.specs.Consumers.{polled}
-use Rattle.pulsar_acts.specs.View.{Chosen, Turned, View, delay_of, turned}
+use Rattle.pulsar_acts.specs.View.{Turned, View, delay_of, turned}
+use Rattle.pulsar_machine.specs.Options.{Chosen}
 use Rattle.pulsar_links.specs.LinkEffects.{given_at, asked_at, connects}
 
 -- calls

@@ -37,7 +37,8 @@ use Rattle.pulsar_consumer_table.specs.declared.row.Sought.{Sought}
 use Rattle.pulsar_consumer_table.specs.declared.row.Sought.TheVariants.{Found, Gone, Later}
 use Rattle.pulsar_calls.specs.Notices.{notice}
 use Rattle.pulsar_consumer_table.specs.Notices.{due_to, heard_at, lost_at, stopped_seekers, word_to}
-use Rattle.pulsar_acts.specs.View.{Chosen, View, member_on, setup_of, ways_of}
+use Rattle.pulsar_acts.specs.View.{View, member_on, setup_of, ways_of}
+use Rattle.pulsar_machine.specs.Options.{Chosen}
 use Rattle.pulsar_links.specs.Seats.{Seat, answer_at, arrival_at, closing, is_asked}
 
 abbrev pub tells : Who → Outcome → List Act

@@ -77,7 +77,8 @@ use Rattle.pulsar_procedures.specs.Plan.{begins, closed_notice, fails}
 use Rattle.pulsar_producer_table.specs.Notices.{stopped_all}
 use Rattle.pulsar_producer_table.specs.Producers.{Producers, advice, batches_in, drawn, errand_of, is_held, is_settled_at, is_woken, link_at, next_batch_at, number_drawn, numbers_at, recalled, routed, stored_by, turn_passed, turn_taken, why_not}
 use Rattle.pulsar_calls.specs.Content.{next_advice}
-use Rattle.pulsar_acts.specs.View.{Chosen, Options, Tickets, Turned, View, is_live, may_call, room_of, told_some, turned, ways_of}
+use Rattle.pulsar_acts.specs.View.{Tickets, Turned, View, is_live, may_call, room_of, told_some, turned, ways_of}
+use Rattle.pulsar_machine.specs.Options.{Chosen, Options}
 use Rattle.pulsar_links.specs.Seats.{Addresses, Base, Links, Seat, answer_at, arrival_at, later, url_at}
 use Rattle.pulsar_consumer_table.specs.Consumers as consumer
 pub use Rattle.pulsar_calls.specs.Notices.{notice, stopped_one}

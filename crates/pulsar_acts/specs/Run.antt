@@ -2,6 +2,7 @@
 use Rattle.std.specs.Prelude.{ℕ, ◌+◌, ◌-◌, ◌^◌, Bool, true, false, if◌then◌else◌, List, [], ◌∷◌}
 use Rattle.pulsar_run.specs.Run as run
 pub use Rattle.pulsar_run.specs.Run.{Begins, Then}
+use Rattle.pulsar_calls.specs.Steps.{Step}
 use Rattle.pulsar_calls.specs.declared.act.Act.{Act}
 use Rattle.pulsar_calls.specs.declared.act.Act.TheVariants.{Comes, Told}
 use Rattle.pulsar_calls.specs.declared.act.Notice.{Notice}
@@ -11,7 +12,8 @@ use Rattle.pulsar_acts.specs.Effects.{effects}
 use Rattle.pulsar_calls.specs.Order.{effect_below}
 use Rattle.pulsar_acts.specs.Rules.{at_once, causes, further, joins, parts}
 use Rattle.pulsar_calls.specs.Order.{below}
-use Rattle.pulsar_acts.specs.View.{Options, View, after, begun, new}
+use Rattle.pulsar_acts.specs.View.{View, after, begun, new}
+use Rattle.pulsar_machine.specs.Options.{Options}
 use Rattle.pulsar_agenda.specs.Agenda.{Agenda}
 
 abbrev pub rules : run.Rules Options Heard View Act Notice Part Shown
@@ -35,9 +37,6 @@ rules =
 -- what is defined of a run over any rules, at these
 abbrev pub Entry : Type 0
 Entry = run.Entry Heard Act
-
-abbrev pub Step : Type 0
-Step = run.Step Heard Shown
 
 abbrev pub view : Options → List Entry → View
 view o log = run.view rules o log

@@ -20,7 +20,8 @@ use Rattle.pulsar_links.specs.Alarms.{set}
 use Rattle.pulsar_links.specs.Kept.{addresses_of, links_in}
 use Rattle.pulsar_producer_table.specs.KeptProducers.{producers_of}
 use Rattle.pulsar_consumer_table.specs.KeptConsumers.{consumers_in}
-use Rattle.pulsar_acts.specs.View.{Chosen, Turned, View, alarms_on, alarms_rung, base_on, delay_with, pause_on, pause_rung, waits_on}
+use Rattle.pulsar_acts.specs.View.{Turned, View, alarms_on, alarms_rung, base_on, delay_with, pause_on, pause_rung, waits_on}
+use Rattle.pulsar_machine.specs.Options.{Chosen}
 use Rattle.pulsar_links.specs.Seats.{Seat, later, nobody}
 use Rattle.pulsar_links.specs.Links.{change_in}
 use Rattle.pulsar_procedures.specs.Standing.{stand_of}

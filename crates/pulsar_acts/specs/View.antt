@@ -4,10 +4,8 @@ use Rattle.std.specs.List.{list_any}
 use Rattle.std.specs.Option.{is_some, option_map}
 use Rattle.pulsar_addresses.specs.Address.{Place, address_key, behind, is_reachable}
 use Rattle.pulsar_addresses.specs.Backoff.{backoff, connection_id, jitter}
-use Rattle.pulsar_addresses.specs.declared.options.ConnectionRetryOptions.{ConnectionRetryOptions}
 use Rattle.pulsar_addresses.specs.declared.options.OperationRetryOptions.{OperationRetryOptions}
 use Rattle.pulsar_plans.specs.declared.turn.Ways.{Ways}
-use Rattle.pulsar_messages.specs.Content.{AuthenticationValues}
 use Rattle.pulsar_messages.specs.Words.{Words}
 use Rattle.pulsar_session.specs.declared.states.Stage.{Stage}
 use Rattle.pulsar_session.specs.declared.states.Stage.TheVariants.{Dialing, Handshaking}
@@ -43,7 +41,6 @@ use Rattle.pulsar_links.specs.Links.{Change, Remains, Becomes, IsOver, change_by
 use Rattle.pulsar_links.specs.Links as links
 use Rattle.pulsar_procedures.specs.Plan.{begins, told}
 use Rattle.pulsar_producer_table.specs.Producers.{Producers, called_on, changed, halted, is_bare, joined, link_at, none, numbered, numbers_at, shut, timeout_at, topic_after}
-use Rattle.pulsar_producer.specs.Routing.{Policy}
 use Rattle.pulsar_producer.specs.Topic as topic
 use Rattle.pulsar_consumer_table.specs.Consumers as consumer
 use Rattle.pulsar_consumer_table.specs.Consumers.{Consumers, IsHeard, Member}
@@ -51,25 +48,7 @@ use Rattle.pulsar_consumer.specs.Topic as reader
 use Rattle.pulsar_consumer.specs.Topic.{of_raw}
 use Rattle.pulsar_calls.specs.Who.{is_same, rank, ticket_of, turn_of}
 use Rattle.pulsar_links.specs.Seats.{Seat, Links, Base, nobody, Addresses, later, seat_fed, seat_of_fresh, arrival_at, closing, took_some, is_busy, answer_at, is_asked, seat_asked, got_at, may_retry, pause_with, base_turned, base_dialed, is_for, pause_put, url_at, room_at}
-
--- What a client's options say of a run: the address of the service, where their URL has one; the credential; how connections are
--- attempted and kept, and how long requests wait, in milliseconds; how many frames of a link may be queued and not written; what random
--- words are drawn from; the number of the first request of each link, of the first producer, of the first consumer, and of the first message of
--- each producer; and the time of the start, in milliseconds since 1970.
-pub record Chosen : Type 0 where
-  pub base : Option Place
-  pub auth : Option AuthenticationValues
-  pub connection : ConnectionRetryOptions
-  pub operation : OperationRetryOptions
-  pub outbound : ℕ
-  pub seed : ℕ
-  pub first_number : ℕ
-  pub now : ℕ
-
--- these, and the policies by which producers choose partitions
-pub record Options : Type 0 where
-  pub chosen : Chosen
-  pub policies : List Policy
+use Rattle.pulsar_machine.specs.Options.{Chosen, Options}
 
 -- THINGS
 

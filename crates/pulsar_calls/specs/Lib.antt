@@ -5,3 +5,4 @@ pub mod Notices
 pub mod News
 pub mod Order
 pub mod Places
+pub mod Steps

@@ -7,7 +7,7 @@ use Rattle.std.proofs.lemmas.List.{map-append, reverse-append, take_more}
 use Rattle.pulsar_calls.specs.declared.event.Event.{Event}
 use Rattle.pulsar_calls.specs.declared.effect.Effect.{Effect}
 use Rattle.pulsar_calls.specs.Content.{Heard, Shown, Write, Hands, shown}
-use Rattle.pulsar_acts.specs.Run.{Step}
+use Rattle.pulsar_calls.specs.Steps.{Step}
 use Rattle.pulsar_broker.specs.History.{Act, Ended, Fed, Taken, Takes, bytes_for, ended_by, frames, given, settled, state, stream, turns}
 use Rattle.pulsar_broker.specs.State.{State, without}
 use Rattle.pulsar_broker.specs.Stands as broker

@@ -8,8 +8,9 @@ use Rattle.pulsar_client.specs.Client.{StandsFor}
 use Rattle.pulsar_client.specs.declared.pulsar.Pulsar.{Pulsar}
 use Rattle.pulsar_client.specs.Outside.{Rose}
 use Rattle.pulsar_calls.specs.Content.{Heard, Shown}
-use Rattle.pulsar_acts.specs.Run.{Good, Step}
-use Rattle.pulsar_acts.specs.View.{Options}
+use Rattle.pulsar_acts.specs.Run.{Good}
+use Rattle.pulsar_calls.specs.Steps.{Step}
+use Rattle.pulsar_machine.specs.Options.{Options}
 use Rattle.pulsar_script.specs.Grammar.{lines}
 use Rattle.pulsar_cli.specs.Script.{Adds, AddsFront, Given, IsStopped, Ran, Seen, limit}
 use Rattle.pulsar_cli.specs.Shown.{Awaits, GoesTo, GoesToLast, Going, HasTold, options_in, remaining, steps_left, unread}

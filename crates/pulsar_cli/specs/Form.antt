@@ -4,7 +4,7 @@ use Rattle.std.specs.Fmt.{decimal}
 use Rattle.std.specs.Option.{option_map, option_or}
 use Rattle.std.specs.Str.{bytes_eq}
 use Rattle.pulsar_wire.specs.Field.{◌>>=◌}
-use Rattle.pulsar_acts.specs.Run.{Step}
+use Rattle.pulsar_calls.specs.Steps.{Step}
 use Rattle.pulsar_script.specs.Words.{number}
 use Rattle.pulsar_work.specs.Form.{Asking, form_of}
 use Rattle.pulsar_cli.specs.Demo.{IsDemo, Numbers}

@@ -5,9 +5,10 @@ use Rattle.pulsar_addresses.specs.Backoff.{default_connection_retry, default_ope
 use Rattle.pulsar_producer.specs.Routing.{Policy}
 use Rattle.pulsar_links.specs.Address.{base_in}
 use Rattle.pulsar_calls.specs.Content.{Heard}
-use Rattle.pulsar_acts.specs.View.{Chosen, Options}
+use Rattle.pulsar_machine.specs.Options.{Chosen, Options}
 pub use Rattle.pulsar_job.specs.Outside.{Adds, AddsFront, Given, HasFault, Seen, limit, seen, since}
-use Rattle.pulsar_acts.specs.Run.{Good, Step, is_empty}
+use Rattle.pulsar_acts.specs.Run.{Good, is_empty}
+use Rattle.pulsar_calls.specs.Steps.{Step}
 use Rattle.pulsar_script.specs.Grammar.{Setting, Url, Auth, Outbound, Timeout, RetryDelay, OpRetries, Retries, MinBackoff, MaxBackoff, ConnectionTimeout, KeepAlive, MaxIdle, Seed, First, Now, Line, Nothing, Sets, Happens, Refused, line, lines}
 use Rattle.pulsar_script.specs.Text.{step, refusal}
 

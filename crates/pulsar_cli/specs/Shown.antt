@@ -8,8 +8,9 @@ use Rattle.pulsar_cli.specs.declared.stop.Stop.{Stop}
 use Rattle.pulsar_cli.specs.declared.stop.Stop.TheVariants as stop
 use Rattle.pulsar_client.specs.Outside.{Rose}
 use Rattle.pulsar_calls.specs.Content.{Heard, heard}
-use Rattle.pulsar_acts.specs.Run.{Good, Step, is_empty}
-use Rattle.pulsar_acts.specs.View.{Options}
+use Rattle.pulsar_acts.specs.Run.{Good, is_empty}
+use Rattle.pulsar_calls.specs.Steps.{Step}
+use Rattle.pulsar_machine.specs.Options.{Options}
 use Rattle.pulsar_script.specs.Grammar.{Happens, line as meaning, lines}
 use Rattle.pulsar_cli.specs.Choice.{choice_of}
 use Rattle.pulsar_script.specs.Parsed.{IsWithinLine}

@@ -2,8 +2,8 @@
 
 ghost use Rattle.std.specs.Prelude.{◌≡◌, ◌⊎◌, ◌+◌, ◌-◌, ◌<◌, ◌++◌, [], ℕ, List, Err, IfErr, IfOk, IfSome, MatchOption, OnOk, length, map, string_bytes, take};
 ghost use Rattle.pulsar_calls.specs.Content.{heard, shown};
-ghost use Rattle.pulsar_acts.specs.Run.{Step};
-ghost use Rattle.pulsar_acts.specs.View.{Options};
+ghost use Rattle.pulsar_calls.specs.Steps.{Step};
+ghost use Rattle.pulsar_machine.specs.Options.{Options};
 ghost use Rattle.pulsar_producer.specs.Routing.{Policy};
 ghost use Rattle.pulsar_script.specs.Grammar.{Happens, line as meaning};
 ghost use Rattle.pulsar_cli.specs.Choice.{choice_of};

@@ -4,7 +4,7 @@ ghost use Rattle.std.specs.Prelude.{if◌then◌else◌, length, bytes_eq, ◌�
 ghost use Rattle.std.specs.List.{list_any};
 ghost use Rattle.std.specs.Option.{option_copied, option_map};
 ghost use Rattle.pulsar_calls.specs.Content.{heard, said, shown};
-ghost use Rattle.pulsar_acts.specs.Run.{Step};
+ghost use Rattle.pulsar_calls.specs.Steps.{Step};
 ghost use Rattle.pulsar_client.specs.History.{step};
 ghost use Rattle.pulsar_cli.specs.Demo.{acked_by, consumer_ticket, count_if, is_done, is_sent, item_of, one_if_called, one_if_there, payload, right_bytes, right_count};
 ghost use Rattle.pulsar_cli.specs.Played.{Counts, SameElse, item_in};

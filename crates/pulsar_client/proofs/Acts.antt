@@ -19,7 +19,8 @@ use Rattle.pulsar_producer_table.specs.Producers.{Producers, routed}
 use Rattle.pulsar_acts.specs.Rules.{called, parts_of, shares_of, shares_unless, starts, why_no_sends}
 use Rattle.pulsar_links.specs.LinkRules.{on_link, over_links}
 use Rattle.pulsar_acts.specs.Run.{Entry, Begins, Then, rules, view}
-use Rattle.pulsar_acts.specs.View.{Chosen, Options, View, begun, begun_live, is_live}
+use Rattle.pulsar_acts.specs.View.{View, begun, begun_live, is_live}
+use Rattle.pulsar_machine.specs.Options.{Chosen, Options}
 use Rattle.pulsar_links.specs.Seats.{Links, Seat}
 
 -- LISTS

@@ -11,7 +11,7 @@ use Rattle.pulsar_outgoing.specs.Errors.{IsNoMemory}
 use Rattle.pulsar_calls.specs.Content.{Receipt, Said, Shown, answered, receipt_in}
 use Rattle.pulsar_calls.specs.declared.effect.Answer.{Answer}
 use Rattle.pulsar_calls.specs.declared.effect.Answer.TheVariants as answer
-use Rattle.pulsar_acts.specs.Run.{Step}
+use Rattle.pulsar_calls.specs.Steps.{Step}
 use Rattle.pulsar_client.specs.Taken.{Held, IsPolled, IsSaid, IsUnsaid, ended_in, held_but, is_lost, left_after, poll_said, polled, polled_answer}
 
 -- one more effect

@@ -19,7 +19,8 @@ use Rattle.pulsar_producer_table.specs.Producers.{advice}
 use Rattle.pulsar_acts.specs.Rules.{at_once, brings, call_part, further, parts, reads_on}
 use Rattle.pulsar_links.specs.LinkRules.{due_part, over_links}
 use Rattle.pulsar_acts.specs.Run.{Entry, Begins, Then, IsRun, agenda, rules, view}
-use Rattle.pulsar_acts.specs.View.{Options, View, is_live}
+use Rattle.pulsar_acts.specs.View.{View, is_live}
+use Rattle.pulsar_machine.specs.Options.{Options}
 use Rattle.pulsar_links.specs.Seats.{Seat, arrival_at}
 use Rattle.pulsar_client.proofs.Acts.{Each, begun_same, each_append, each_map, each_rest, over_each}
 use Rattle.pulsar_client.proofs.Raising.{IsRaised, may, raises}

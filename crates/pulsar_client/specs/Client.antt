@@ -9,10 +9,12 @@ use Rattle.pulsar_messages.specs.Content.{authentication_values}
 use Rattle.pulsar_producer.specs.Routing.{Policy}
 use Rattle.pulsar_links.specs.Address.{base_in}
 use Rattle.pulsar_calls.specs.Content.{Heard}
-use Rattle.pulsar_acts.specs.Run.{Good, Step, tickets_in, view}
+use Rattle.pulsar_acts.specs.Run.{Good, tickets_in, view}
+use Rattle.pulsar_calls.specs.Steps.{Step}
 use Rattle.pulsar_client.specs.History.{Stands}
 use Rattle.pulsar_client.specs.Taken.{held_but, held_in, is_in}
-use Rattle.pulsar_acts.specs.View.{Chosen, Options, is_live}
+use Rattle.pulsar_acts.specs.View.{is_live}
+use Rattle.pulsar_machine.specs.Options.{Chosen, Options}
 
 -- Options hold policies in boxes, of whatever types X and d, and `routes` says what function a policy is.
 

@@ -14,7 +14,8 @@ use Rattle.pulsar_outgoing.specs.Errors.{IsNoMemory}
 use Rattle.pulsar_client.specs.declared.answers.Taken.{Taken}
 use Rattle.pulsar_client.specs.declared.answers.Taken.TheVariants as taken
 use Rattle.pulsar_calls.specs.Content.{Said, Receipt, Failed, Done, Names, Address, Count, Addresses, Sends, Replies, Shown, Ends, said}
-use Rattle.pulsar_acts.specs.Run.{Step, tickets_in}
+use Rattle.pulsar_acts.specs.Run.{tickets_in}
+use Rattle.pulsar_calls.specs.Steps.{Step}
 
 -- what there is of a ticket: nothing, a call that waits, or what it ended with
 abbrev pub Held : Type 0

@@ -5,9 +5,9 @@ ghost use Rattle.pulsar_wire.specs.Failures.{failure};
 ghost use Rattle.pulsar_outgoing.specs.Errors.{IsNoMemory};
 ghost use Rattle.pulsar_client.specs.Client.{StandsFor};
 ghost use Rattle.pulsar_calls.specs.Content.{answered, said};
-ghost use Rattle.pulsar_acts.specs.Run.{Step};
+ghost use Rattle.pulsar_calls.specs.Steps.{Step};
 ghost use Rattle.pulsar_client.specs.Taken.{IsPolled, IsTaken, is_lost, poll_said, polled_answer, taken_with};
-ghost use Rattle.pulsar_acts.specs.View.{Options};
+ghost use Rattle.pulsar_machine.specs.Options.{Options};
 
 use crate::answers::Taken;
 use crate::pulsar::Pulsar;

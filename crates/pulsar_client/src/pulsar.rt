@@ -2,8 +2,10 @@
 
 ghost use Rattle.std.specs.Prelude.{◌≡◌, ◌∷◌, [], ℕ, List, OnErr, IfOk, IsErr, IsTrue, ◌↔◌, length, map, reverse};
 ghost use Rattle.pulsar_calls.specs.Content.{Called, asked, heard, shown};
-ghost use Rattle.pulsar_acts.specs.Run.{Good, Step, ticket_for, tickets_in, view};
-ghost use Rattle.pulsar_acts.specs.View.{Options, Waits};
+ghost use Rattle.pulsar_acts.specs.Run.{Good, ticket_for, tickets_in, view};
+ghost use Rattle.pulsar_calls.specs.Steps.{Step};
+ghost use Rattle.pulsar_acts.specs.View.{Waits};
+ghost use Rattle.pulsar_machine.specs.Options.{Options};
 ghost use Rattle.pulsar_links.specs.Seats.{has_ended};
 ghost use Rattle.pulsar_client.specs.History.{answered, step};
 ghost use Rattle.std.specs.Option.{option_copied, option_map};

@@ -5,9 +5,10 @@ ghost use Rattle.pulsar_run.specs.Order.{arranged};
 ghost use Rattle.pulsar_calls.specs.Content.{Heard, heard, shown};
 ghost use Rattle.pulsar_producer.specs.Routing.{Policy};
 ghost use Rattle.pulsar_calls.specs.Order.{effect_below};
-ghost use Rattle.pulsar_acts.specs.View.{Options, is_live};
+ghost use Rattle.pulsar_acts.specs.View.{is_live};
+ghost use Rattle.pulsar_machine.specs.Options.{Options};
 ghost use Rattle.pulsar_agenda.specs.Agenda.{agenda_of};
-ghost use Rattle.pulsar_acts.specs.Run.{Step};
+ghost use Rattle.pulsar_calls.specs.Steps.{Step};
 ghost use Rattle.pulsar_acts.specs.Tables.{view_of};
 ghost use Rattle.pulsar_client.specs.History.{InStep, Stands, step};
 

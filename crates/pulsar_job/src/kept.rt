@@ -1,7 +1,7 @@
 //! The record of a client whose options stay what they are.
 
 ghost use Rattle.std.specs.Prelude.{◌≡◌, ◌∷◌, Some, IfOk, OnErr, OnOk, false};
-ghost use Rattle.pulsar_acts.specs.View.{Options};
+ghost use Rattle.pulsar_machine.specs.Options.{Options};
 ghost use Rattle.pulsar_machine.specs.Machine.{step};
 ghost use Rattle.pulsar_shared.specs.Trace.{history, numbered, steps};
 ghost use Rattle.pulsar_shared.specs.Unset.{unset};

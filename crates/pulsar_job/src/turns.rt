@@ -2,7 +2,7 @@
 
 ghost use Rattle.std.specs.Prelude.{◌≡◌, ◌↔◌, ◌∷◌, true, false, List, Some, IfOk, IsTrue, OnOk, map, slice_get};
 ghost use Rattle.pulsar_calls.specs.Content.{asked};
-ghost use Rattle.pulsar_acts.specs.Run.{Step};
+ghost use Rattle.pulsar_calls.specs.Steps.{Step};
 ghost use Rattle.pulsar_shared.specs.Trace.{history};
 ghost use Rattle.pulsar_work.specs.Asking.{IsNext, Stops, work_in};
 ghost use Rattle.pulsar_work.specs.Calls.{Work};

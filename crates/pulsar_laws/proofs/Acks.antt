@@ -59,7 +59,8 @@ use Rattle.pulsar_consumer_table.specs.Consumers.{Member, link_at, number_at, re
 use Rattle.pulsar_producer_table.specs.Producers.{Producers, batches_in, errand_of, numbers_at, recalled_at, recalled_by, routed, why_not as unsent_why}
 use Rattle.pulsar_acts.specs.Reading.{subscribes_by, unless}
 use Rattle.pulsar_acts.specs.Rules.{asks_topics, at_once, closes, fails_as, flushes_all, from_base, notice, parts_of, procedure_for, produces_by, produces_from, searches, sends_as, sends_by, sends_with, share, shares_of, shares_unless, starts, stores_as, unless_refused, why_no_raw, why_no_sends, builds_with}
-use Rattle.pulsar_acts.specs.View.{Chosen, Options, Tickets, View, may_call, stand_after, stays, stays_some, told_some, ways_of}
+use Rattle.pulsar_acts.specs.View.{Tickets, View, may_call, stand_after, stays, stays_some, told_some, ways_of}
+use Rattle.pulsar_machine.specs.Options.{Chosen, Options}
 use Rattle.pulsar_acts.specs.Run.{Entry, Begins, Then, IsRun, agenda, view}
 use Rattle.pulsar_agenda.specs.Agenda.{first}
 use Rattle.pulsar_client.proofs.Acts.{Each, begun_same, each_append, each_either, each_first, each_map, each_rest, is_served}

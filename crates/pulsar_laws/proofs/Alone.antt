@@ -22,7 +22,8 @@ use Rattle.pulsar_calls.specs.Content.{Heard, Bytes}
 use Rattle.pulsar_laws.specs.Laws.{LinksAlone, call_at, calls_of, dialed_with}
 use Rattle.pulsar_links.specs.Links.{call_of, called, closed_by}
 use Rattle.pulsar_acts.specs.Run.{Entry, Begins, Then, view}
-use Rattle.pulsar_acts.specs.View.{Chosen, Options, begun_live, dialed, is_at, is_live, link_got, live_begun, setup}
+use Rattle.pulsar_acts.specs.View.{begun_live, dialed, is_at, is_live, link_got, live_begun, setup}
+use Rattle.pulsar_machine.specs.Options.{Chosen, Options}
 use Rattle.pulsar_links.specs.Seats.{Seat, got_at, seat_asked, seat_fed, seat_got, took, took_end, took_some}
 use Rattle.pulsar_session.specs.Link as session
 use Rattle.pulsar_client.proofs.Acts.{chosen_same}

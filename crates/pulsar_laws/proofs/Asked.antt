@@ -24,7 +24,8 @@ use Rattle.pulsar_acts.specs.Rules.{share, at_once, called, fails_as, causes, fo
 use Rattle.pulsar_calls.specs.Order.{below}
 use Rattle.pulsar_acts.specs.Run.{Entry, Begins, Then, IsRun, agenda, rules, view}
 use Rattle.pulsar_agenda.specs.Agenda.{Agenda, first}
-use Rattle.pulsar_acts.specs.View.{Options, View, told_some, ways_of, Chosen, may_call}
+use Rattle.pulsar_acts.specs.View.{View, told_some, ways_of, may_call}
+use Rattle.pulsar_machine.specs.Options.{Options, Chosen}
 use Rattle.pulsar_outgoing.specs.declared.orders.Errand.{Errand}
 use Rattle.pulsar_messages.specs.Content.{ProducerMessageValues}
 use Rattle.pulsar_producer_table.specs.Producers.{Producers, batches_in, errand_of, why_not, routed}

@@ -25,7 +25,8 @@ use Rattle.pulsar_laws.specs.AddressLaws.{AttemptsFollow, Begun, Followed}
 use Rattle.pulsar_links.specs.Links.{Change, IsOver}
 use Rattle.pulsar_acts.specs.Rules.{at_once, gets_from, tells, tries_again}
 use Rattle.pulsar_acts.specs.Run.{Entry, Begins, Then, agenda, view}
-use Rattle.pulsar_acts.specs.View.{Chosen, Options, Turned, View, pause_after, pause_for, pause_of, pause_on, pause_rung, turned_by}
+use Rattle.pulsar_acts.specs.View.{Turned, View, pause_after, pause_for, pause_of, pause_on, pause_rung, turned_by}
+use Rattle.pulsar_machine.specs.Options.{Chosen, Options}
 use Rattle.pulsar_links.specs.Seats.{Seat, is_retryable, pause_put}
 use Rattle.pulsar_calls.specs.declared.act.Outcome.TheVariants as outcome
 use Rattle.pulsar_client.proofs.Acts.{Each, begun_same, chosen_same, each_append, each_drop, each_map, first_case}

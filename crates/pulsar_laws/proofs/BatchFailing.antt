@@ -38,7 +38,8 @@ use Rattle.pulsar_procedures.specs.Plan.{begins, news_of, told}
 use Rattle.pulsar_calls.specs.Who.{is_same}
 use Rattle.pulsar_acts.specs.Rules.{notice}
 use Rattle.pulsar_acts.specs.Run.{Entry, Begins, Then, IsRun, view}
-use Rattle.pulsar_acts.specs.View.{Options, View, stays, stays_some, told_some}
+use Rattle.pulsar_acts.specs.View.{View, stays, stays_some, told_some}
+use Rattle.pulsar_machine.specs.Options.{Options}
 use Rattle.pulsar_client.proofs.Acts.{begun_same}
 use Rattle.pulsar_laws.specs.BatchLaws.{told_since}
 use Rattle.pulsar_laws.specs.Laws.{FailsSo, IsAnswered, IsDenied, IsInProducer, IsPartial, IsRefused, IsRefusedShare, IsSettled, IsTold, IsTurned, IsUnexpected, IsUnexpectedInProducer, has_failed, IsInUse, IsOfSeveral, IsClosed}

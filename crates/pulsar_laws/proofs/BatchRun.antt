@@ -37,7 +37,8 @@ use Rattle.pulsar_producer_table.specs.Producers.{next_batch_at}
 use Rattle.pulsar_acts.specs.Rules.{at_once, does, follows, follows_some, notice, performs}
 use Rattle.pulsar_acts.specs.Run.{Entry, Begins, Then, IsRun, agenda, view}
 use Rattle.pulsar_agenda.specs.Agenda.{first, first_of}
-use Rattle.pulsar_acts.specs.View.{Options, View, stays, stays_some, told_some}
+use Rattle.pulsar_acts.specs.View.{View, stays, stays_some, told_some}
+use Rattle.pulsar_machine.specs.Options.{Options}
 use Rattle.pulsar_calls.specs.Who.{is_same}
 use Rattle.pulsar_client.proofs.Acts.{begun_same}
 use Rattle.pulsar_laws.proofs.Batched.{BatchSo, IsRested, IsSending, IsSettling, IsTaking, StepTo, batch_goes, is_batch, takes_where, tells_where}

@@ -37,7 +37,8 @@ use Rattle.pulsar_procedures.specs.Plan.{begins, news_of, told}
 use Rattle.pulsar_laws.specs.ProducerLaws.{asks_in, is_queued}
 use Rattle.pulsar_acts.specs.Rules.{notice}
 use Rattle.pulsar_acts.specs.Run.{Entry, Begins, Then, IsRun, view}
-use Rattle.pulsar_acts.specs.View.{Options, stays, stays_some, told_some}
+use Rattle.pulsar_acts.specs.View.{stays, stays_some, told_some}
+use Rattle.pulsar_machine.specs.Options.{Options}
 use Rattle.pulsar_calls.specs.Who.{is_same}
 use Rattle.pulsar_client.proofs.Acts.{begun_same}
 use Rattle.pulsar_laws.proofs.Batched.{BatchSo, IsSending, StepTo, batch_goes}

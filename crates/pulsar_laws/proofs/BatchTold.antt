@@ -46,7 +46,7 @@ use Rattle.pulsar_laws.specs.Laws.{Cause}
 use Rattle.pulsar_procedures.specs.Plan.{news_in, news_of, overrides, told_to}
 use Rattle.pulsar_acts.specs.Rules.{notice}
 use Rattle.pulsar_acts.specs.Run.{Entry, Then, IsRun}
-use Rattle.pulsar_acts.specs.View.{Options}
+use Rattle.pulsar_machine.specs.Options.{Options}
 use Rattle.pulsar_laws.proofs.Batched.{Comes, IsSettling, Unsent, tells_where}
 use Rattle.pulsar_laws.proofs.BatchFailing.{Kept, KeepsSo, Why, fails_so, is_told_news, kept_run, never_told}
 use Rattle.pulsar_laws.proofs.BatchFrames.{asked_own}

@@ -40,7 +40,8 @@ use Rattle.pulsar_links.specs.LinkRules.{answered_by, answered_on, dropped, ende
 use Rattle.pulsar_calls.specs.Order.{opens}
 use Rattle.pulsar_producer_table.specs.Notices.{stopped_call}
 use Rattle.pulsar_acts.specs.Run.{Entry, Begins, Then, rules, view, IsRun}
-use Rattle.pulsar_acts.specs.View.{Options, View, pause_for, pause_of, turned_by, room_of, member_on, setup_of}
+use Rattle.pulsar_acts.specs.View.{View, pause_for, pause_of, turned_by, room_of, member_on, setup_of}
+use Rattle.pulsar_machine.specs.Options.{Options}
 use Rattle.pulsar_links.specs.Seats.{Addresses, Seat, answer_at, arrival_at, closing, is_asked, url_at}
 use Rattle.pulsar_calls.specs.Who.{in_turn, is_same, turn_of, ticket_of}
 use Rattle.pulsar_producer.specs.Topic as topic

@@ -10,7 +10,7 @@ use Rattle.pulsar_acts.specs.Rules.{notice}
 use Rattle.pulsar_links.specs.LinkRules.{tells_asker}
 use Rattle.pulsar_calls.specs.Order.{alone, opens}
 use Rattle.pulsar_acts.specs.Run.{Entry, Begins, Then, IsRun}
-use Rattle.pulsar_acts.specs.View.{Options}
+use Rattle.pulsar_machine.specs.Options.{Options}
 use Rattle.pulsar_client.proofs.Acts.{Each}
 
 -- LISTS

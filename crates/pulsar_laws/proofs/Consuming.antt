@@ -41,7 +41,8 @@ use Rattle.pulsar_acts.specs.Reading.{unless, subscribes_by, subscribes as begin
 use Rattle.pulsar_consumer_table.specs.Consumers.{Consumers, why_not}
 use Rattle.pulsar_producer_table.specs.Producers.{Producers}
 use Rattle.pulsar_acts.specs.Rules.{procedure_for, unless_refused}
-use Rattle.pulsar_acts.specs.View.{Chosen, Tickets, may_call, ways_of}
+use Rattle.pulsar_acts.specs.View.{Tickets, may_call, ways_of}
+use Rattle.pulsar_machine.specs.Options.{Chosen}
 use Rattle.pulsar_calls.specs.Content as content
 use Rattle.pulsar_incoming.specs.declared.naming.Ordered.TheVariants as ordered
 use Rattle.pulsar_calls.specs.declared.act.Makes.TheVariants.{Nothing}

@@ -22,7 +22,8 @@ use Rattle.pulsar_laws.specs.AddressLaws.{IdleEnds, IsIdleAt, IsQuietAt, SignsOf
 use Rattle.pulsar_acts.specs.Rules.{brings, idle_act, is_idle, keeps_alive, rung}
 use Rattle.pulsar_links.specs.LinkRules.{due_part, may_ping, over_links}
 use Rattle.pulsar_acts.specs.Run.{Entry, Begins, Then, rules, view}
-use Rattle.pulsar_acts.specs.View.{Options, View, is_live}
+use Rattle.pulsar_acts.specs.View.{View, is_live}
+use Rattle.pulsar_machine.specs.Options.{Options}
 use Rattle.pulsar_links.specs.Seats.{Seat}
 use Rattle.pulsar_laws.proofs.Sources.{Any, Check, Fits, Keeping, Source, Tick, arises_fits, gives, in_append, in_links, in_map, in_one, source, step_more}
 

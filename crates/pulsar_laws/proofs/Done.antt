@@ -11,7 +11,7 @@ use Rattle.pulsar_laws.specs.Laws.{AllIsDone, AreActs}
 use Rattle.pulsar_acts.specs.Rules.{at_once, causes, further, joins}
 use Rattle.pulsar_calls.specs.Order.{below}
 use Rattle.pulsar_acts.specs.Run.{Entry, Begins, Then, IsRun, agenda, rules, view}
-use Rattle.pulsar_acts.specs.View.{Options}
+use Rattle.pulsar_machine.specs.Options.{Options}
 
 in_left : {A : Type 0} (x : A) (xs ys : List A) → In x xs → In x (xs ++ ys)
 in_left x [] ys h = absurd h

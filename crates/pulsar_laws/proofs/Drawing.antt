@@ -46,7 +46,8 @@ use Rattle.pulsar_producer_table.specs.Producers.{Producers, all_routed, called_
 use Rattle.pulsar_acts.specs.Rules.{notice}
 use Rattle.pulsar_links.specs.Alarms.{rings}
 use Rattle.pulsar_acts.specs.Run.{Entry, Begins, Then, IsRun, view}
-use Rattle.pulsar_acts.specs.View.{Options, View, draws_on, may_call, producers_made, producers_rung, room_of, stays, stays_some, told_some}
+use Rattle.pulsar_acts.specs.View.{View, draws_on, may_call, producers_made, producers_rung, room_of, stays, stays_some, told_some}
+use Rattle.pulsar_machine.specs.Options.{Options}
 use Rattle.pulsar_acts.specs.View as seen
 use Rattle.pulsar_calls.specs.Who.{is_same, rank, turn_of}
 use Rattle.pulsar_client.proofs.Acts.{Each, begun_same, each_map}

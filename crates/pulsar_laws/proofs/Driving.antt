@@ -6,9 +6,11 @@ use Rattle.pulsar_calls.specs.Content.{Heard}
 use Rattle.pulsar_acts.specs.Effects.{effects}
 use Rattle.pulsar_calls.specs.Order.{effect_below}
 use Rattle.pulsar_acts.specs.Rules.{parts}
-use Rattle.pulsar_acts.specs.Run.{Entry, Begins, Then, Good, IsRun, Step, agenda, goes_on, rules, view}
+use Rattle.pulsar_acts.specs.Run.{Entry, Begins, Then, Good, IsRun, agenda, goes_on, rules, view}
+use Rattle.pulsar_calls.specs.Steps.{Step}
 use Rattle.pulsar_agenda.specs.Agenda.{Agenda, first, rest}
-use Rattle.pulsar_acts.specs.View.{Options, View, after, begun, new}
+use Rattle.pulsar_acts.specs.View.{View, after, begun, new}
+use Rattle.pulsar_machine.specs.Options.{Options}
 
 -- what is seen, what is left to do, and the steps so far
 pub record State : Type 0 where

@@ -28,7 +28,8 @@ use Rattle.pulsar_calls.specs.declared.act.LinkAct.TheVariants.{Reads, Ends}
 use Rattle.pulsar_calls.specs.declared.act.Part.TheVariants.{ToLink, Polls}
 use Rattle.pulsar_calls.specs.Who.{ticket_of}
 use Rattle.pulsar_consumer_table.specs.Consumers.{Member, is_closed_by, subscribed_on}
-use Rattle.pulsar_acts.specs.View.{Options, View, member_on}
+use Rattle.pulsar_acts.specs.View.{View, member_on}
+use Rattle.pulsar_machine.specs.Options.{Options}
 use Rattle.pulsar_links.specs.Seats.{answer_at, arrival_at, closing, is_asked, url_at}
 use Rattle.pulsar_acts.specs.Run.{Entry, Begins, Then, IsRun, view}
 use Rattle.pulsar_laws.proofs.Ticketed.{consumer_ticket, older_ticket}

@@ -44,7 +44,8 @@ use Rattle.pulsar_producer_table.specs.Producers.{Producers, batches_in, errand_
 use Rattle.pulsar_calls.specs.Content.{next_advice}
 use Rattle.pulsar_acts.specs.Rules.{asks_raw, asks_topics, at_once, builds_with, checks, closes, does, fails_as, flushes, flushes_all, follows, follows_some, from_base, gathers, is_taken, notice, order_of, parts_of, performs, procedure_for, produces, produces_by, produces_from, searches, sends, sends_as, sends_by, share, shares_of, shares_unless, starts, stores_as, unless, unless_refused, why_no_sends, why_no_raw}
 use Rattle.pulsar_acts.specs.Run.{Entry, Begins, Then, IsRun, agenda, view}
-use Rattle.pulsar_acts.specs.View.{Chosen, Options, Tickets, View, may_call, told_some, ways_of}
+use Rattle.pulsar_acts.specs.View.{Tickets, View, may_call, told_some, ways_of}
+use Rattle.pulsar_machine.specs.Options.{Chosen, Options}
 use Rattle.pulsar_calls.specs.Who.{is_same}
 use Rattle.pulsar_client.proofs.Acts.{Each, each_append, each_either, each_first, each_map, each_rest, is_served, late}
 use Rattle.pulsar_laws.proofs.Failing.{Fails, IsMade, begins_holds, course_fails, is_proper}

@@ -45,7 +45,8 @@ use Rattle.pulsar_consumer_table.specs.Consumers.{Member, flow_at, word_if, word
 use Rattle.pulsar_acts.specs.Reading.{flow_said, tells_word}
 use Rattle.pulsar_acts.specs.Rules.{at_once, causes, follows_some, further, joins, notice}
 use Rattle.pulsar_calls.specs.Order.{below}
-use Rattle.pulsar_acts.specs.View.{Options, View, stand_after, stays, stays_some, told_some, ways_of}
+use Rattle.pulsar_acts.specs.View.{View, stand_after, stays, stays_some, told_some, ways_of}
+use Rattle.pulsar_machine.specs.Options.{Options}
 use Rattle.pulsar_acts.specs.Run.{Entry, Begins, Then, IsRun, agenda, view}
 use Rattle.pulsar_agenda.specs.Agenda.{Agenda, first}
 use Rattle.pulsar_client.proofs.Acts.{Each, begun_same, each_append, each_first, each_map, each_rest, is_served}

@@ -24,7 +24,8 @@ use Rattle.pulsar_procedures.specs.Plan.{begins, told}
 use Rattle.pulsar_acts.specs.Rules.{at_once, called, does, follows, follows_some, left_with, performs, starts}
 use Rattle.pulsar_acts.specs.Run.{Entry, Begins, Then, IsRun, agenda, view}
 use Rattle.pulsar_agenda.specs.Agenda.{Agenda, first}
-use Rattle.pulsar_acts.specs.View.{Options, View, stays, stays_some, told_some, ways_of}
+use Rattle.pulsar_acts.specs.View.{View, stays, stays_some, told_some, ways_of}
+use Rattle.pulsar_machine.specs.Options.{Options}
 use Rattle.pulsar_calls.specs.Who.{is_same, rank}
 use Rattle.pulsar_client.proofs.Acts.{Each, StartsIn, begun_same, each_append, each_drop, each_map, first_case, is_served, none_now, starts_in}
 use Rattle.pulsar_laws.proofs.Left.{left_each}

@@ -41,7 +41,8 @@ use Rattle.pulsar_producer_table.specs.Producers.{drawn, recalled_at, recalled_b
 use Rattle.pulsar_laws.specs.ProducerLaws.{FramesAreOfTheirSends}
 use Rattle.pulsar_acts.specs.Rules.{notice}
 use Rattle.pulsar_acts.specs.Run.{Entry, Begins, Then, IsRun, view}
-use Rattle.pulsar_acts.specs.View.{Options, View, draws_on, room_of, stays, stays_some, told_some}
+use Rattle.pulsar_acts.specs.View.{View, draws_on, room_of, stays, stays_some, told_some}
+use Rattle.pulsar_machine.specs.Options.{Options}
 use Rattle.pulsar_calls.specs.Who.{is_same}
 use Rattle.pulsar_client.proofs.Acts.{begun_same}
 use Rattle.pulsar_laws.proofs.Drawing.{Every, here}

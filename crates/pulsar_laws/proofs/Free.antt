@@ -33,7 +33,8 @@ use Rattle.pulsar_laws.specs.ProducerLaws.{NumbersAreFree}
 use Rattle.pulsar_acts.specs.Rules.{notice}
 use Rattle.pulsar_links.specs.Alarms.{rings}
 use Rattle.pulsar_acts.specs.Run.{Entry, Begins, Then, IsRun, view}
-use Rattle.pulsar_acts.specs.View.{Options, View, draws_on, may_call, producers_made, producers_rung, room_of}
+use Rattle.pulsar_acts.specs.View.{View, draws_on, may_call, producers_made, producers_rung, room_of}
+use Rattle.pulsar_machine.specs.Options.{Options}
 use Rattle.pulsar_acts.specs.View as seen
 use Rattle.pulsar_calls.specs.Who.{rank}
 use Rattle.pulsar_client.proofs.Acts.{begun_same}

@@ -18,7 +18,7 @@ use Rattle.pulsar_procedures.specs.Plan.{verdict}
 use Rattle.pulsar_laws.specs.ProducerLaws.{PartsAreGathered}
 use Rattle.pulsar_acts.specs.Rules.{notice}
 use Rattle.pulsar_acts.specs.Run.{Entry, Begins, Then, IsRun}
-use Rattle.pulsar_acts.specs.View.{Options}
+use Rattle.pulsar_machine.specs.Options.{Options}
 use Rattle.pulsar_calls.specs.Who.{is_same}
 use Rattle.pulsar_client.proofs.Acts.{Each, each_append, each_map}
 use Rattle.pulsar_laws.proofs.Caused.{outcomes_are_caused_lem}

@@ -54,7 +54,8 @@ use Rattle.pulsar_links.specs.LinkRules.{answered_by, answered_on, dropped, ende
 use Rattle.pulsar_calls.specs.Order.{alone, below, opens}
 use Rattle.pulsar_producer_table.specs.Notices.{stopped_call}
 use Rattle.pulsar_acts.specs.Run.{Entry, Begins, Then, IsRun, agenda, rules, view}
-use Rattle.pulsar_acts.specs.View.{Options, Turned, View, after, room_of, stays, stays_some, told_some, turned_by}
+use Rattle.pulsar_acts.specs.View.{Turned, View, after, room_of, stays, stays_some, told_some, turned_by}
+use Rattle.pulsar_machine.specs.Options.{Options}
 use Rattle.pulsar_links.specs.Seats.{Addresses, Base, Seat, answer_at}
 use Rattle.pulsar_client.proofs.Acts.{Each, each_append, each_drop, each_either, each_flat, each_map, over_each}
 use Rattle.pulsar_client.proofs.Raising.{IsRaised, raises}

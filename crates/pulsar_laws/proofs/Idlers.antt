@@ -45,7 +45,8 @@ use Rattle.pulsar_procedures.specs.Plan.{told}
 use Rattle.pulsar_producer_table.specs.Producers.{is_bare, numbers_at, stored_at, timeout_at, topic_after, turn_passed}
 use Rattle.pulsar_acts.specs.Rules.{notice}
 use Rattle.pulsar_acts.specs.Run.{Entry, Begins, Then, IsRun, view}
-use Rattle.pulsar_acts.specs.View.{Chosen, Options, Turned, View, after, alarms_after, alarms_on, alarms_on_topic, alarms_over, alarms_rung, alarms_turned, alarms_waiting, base_after, base_on, begun_live, clear_all, is_live, link_got, live_after, live_begun, turned, waits_for, waits_from, waits_on, consumers_after, consumers_made, hears_ask, joins_as, may_call, member_on, setup_of}
+use Rattle.pulsar_acts.specs.View.{Turned, View, after, alarms_after, alarms_on, alarms_on_topic, alarms_over, alarms_rung, alarms_turned, alarms_waiting, base_after, base_on, begun_live, clear_all, is_live, link_got, live_after, live_begun, turned, waits_for, waits_from, waits_on, consumers_after, consumers_made, hears_ask, joins_as, may_call, member_on, setup_of}
+use Rattle.pulsar_machine.specs.Options.{Chosen, Options}
 use Rattle.pulsar_links.specs.Seats.{Addresses, Base, Seat, asker_at, base_turned, got_at, nobody, seat_asked, seat_fed, seat_got, took_end, took_some, arrival_at, closing, url_at}
 use Rattle.pulsar_calls.specs.Who.{behind_all, in_turn, is_same, turn_of, ticket_of}
 use Rattle.pulsar_client.proofs.Acts.{Each}

@@ -33,7 +33,8 @@ use Rattle.pulsar_procedures.specs.Plan.{begins, told}
 use Rattle.pulsar_laws.specs.ProducerLaws.{HasTurn, turn_in, turn_of}
 use Rattle.pulsar_acts.specs.Rules.{notice}
 use Rattle.pulsar_acts.specs.Run.{Entry, Begins, Then, IsRun, view}
-use Rattle.pulsar_acts.specs.View.{Options, stays, stays_some, told_some}
+use Rattle.pulsar_acts.specs.View.{stays, stays_some, told_some}
+use Rattle.pulsar_machine.specs.Options.{Options}
 use Rattle.pulsar_calls.specs.Who.{behind_all, is_same, turn_of as taken_as}
 use Rattle.pulsar_client.proofs.Acts.{begun_same}
 use Rattle.pulsar_laws.proofs.BatchRun.{Batched, batched_run}

@@ -20,7 +20,8 @@ use Rattle.pulsar_laws.specs.Laws.{Deed, Acted, Answered, ComesLate, DeedsFollow
 use Rattle.pulsar_procedures.specs.Plan.{begins, fails, told}
 use Rattle.pulsar_acts.specs.Rules.{at_once, follows, follows_some, left_with, performs, starts}
 use Rattle.pulsar_acts.specs.Run.{Entry, Begins, Then, IsRun, agenda, view}
-use Rattle.pulsar_acts.specs.View.{Options, View, told_some, ways_of}
+use Rattle.pulsar_acts.specs.View.{View, told_some, ways_of}
+use Rattle.pulsar_machine.specs.Options.{Options}
 use Rattle.pulsar_client.proofs.Acts.{Each, each_map, first_case, is_served, late}
 use Rattle.pulsar_laws.proofs.Follow.{NoDeed, follows_run, is_deed, left_no_deed, left_plain, performs_none, quiet_no_deed, starts_none}
 use Rattle.pulsar_laws.proofs.Natures.{Goes, KindBegun, KindOf, StaysSo, TellsSo, begins_goes, told_goes}

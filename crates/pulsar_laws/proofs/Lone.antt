@@ -28,7 +28,8 @@ use Rattle.pulsar_consumer_table.specs.Consumers as consumer
 use Rattle.pulsar_consumer_table.specs.Consumers.{Consumers, Member, closes, hears, hears_frame, loses_by, member_after, seeks, subscribed_on, waits_so}
 use Rattle.pulsar_consumer_table.specs.declared.row.Sought.{Sought}
 use Rattle.pulsar_consumer_table.specs.declared.row.Sought.TheVariants.{Found, Gone, Later}
-use Rattle.pulsar_acts.specs.View.{Options, View, begun, begun_live, consumers_after, consumers_left, consumers_made, hears_ask, is_live, joins_as, may_call, member_on, setup_of}
+use Rattle.pulsar_acts.specs.View.{View, begun, begun_live, consumers_after, consumers_left, consumers_made, hears_ask, is_live, joins_as, may_call, member_on, setup_of}
+use Rattle.pulsar_machine.specs.Options.{Options}
 use Rattle.pulsar_links.specs.Seats.{Seat, answer_at, arrival_at, closing, is_asked, url_at}
 use Rattle.pulsar_acts.specs.Run.{Entry, Begins, Then, IsRun, view}
 use Rattle.pulsar_laws.proofs.Ticketed.{consumer_ticket}

@@ -15,7 +15,7 @@ use Rattle.pulsar_laws.specs.Laws.{CallsAreMade}
 use Rattle.pulsar_producer_table.specs.Producers.{advice}
 use Rattle.pulsar_acts.specs.Rules.{at_once, call_part, called, causes, further, joins, parts, starts}
 use Rattle.pulsar_acts.specs.Run.{Entry, Begins, Then, IsRun, rules, view}
-use Rattle.pulsar_acts.specs.View.{Options}
+use Rattle.pulsar_machine.specs.Options.{Options}
 use Rattle.pulsar_client.proofs.Acts.{StartsIn, late, starts_in}
 use Rattle.pulsar_client.proofs.Raising.{IsRaised, OfStart, may, raises}
 use Rattle.pulsar_laws.proofs.Sources.{in_each, in_map, step_more, step_runs, step_some}

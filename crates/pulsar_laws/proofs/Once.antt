@@ -34,7 +34,8 @@ use Rattle.pulsar_producer_table.specs.Producers.{Producers, routed}
 use Rattle.pulsar_acts.specs.Rules.{at_once, called, does, follows, follows_some, left_with, parts_of, shares_of, shares_unless, starts, why_no_sends}
 use Rattle.pulsar_acts.specs.Run.{Entry, Begins, Then, IsRun, agenda, view}
 use Rattle.pulsar_agenda.specs.Agenda.{first}
-use Rattle.pulsar_acts.specs.View.{Chosen, Options, View, stays, stays_some, told_some, ways_of}
+use Rattle.pulsar_acts.specs.View.{View, stays, stays_some, told_some, ways_of}
+use Rattle.pulsar_machine.specs.Options.{Chosen, Options}
 use Rattle.pulsar_calls.specs.Who.{is_same}
 use Rattle.pulsar_client.proofs.Acts.{Each, StartsIn, begun_same, first_case, is_served, starts_in}
 use Rattle.pulsar_laws.proofs.Follow.{same_is}

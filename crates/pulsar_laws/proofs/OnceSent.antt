@@ -29,7 +29,8 @@ use Rattle.pulsar_laws.specs.Laws.{counted, start_of}
 use Rattle.pulsar_procedures.specs.Plan.{begins, goes_on_sending, halted, news_of, overrides, told}
 use Rattle.pulsar_laws.specs.ProducerLaws.{SentOnce, asks_send, is_queued, queued_times}
 use Rattle.pulsar_acts.specs.Run.{Entry, Begins, Then, view}
-use Rattle.pulsar_acts.specs.View.{Options, stays, stays_some, told_some}
+use Rattle.pulsar_acts.specs.View.{stays, stays_some, told_some}
+use Rattle.pulsar_machine.specs.Options.{Options}
 use Rattle.pulsar_calls.specs.Who.{is_same}
 use Rattle.pulsar_client.proofs.Acts.{begun_same}
 use Rattle.pulsar_laws.proofs.Natures.{Goes, StaysSo, is_batching, is_gathering, is_other, is_producing, is_storing, is_visiting, told_goes}

@@ -28,7 +28,8 @@ use Rattle.pulsar_laws.specs.Laws.{base_of}
 use Rattle.pulsar_laws.specs.AddressLaws.{Attempted, AttemptsFollow, Begun, OneLinkEach, names_link}
 use Rattle.pulsar_links.specs.Links.{Change, Remains, Becomes, IsOver, arrival, change_at, change_by, change_in, closed_by}
 use Rattle.pulsar_acts.specs.Run.{Entry, Begins, Then, IsRun, view}
-use Rattle.pulsar_acts.specs.View.{Chosen, Options, Turned, View, after, base_on, begun, begun_live, dialed, is_live, is_to_follow, link_got, live_begun, pause_for, pause_on, pause_rung, turned, turned_by, waits_for, waits_on}
+use Rattle.pulsar_acts.specs.View.{Turned, View, after, base_on, begun, begun_live, dialed, is_live, is_to_follow, link_got, live_begun, pause_for, pause_on, pause_rung, turned, turned_by, waits_for, waits_on}
+use Rattle.pulsar_machine.specs.Options.{Chosen, Options}
 use Rattle.pulsar_links.specs.Seats.{Base, Seat, base_turned, got_at, is_for, may_retry, nobody, pause_put, pause_with, seat_asked, seat_fed, seat_got, took, took_end, took_some}
 use Rattle.pulsar_laws.proofs.Alone.{no_some, some_is}
 

@@ -22,7 +22,8 @@ use Rattle.pulsar_procedures.specs.declared.plan.Turn.TheVariants.{Stays, Gives}
 use Rattle.pulsar_procedures.specs.Plan.{batches_on, begins, news_of, overrides, told}
 use Rattle.pulsar_acts.specs.Rules.{at_once, batches_by, batches_from, left_with}
 use Rattle.pulsar_acts.specs.Run.{Entry, Begins, Then, IsRun, agenda, view}
-use Rattle.pulsar_acts.specs.View.{Options, View, ways_of}
+use Rattle.pulsar_acts.specs.View.{View, ways_of}
+use Rattle.pulsar_machine.specs.Options.{Options}
 use Rattle.pulsar_client.proofs.Acts.{Each, each_append, each_either, each_first, each_map, each_rest, is_served}
 use Rattle.pulsar_laws.proofs.Batchers.{is_batcher}
 use Rattle.pulsar_client.proofs.Raising.{IsRaised, raises}

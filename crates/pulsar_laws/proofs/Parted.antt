@@ -35,7 +35,8 @@ use Rattle.pulsar_producer_table.specs.Producers.{Producers, advice, batches_in,
 use Rattle.pulsar_calls.specs.Content.{next_advice}
 use Rattle.pulsar_acts.specs.Rules.{asks_raw, asks_topics, builds_with, call_part, checks, closes, flushes, flushes_all, from_base, gathers, is_taken, parts_of, procedure_for, produces, produces_from, searches, sends, sends_as, sends_by, shares_of, shares_unless, starts, stores_as, unless, unless_refused, why_no_sends, why_no_raw}
 use Rattle.pulsar_acts.specs.Run.{Entry, Begins, Then, IsRun, view}
-use Rattle.pulsar_acts.specs.View.{Chosen, Options, View, may_call, ways_of}
+use Rattle.pulsar_acts.specs.View.{View, may_call, ways_of}
+use Rattle.pulsar_machine.specs.Options.{Chosen, Options}
 use Rattle.pulsar_calls.specs.Who.{is_same}
 use Rattle.pulsar_client.proofs.Acts.{Each, begun_same}
 use Rattle.pulsar_laws.proofs.Follow.{same_is}

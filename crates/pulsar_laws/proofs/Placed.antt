@@ -51,7 +51,8 @@ use Rattle.pulsar_consumer_table.specs.Consumers as consumer
 use Rattle.pulsar_consumer_table.specs.Consumers.{Member, flow_at, member_after}
 use Rattle.pulsar_acts.specs.Reading.{flow_said}
 use Rattle.pulsar_acts.specs.Rules.{follows, follows_some, notice}
-use Rattle.pulsar_acts.specs.View.{Options, stays, stays_some, told_some}
+use Rattle.pulsar_acts.specs.View.{stays, stays_some, told_some}
+use Rattle.pulsar_machine.specs.Options.{Options}
 use Rattle.pulsar_links.specs.Seats.{Seat, answer_at}
 use Rattle.pulsar_acts.specs.Run.{Entry, Begins, Then, IsRun, agenda, view}
 use Rattle.pulsar_agenda.specs.Agenda.{first}

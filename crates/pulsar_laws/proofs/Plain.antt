@@ -12,7 +12,8 @@ use Rattle.pulsar_links.specs.Address.{leads_to}
 use Rattle.pulsar_calls.specs.Content.{Said, Shown, Queued, Write, Hands, Faults}
 use Rattle.pulsar_acts.specs.Effects.{effects, ends, retries, retries_on}
 use Rattle.pulsar_links.specs.LinkEffects.{connects_to}
-use Rattle.pulsar_acts.specs.View.{Chosen, Turned, View}
+use Rattle.pulsar_acts.specs.View.{Turned, View}
+use Rattle.pulsar_machine.specs.Options.{Chosen}
 
 abbrev pub is_plain : Shown → Bool
 is_plain (Write l bytes) = false

@@ -29,9 +29,11 @@ use Rattle.pulsar_acts.specs.Effects.{effects, retries_on}
 use Rattle.pulsar_links.specs.LinkEffects.{asked_at, given_at}
 use Rattle.pulsar_calls.specs.Order.{effect_below, effect_rank, is_before3}
 use Rattle.pulsar_laws.specs.Laws.{EndsOnce}
-use Rattle.pulsar_acts.specs.Run.{Entry, Begins, Then, IsRun, Step, is_empty, rules, steps, view}
+use Rattle.pulsar_acts.specs.Run.{Entry, Begins, Then, IsRun, is_empty, rules, steps, view}
+use Rattle.pulsar_calls.specs.Steps.{Step}
 use Rattle.pulsar_agenda.specs.Agenda.{first_of}
-use Rattle.pulsar_acts.specs.View.{Options, View, turned}
+use Rattle.pulsar_acts.specs.View.{View, turned}
+use Rattle.pulsar_machine.specs.Options.{Options}
 use Rattle.pulsar_links.specs.Seats.{Seat, answer_at, arrival_at, closing, is_asked, url_at}
 use Rattle.pulsar_calls.specs.Who.{is_same, ticket_of}
 use Rattle.pulsar_client.proofs.Acts.{Each, each_append, each_map, each_either}

@@ -23,7 +23,8 @@ use Rattle.pulsar_calls.specs.declared.act.Part.TheVariants.{ToLink}
 use Rattle.pulsar_calls.specs.declared.act.Who.{Who}
 use Rattle.pulsar_calls.specs.Content.{Heard, Bytes}
 use Rattle.pulsar_links.specs.Links.{closed_by}
-use Rattle.pulsar_acts.specs.View.{Options, View, after, begun_live, is_live, link_got, live_begun}
+use Rattle.pulsar_acts.specs.View.{View, after, begun_live, is_live, link_got, live_begun}
+use Rattle.pulsar_machine.specs.Options.{Options}
 use Rattle.pulsar_links.specs.Seats.{Seat, answer_at, got_at, seat_asked, seat_fed, seat_got, took, took_end, took_some}
 use Rattle.pulsar_acts.specs.Run.{Entry, Begins, Then, view}
 use Rattle.pulsar_client.proofs.Acts.{begun_same}

@@ -50,7 +50,8 @@ use Rattle.pulsar_laws.specs.Laws.{Cause, calls_of, counted, start_of, started}
 use Rattle.pulsar_links.specs.Links.{closed_by, settled_in}
 use Rattle.pulsar_laws.specs.ProducerLaws.{ReceiptsAreOwn}
 use Rattle.pulsar_acts.specs.Run.{Entry, Begins, Then, IsRun, view}
-use Rattle.pulsar_acts.specs.View.{Options, View, begun_live, is_live, link_got, live_begun}
+use Rattle.pulsar_acts.specs.View.{View, begun_live, is_live, link_got, live_begun}
+use Rattle.pulsar_machine.specs.Options.{Options}
 use Rattle.pulsar_links.specs.Seats.{Seat, askers_left, got_at, seat_asked, seat_fed, seat_got, took, took_end, took_some}
 use Rattle.pulsar_calls.specs.Who.{is_same}
 use Rattle.pulsar_client.proofs.Acts.{Each}

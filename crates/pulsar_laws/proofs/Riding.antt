@@ -34,7 +34,8 @@ use Rattle.pulsar_calls.specs.Content.{Heard, Bytes}
 use Rattle.pulsar_calls.specs.Who.{is_same, ticket_of}
 use Rattle.pulsar_consumer_table.specs.Consumers.{Member, is_closed_by, subscribed_on}
 use Rattle.pulsar_links.specs.Links.{closed_by}
-use Rattle.pulsar_acts.specs.View.{Options, View, after, begun, begun_live, is_live, link_got, live_begun, member_on}
+use Rattle.pulsar_acts.specs.View.{View, after, begun, begun_live, is_live, link_got, live_begun, member_on}
+use Rattle.pulsar_machine.specs.Options.{Options}
 use Rattle.pulsar_links.specs.Seats.{Seat, answer_at, arrival_at, closing, got_at, is_asked, seat_asked, seat_fed, seat_got, took_end, took_some, url_at}
 use Rattle.pulsar_acts.specs.Run.{Entry, Begins, Then, IsRun, view}
 use Rattle.pulsar_laws.proofs.Ticketed.{consumer_ticket}

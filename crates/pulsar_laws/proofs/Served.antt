@@ -37,7 +37,8 @@ use Rattle.pulsar_procedures.specs.declared.plan.Turn.TheVariants.{Stays, Gives}
 use Rattle.pulsar_procedures.specs.declared.plan.Wanted.{Wanted}
 use Rattle.pulsar_procedures.specs.Plan.{acknowledges, action_of, begins, consumer_news_of, goes, in_departing, in_subscribing, news_in, overrides, stands, subscribes, told, waits}
 use Rattle.pulsar_acts.specs.Rules.{notice}
-use Rattle.pulsar_acts.specs.View.{Options, stays, stays_some, told_some}
+use Rattle.pulsar_acts.specs.View.{stays, stays_some, told_some}
+use Rattle.pulsar_machine.specs.Options.{Options}
 use Rattle.pulsar_acts.specs.Run.{Entry, Begins, Then, IsRun, view}
 use Rattle.pulsar_client.proofs.Acts.{begun_same}
 use Rattle.pulsar_laws.proofs.Batchers.{batcher_does}

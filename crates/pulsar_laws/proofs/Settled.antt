@@ -32,7 +32,8 @@ use Rattle.pulsar_procedures.specs.Plan.{begins, fails, fault_of, in_stored, sto
 use Rattle.pulsar_acts.specs.Rules.{notice}
 use Rattle.pulsar_acts.specs.Run.{Entry, Begins, Then, IsRun, agenda, view}
 use Rattle.pulsar_agenda.specs.Agenda.{first, rest}
-use Rattle.pulsar_acts.specs.View.{Options, View, stays, stays_some, told_some}
+use Rattle.pulsar_acts.specs.View.{View, stays, stays_some, told_some}
+use Rattle.pulsar_machine.specs.Options.{Options}
 use Rattle.pulsar_calls.specs.Who.{is_same}
 use Rattle.pulsar_client.proofs.Acts.{begun_same}
 use Rattle.pulsar_laws.proofs.BatchRun.{fits_first, none_first}

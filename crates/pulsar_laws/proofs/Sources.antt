@@ -21,7 +21,8 @@ use Rattle.pulsar_calls.specs.Content.{numbers_from}
 use Rattle.pulsar_acts.specs.Rules.{at_once, brings, further, joins, parts, reads_on}
 use Rattle.pulsar_links.specs.LinkRules.{due_part, on_link, over_links}
 use Rattle.pulsar_acts.specs.Run.{Entry, Begins, Then, IsRun, rules, view}
-use Rattle.pulsar_acts.specs.View.{Options, View, is_live}
+use Rattle.pulsar_acts.specs.View.{View, is_live}
+use Rattle.pulsar_machine.specs.Options.{Options}
 use Rattle.pulsar_links.specs.Seats.{Links, Seat, arrival_at}
 use Rattle.pulsar_client.proofs.Acts.{Each, each_append, each_either, each_map, over_each}
 use Rattle.pulsar_client.proofs.Raising.{IsRaised, raises}

@@ -23,7 +23,8 @@ use Rattle.pulsar_acts.specs.Rules.{at_once, does, finds, follows, follows_some,
 use Rattle.pulsar_links.specs.LinkRules.{told_at}
 use Rattle.pulsar_acts.specs.Run.{Entry, Begins, Then, IsRun, agenda, rules, view}
 use Rattle.pulsar_agenda.specs.Agenda.{Agenda, first}
-use Rattle.pulsar_acts.specs.View.{Options, View, stand_after, stays, stays_some, told_some}
+use Rattle.pulsar_acts.specs.View.{View, stand_after, stays, stays_some, told_some}
+use Rattle.pulsar_machine.specs.Options.{Options}
 use Rattle.pulsar_links.specs.Seats.{answer_at}
 use Rattle.pulsar_calls.specs.Who.{is_same}
 use Rattle.pulsar_outgoing.specs.declared.news.News.TheVariants as news

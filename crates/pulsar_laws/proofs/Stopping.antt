@@ -47,7 +47,8 @@ use Rattle.pulsar_calls.specs.Order.{below, opens}
 use Rattle.pulsar_producer_table.specs.Notices.{stopped_all, stopped_call}
 use Rattle.pulsar_acts.specs.Run.{Entry, Begins, Then, IsRun, agenda, rules, view}
 use Rattle.pulsar_agenda.specs.Agenda.{Agenda, first}
-use Rattle.pulsar_acts.specs.View.{after, Options, Tickets, View, alarms_after, alarms_built, alarms_on, alarms_over, begun, begun_live, builds, calls_after, is_live, link_got, live_after, live_begun, pause_after, pause_of, pause_on, pause_rung, told_some, turned_by, ways_of, Chosen, may_call, producers_after, producers_made, producers_rung, stand_after, stays_some, consumers_after, consumers_made}
+use Rattle.pulsar_acts.specs.View.{after, Tickets, View, alarms_after, alarms_built, alarms_on, alarms_over, begun, begun_live, builds, calls_after, is_live, link_got, live_after, live_begun, pause_after, pause_of, pause_on, pause_rung, told_some, turned_by, ways_of, may_call, producers_after, producers_made, producers_rung, stand_after, stays_some, consumers_after, consumers_made}
+use Rattle.pulsar_machine.specs.Options.{Options, Chosen}
 use Rattle.pulsar_links.specs.Seats.{Addresses, Base, Links, Seat, got_at, pause_put, took_some, arrival_at, closing}
 use Rattle.pulsar_producer_table.specs.declared.table.Topic.{Topic}
 use Rattle.pulsar_outgoing.specs.Storage.{Item}

@@ -74,7 +74,8 @@ use Rattle.pulsar_producer_table.specs.Producers.{Producers, advice, batches_in,
 use Rattle.pulsar_calls.specs.Content.{next_advice}
 use Rattle.pulsar_acts.specs.Rules.{asks_raw, asks_topics, builds_with, call_part, checks, closes, fails_as, flushes, flushes_all, from_base, gathers as gathers_by, is_taken, parts_of, procedure_for, produces, produces_from, searches, sends, sends_as, sends_by, share, shares_of, shares_unless, starts, stores_as, unless, unless_refused, why_no_sends, why_no_raw}
 use Rattle.pulsar_acts.specs.Run.{Entry, Begins, Then, IsRun, view}
-use Rattle.pulsar_acts.specs.View.{Chosen, View, may_call, ways_of}
+use Rattle.pulsar_acts.specs.View.{View, may_call, ways_of}
+use Rattle.pulsar_machine.specs.Options.{Chosen}
 use Rattle.pulsar_laws.proofs.Granted.{BeginsSo, does_from, in_each}
 use Rattle.pulsar_laws.proofs.Made.{calls_are_made_lem}
 use Rattle.pulsar_laws.proofs.Natures.{StaysSo, either_so}

@@ -60,7 +60,7 @@ use Rattle.pulsar_producer.specs.declared.building.Building.TheVariants as build
 use Rattle.pulsar_calls.specs.declared.act.Act.TheVariants.{Told, Does}
 use Rattle.pulsar_acts.specs.Rules.{notice}
 use Rattle.pulsar_acts.specs.Run.{Entry, Then, IsRun}
-use Rattle.pulsar_acts.specs.View.{Options}
+use Rattle.pulsar_machine.specs.Options.{Options}
 use Rattle.pulsar_laws.proofs.Batched.{StepWithin, is_outer, step_within, takes_where}
 use Rattle.pulsar_laws.proofs.BatchRun.{batched_run, deed_at}
 use Rattle.pulsar_laws.proofs.Granted.{does_from}

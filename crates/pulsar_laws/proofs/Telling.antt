@@ -38,7 +38,8 @@ use Rattle.pulsar_acts.specs.Rules.{at_once, causes, draw_outcome, draw_said, fi
 use Rattle.pulsar_links.specs.LinkRules.{over_links, stop_act, told_at}
 use Rattle.pulsar_calls.specs.Order.{below}
 use Rattle.pulsar_acts.specs.Run.{Entry, Begins, Then, IsRun, agenda, rules, view}
-use Rattle.pulsar_acts.specs.View.{Options, View, room_of, stays, stays_some, told_some}
+use Rattle.pulsar_acts.specs.View.{View, room_of, stays, stays_some, told_some}
+use Rattle.pulsar_machine.specs.Options.{Options}
 use Rattle.pulsar_links.specs.Seats.{answer_at}
 use Rattle.pulsar_calls.specs.Who.{is_same, turn_of, ticket_of}
 use Rattle.pulsar_producer.specs.Topic as topic

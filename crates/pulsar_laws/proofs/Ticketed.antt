@@ -32,7 +32,8 @@ use Rattle.pulsar_consumer_table.specs.Consumers.{Consumers, Member, called_on, 
 use Rattle.pulsar_consumer_table.specs.declared.numbers.Numbering.{Numbering}
 use Rattle.pulsar_consumer_table.specs.declared.numbers.Numbering.TheVariants.{Has as HasNumber, InUse, Spent}
 use Rattle.pulsar_link.specs.Request.{named_consumer}
-use Rattle.pulsar_acts.specs.View.{Options, View, consumers_after, consumers_left, consumers_made, drawn_after, joins_as, may_call, stand_after, stays_some, told_some}
+use Rattle.pulsar_acts.specs.View.{View, consumers_after, consumers_left, consumers_made, drawn_after, joins_as, may_call, stand_after, stays_some, told_some}
+use Rattle.pulsar_machine.specs.Options.{Options}
 use Rattle.pulsar_calls.specs.Who.{is_same, ticket_of}
 use Rattle.pulsar_client.proofs.Acts.{Each, StartsIn, begun_same, called_each, each_append, each_first, each_map, each_rest, is_served}
 use Rattle.pulsar_laws.proofs.Quiet.{IsQuiet, comes_quiet, performs_quiet}

@@ -32,7 +32,8 @@ use Rattle.pulsar_calls.specs.Content.{numbers_from}
 use Rattle.pulsar_producer_table.specs.Producers.{is_bare, numbers_at, timeout_at, topic_after}
 use Rattle.pulsar_links.specs.LinkRules.{due_part, on_link, over_links}
 use Rattle.pulsar_acts.specs.Run.{Entry, Begins, Then, view}
-use Rattle.pulsar_acts.specs.View.{Chosen, Options, Turned, View, alarms_after, alarms_on, alarms_on_topic, alarms_over, alarms_rung, alarms_turned, alarms_waiting, builds, clear_all, delay_of, idle_period, turned, waits_from}
+use Rattle.pulsar_acts.specs.View.{Turned, View, alarms_after, alarms_on, alarms_on_topic, alarms_over, alarms_rung, alarms_turned, alarms_waiting, builds, clear_all, delay_of, idle_period, turned, waits_from}
+use Rattle.pulsar_machine.specs.Options.{Chosen, Options}
 use Rattle.pulsar_links.specs.Seats.{Seat, later}
 use Rattle.pulsar_client.proofs.Acts.{Each, begun_same, each_append, each_map}
 use Rattle.pulsar_agenda.proofs.Orders.{one_way3, chain3}

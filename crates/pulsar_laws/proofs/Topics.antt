@@ -22,7 +22,8 @@ use Rattle.pulsar_producer_table.specs.Producers.{Producers, changed, made_of, n
 use Rattle.pulsar_laws.specs.ProducerLaws.{TopicsAlone, acts_on, drawn_by, rung_by, shut_by, topic_acts}
 use Rattle.pulsar_acts.specs.Run.{Entry, Begins, Then, IsRun, view}
 use Rattle.pulsar_links.specs.Alarms.{rings}
-use Rattle.pulsar_acts.specs.View.{Options, View, draws_on, producers_made, producers_rung, room_of}
+use Rattle.pulsar_acts.specs.View.{View, draws_on, producers_made, producers_rung, room_of}
+use Rattle.pulsar_machine.specs.Options.{Options}
 use Rattle.pulsar_acts.specs.View as seen
 use Rattle.pulsar_calls.specs.Who.{rank, turn_of}
 use Rattle.pulsar_client.proofs.Acts.{begun_same, chosen_same}

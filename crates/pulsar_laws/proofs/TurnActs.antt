@@ -25,7 +25,8 @@ use Rattle.pulsar_procedures.specs.Plan.{begins, told}
 use Rattle.pulsar_producer_table.specs.Producers.{Producers, changed, topic_after}
 use Rattle.pulsar_laws.specs.ProducerLaws.{HasTurn, topic_acts}
 use Rattle.pulsar_acts.specs.Run.{Entry, Then, IsRun, view}
-use Rattle.pulsar_acts.specs.View.{Options, stays, stays_some, told_some}
+use Rattle.pulsar_acts.specs.View.{stays, stays_some, told_some}
+use Rattle.pulsar_machine.specs.Options.{Options}
 use Rattle.pulsar_calls.specs.Who.{is_same}
 use Rattle.pulsar_laws.proofs.Drawing.{drawn_run, row_from}
 use Rattle.pulsar_laws.proofs.Follow.{same_is}

@@ -31,7 +31,7 @@ use Rattle.pulsar_producer_table.specs.Producers.{Producers, topic_after, turn_p
 use Rattle.pulsar_laws.specs.ProducerLaws.{HasTurn, PassedInTurn, QueuedInTurn, ToldInTurn, acts_on, turn_of}
 use Rattle.pulsar_acts.specs.Rules.{at_once, grants, notice, takes_turn, turn_notice}
 use Rattle.pulsar_acts.specs.Run.{Entry, Begins, Then, IsRun, view}
-use Rattle.pulsar_acts.specs.View.{Options}
+use Rattle.pulsar_machine.specs.Options.{Options}
 use Rattle.pulsar_calls.specs.Who.{behind_all, in_turn, is_same, turn_of as taken_as}
 use Rattle.pulsar_client.proofs.Acts.{begun_same}
 use Rattle.pulsar_laws.proofs.Drawing.{Every, here}

@@ -26,7 +26,8 @@ use Rattle.pulsar_laws.specs.ProducerLaws.{HasTurn, drawn_by, rung_by, shut_by, 
 use Rattle.pulsar_acts.specs.Rules.{at_once, joins, performs, readied, ready_notice}
 use Rattle.pulsar_calls.specs.Order.{below}
 use Rattle.pulsar_acts.specs.Run.{Entry, Then, IsRun, agenda, rules, view}
-use Rattle.pulsar_acts.specs.View.{Options, View, room_of}
+use Rattle.pulsar_acts.specs.View.{View, room_of}
+use Rattle.pulsar_machine.specs.Options.{Options}
 use Rattle.pulsar_links.specs.Alarms.{rings}
 use Rattle.pulsar_procedures.specs.Plan.{closed_notice}
 use Rattle.pulsar_calls.specs.Who.{is_same, turn_of as taken_as}

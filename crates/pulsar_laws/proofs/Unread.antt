@@ -40,7 +40,8 @@ use Rattle.pulsar_links.specs.Links.{arrives, closed_by}
 use Rattle.pulsar_acts.specs.Rules.{at_once, breaks_at, brings, further, reads_on}
 use Rattle.pulsar_acts.specs.Run.{Entry, Begins, Then, IsRun, agenda, rules, view}
 use Rattle.pulsar_agenda.specs.Agenda.{first}
-use Rattle.pulsar_acts.specs.View.{Options, begun_live, dialed, is_dialing, is_live, link_got, live_begun}
+use Rattle.pulsar_acts.specs.View.{begun_live, dialed, is_dialing, is_live, link_got, live_begun}
+use Rattle.pulsar_machine.specs.Options.{Options}
 use Rattle.pulsar_links.specs.Seats.{Seat, arrival_at, got_at, seat_asked, seat_got, took_end, took_some}
 use Rattle.pulsar_wire.specs.declared.key.RequestKey.TheVariants as keys
 use Rattle.pulsar_session.specs.Link as session

@@ -89,7 +89,8 @@ use Rattle.pulsar_laws.specs.ProducerLaws.{acts_on, drawn_by, rung_by, shut_by, 
 use Rattle.pulsar_producer_table.specs.Producers.{next_batch_at, numbers_at}
 use Rattle.pulsar_acts.specs.Rules.{notice}
 use Rattle.pulsar_acts.specs.Run.{Entry, Begins, Then, IsRun, view}
-use Rattle.pulsar_acts.specs.View.{Options, View, room_of, stays, stays_some, told_some}
+use Rattle.pulsar_acts.specs.View.{View, room_of, stays, stays_some, told_some}
+use Rattle.pulsar_machine.specs.Options.{Options}
 use Rattle.pulsar_calls.specs.Who.{is_same, turn_of}
 use Rattle.pulsar_client.proofs.Acts.{Each, begun_same, each_append, each_either}
 use Rattle.pulsar_laws.proofs.Batched.{StepWithin, is_outer, step_within}

@@ -32,9 +32,11 @@ use Rattle.pulsar_frame.specs.Items.{Item, Given, Faulty}
 use Rattle.pulsar_laws.specs.Laws.{IsPrefix, WritesFollow, bytes_of, queued_on, written_on}
 use Rattle.pulsar_links.specs.Links as links
 use Rattle.pulsar_links.specs.Links.{close, closed_by, ended, is_own_end, lost, queues, settled_in, settles, write}
-use Rattle.pulsar_acts.specs.Run.{Entry, Begins, Then, IsRun, Step, rules, view}
+use Rattle.pulsar_acts.specs.Run.{Entry, Begins, Then, IsRun, rules, view}
+use Rattle.pulsar_calls.specs.Steps.{Step}
 use Rattle.pulsar_consumer_table.specs.Consumers.{Member, polled, polled_so}
-use Rattle.pulsar_acts.specs.View.{Chosen, Options, View, begun_live, dialed, is_live, link_got, live_begun, turned}
+use Rattle.pulsar_acts.specs.View.{View, begun_live, dialed, is_live, link_got, live_begun, turned}
+use Rattle.pulsar_machine.specs.Options.{Chosen, Options}
 use Rattle.pulsar_links.specs.Seats.{Seat, got_at, seat_asked, seat_fed, seat_got, took, took_end, took_some}
 use Rattle.pulsar_client.proofs.Acts.{Each, each_append, each_map}
 use Rattle.pulsar_laws.proofs.Alone.{Made, alone, is_close, more, no_some, over_stays, some_is}

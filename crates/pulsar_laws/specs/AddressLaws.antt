@@ -18,7 +18,8 @@ use Rattle.pulsar_links.specs.Links.{Change, Remains, Becomes, IsOver}
 use Rattle.pulsar_procedures.specs.Plan.{begins}
 use Rattle.pulsar_acts.specs.Rules.{is_idle}
 use Rattle.pulsar_acts.specs.Run.{Entry, Then, IsRun, view}
-use Rattle.pulsar_acts.specs.View.{Options, Turned, turned, waits_on}
+use Rattle.pulsar_acts.specs.View.{Turned, turned, waits_on}
+use Rattle.pulsar_machine.specs.Options.{Options}
 use Rattle.pulsar_links.specs.Seats.{Seat}
 use Rattle.pulsar_links.specs.Links as links
 use Rattle.pulsar_laws.specs.Laws.{base_of, started, stopped}

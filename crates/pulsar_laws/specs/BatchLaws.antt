@@ -43,7 +43,7 @@ use Rattle.pulsar_laws.specs.ProducerLaws.{acts_on, asks_in, is_queued}
 use Rattle.pulsar_producer_table.specs.Producers.{is_bare, next_batch_at, numbers_at, stored_at}
 use Rattle.pulsar_acts.specs.Rules.{call_part, notice, ready_notice}
 use Rattle.pulsar_acts.specs.Run.{Entry, Then, IsRun, Rests, view}
-use Rattle.pulsar_acts.specs.View.{Options}
+use Rattle.pulsar_machine.specs.Options.{Options}
 use Rattle.pulsar_calls.specs.Who.{behind_all, is_same}
 
 -- ONE BATCH AFTER THE OTHER

@@ -39,10 +39,12 @@ use Rattle.pulsar_calls.specs.Who.{is_same, ticket_of}
 use Rattle.pulsar_consumer_table.specs.Consumers as consumer
 use Rattle.pulsar_consumer_table.specs.Consumers.{Member, is_closed_by}
 use Rattle.pulsar_links.specs.Links.{line_places}
-use Rattle.pulsar_acts.specs.View.{Options, View, setup_of}
+use Rattle.pulsar_acts.specs.View.{View, setup_of}
+use Rattle.pulsar_machine.specs.Options.{Options}
 use Rattle.pulsar_links.specs.Seats.{Seat, answer_at, arrival_at, closing, is_asked, place_of, url_at}
 use Rattle.pulsar_acts.specs.Rules.{call_part, notice}
-use Rattle.pulsar_acts.specs.Run.{Entry, Begins, Then, IsRun, Rests, Step, agenda, steps, view}
+use Rattle.pulsar_acts.specs.Run.{Entry, Begins, Then, IsRun, Rests, agenda, steps, view}
+use Rattle.pulsar_calls.specs.Steps.{Step}
 use Rattle.pulsar_agenda.specs.Agenda.{first}
 use Rattle.pulsar_laws.specs.Laws.{counted}
 

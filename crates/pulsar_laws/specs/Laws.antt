@@ -68,7 +68,8 @@ use Rattle.pulsar_procedures.specs.Plan.{begins, failure_of, fails, fault_of, re
 use Rattle.pulsar_acts.specs.Rules.{call_part, notice, starts, stopped_with, brings}
 use Rattle.pulsar_links.specs.LinkRules.{dropped, fails_so, lost}
 use Rattle.pulsar_calls.specs.Order.{below}
-use Rattle.pulsar_acts.specs.Run.{Entry, Begins, Then, Good, IsRun, Rests, Step, agenda, rules, steps, tickets_in, view}
+use Rattle.pulsar_acts.specs.Run.{Entry, Begins, Then, Good, IsRun, Rests, agenda, rules, steps, tickets_in, view}
+use Rattle.pulsar_calls.specs.Steps.{Step}
 use Rattle.pulsar_consumer_table.specs.Consumers as consumer
 use Rattle.pulsar_consumer_table.specs.Consumers.{Member}
 use Rattle.pulsar_consumer_table.specs.declared.numbers.Numbering.TheVariants.{Has, InUse, Spent}
@@ -76,7 +77,8 @@ use Rattle.pulsar_consumer_table.specs.declared.row.Sought.TheVariants.{Gone}
 use Rattle.pulsar_consumer.specs.Plans.{in_use, not_found}
 use Rattle.pulsar_incoming.specs.declared.orders.Order.{Order}
 use Rattle.pulsar_consumer.specs.Topic as reader
-use Rattle.pulsar_acts.specs.View.{Options, View, builds, member_on, pause_of, setup, setup_of, room_of}
+use Rattle.pulsar_acts.specs.View.{View, builds, member_on, pause_of, setup, setup_of, room_of}
+use Rattle.pulsar_machine.specs.Options.{Options}
 use Rattle.pulsar_links.specs.Seats.{Base, Seat, answer_at, arrival_at, closing, is_asked, url_at}
 use Rattle.pulsar_calls.specs.Who.{in_turn, is_same, rank, ticket_of, turn_of as taken_as}
 use Rattle.pulsar_run.specs.Laws as run

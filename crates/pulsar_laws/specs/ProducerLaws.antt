@@ -59,7 +59,8 @@ use Rattle.pulsar_producer_table.specs.Producers.{number_drawn, numbers_at}
 use Rattle.pulsar_procedures.specs.Plan.{told}
 use Rattle.pulsar_acts.specs.Rules.{joins, notice}
 use Rattle.pulsar_acts.specs.Run.{Entry, Begins, Then, IsRun, Rests, view}
-use Rattle.pulsar_acts.specs.View.{Options, View, room_of}
+use Rattle.pulsar_acts.specs.View.{View, room_of}
+use Rattle.pulsar_machine.specs.Options.{Options}
 use Rattle.pulsar_links.specs.Seats.{Seat, answer_at}
 use Rattle.pulsar_calls.specs.Who.{in_turn, is_same, turn_of as taken_as}
 use Rattle.pulsar_laws.specs.Laws.{started, outcomes, deeds, Answered}

@@ -17,8 +17,9 @@ use Rattle.pulsar_links.specs.Address.{base_in}
 use Rattle.pulsar_calls.specs.declared.effect.Settlement.TheVariants as settlement
 use Rattle.pulsar_calls.specs.Content.{Heard, Called, Build, Stop, Topics, Lookup, Producer, Send, Raw, Opened, FailedToOpen, Bytes, Drain, Ticked, Poll, Shown, Connect, Queued, Write, Retry, Settles, Ends, Close, Hands, FindsNothing, Done, Names, Address, Receipt, Replies}
 use Rattle.pulsar_procedures.specs.Plan.{failed}
-use Rattle.pulsar_acts.specs.Run.{Good, Step}
-use Rattle.pulsar_acts.specs.View.{Chosen, Options}
+use Rattle.pulsar_acts.specs.Run.{Good}
+use Rattle.pulsar_calls.specs.Steps.{Step}
+use Rattle.pulsar_machine.specs.Options.{Chosen, Options}
 
 -- the host and the port of the service
 abbrev pub local_host : List ℕ

@@ -6,8 +6,8 @@ use Rattle.pulsar_calls.specs.Content.{heard, shown}
 use Rattle.pulsar_addresses.specs.Backoff.{default_connection_retry, default_operation_retry}
 use Rattle.pulsar_producer.specs.Routing.{Policy}
 use Rattle.pulsar_links.specs.Address.{base_in}
-use Rattle.pulsar_acts.specs.View.{Chosen, Options}
-use Rattle.pulsar_acts.specs.Run.{Step}
+use Rattle.pulsar_machine.specs.Options.{Chosen, Options}
+use Rattle.pulsar_calls.specs.Steps.{Step}
 
 -- an event with its effects
 abbrev pub step : Event → List Effect → Step

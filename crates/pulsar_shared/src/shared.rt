@@ -1,8 +1,8 @@
 //! The client behind a lock, with a ledger that counts its events.
 
 ghost use Rattle.std.specs.Prelude.{◌≡◌, ◌∷◌, ◌++◌, ◌+◌, ◌<◌, ◌≤◌, [], ℕ, true, List, IfOk, IfSome, MatchOption, OnErr, OnOk, drop, length, reverse, sum_by};
-ghost use Rattle.pulsar_acts.specs.Run.{Step};
-ghost use Rattle.pulsar_acts.specs.View.{Options};
+ghost use Rattle.pulsar_calls.specs.Steps.{Step};
+ghost use Rattle.pulsar_machine.specs.Options.{Options};
 ghost use Rattle.pulsar_machine.specs.Machine.{step};
 ghost use Rattle.pulsar_shared.specs.Trace.{Had, Legal, has_news, steps};
 ghost use Rattle.pulsar_shared.specs.Unset.{unset};

@@ -9,7 +9,7 @@ use Rattle.pulsar_wire.specs.Failures.{Failure}
 use Rattle.pulsar_calls.specs.declared.effect.Effect.{Effect}
 use Rattle.pulsar_calls.specs.declared.event.Event.{Event}
 use Rattle.pulsar_calls.specs.Content.{Receipt, Failed, Shown, Ends, Hands, Faults, shown}
-use Rattle.pulsar_acts.specs.Run.{Step}
+use Rattle.pulsar_calls.specs.Steps.{Step}
 use Rattle.pulsar_script.specs.ErrorText.{failure}
 use Rattle.pulsar_script.specs.Text.{line}
 use Rattle.pulsar_script.specs.WordText.{word}

@@ -93,3 +93,11 @@ in_discovery f = OfDiscovery (DiscoveryConnection f)
 
 abbrev pub name_found : List Named → (name : List ℕ) → Place → List Named
 name_found found name place = found ++ record { name = name; place = place } ∷ []
+
+-- the address of the service in a text; there is none where the text is no URL, or has no host
+abbrev pub base_parsed : Parsed Parts → Option Place
+base_parsed (Ok url) = base_of url
+base_parsed (Err e) = None
+
+abbrev pub base_in : List ℕ → Option Place
+base_in text = base_parsed (parse_url None text)

@@ -6,7 +6,7 @@ use Rattle.std.specs.declared.alloc.Global.{Global}
 use Rattle.std.specs.declared.dyn_box.DynBox.{DynBox}
 use Rattle.pulsar_client.specs.Client.{StandsFor}
 use Rattle.pulsar_client.specs.declared.pulsar.Pulsar.{Pulsar}
-use Rattle.pulsar_client.specs.Outside.{Rose}
+use Rattle.pulsar_streams.specs.Outside.{Rose}
 use Rattle.pulsar_calls.specs.Content.{Heard, Shown}
 use Rattle.pulsar_acts.specs.Run.{Good}
 use Rattle.pulsar_calls.specs.Steps.{Step}

@@ -2,7 +2,7 @@
 use Rattle.std.proofs.Common.{inl, inr, ◌⊎◌, ◌≡◌, ℕ, ◌≤◌, ◌∙◌, sym, ap, subst, Bool, true, false, List, [], ◌++◌, refl, arith, Option, Some, None, length, append_assoc, append-nil}
 use Rattle.std.specs.Prelude.{string_bytes, Result, Ok, Err, IfErr, IfOk, IfSome, MatchOption, MatchResult}
 use Rattle.pulsar_producer.specs.Routing.{Policy}
-use Rattle.pulsar_client.specs.Outside.{Rose}
+use Rattle.pulsar_streams.specs.Outside.{Rose}
 use Rattle.pulsar_calls.specs.Content.{Heard, heard}
 use Rattle.pulsar_calls.specs.declared.event.Event.{Event}
 use Rattle.pulsar_calls.specs.Steps.{Step}

@@ -3,7 +3,7 @@ use Rattle.std.specs.Prelude.{◌≡◌, ◌⊎◌, if◌then◌else◌, codes, 
 use Rattle.pulsar_wire.specs.Field.{◌>>=◌}
 use Rattle.pulsar_addresses.specs.Backoff.{default_connection_retry, default_operation_retry}
 use Rattle.pulsar_producer.specs.Routing.{Policy}
-use Rattle.pulsar_links.specs.Address.{base_in}
+use Rattle.pulsar_addresses.specs.Address.{base_in}
 use Rattle.pulsar_calls.specs.Content.{Heard}
 use Rattle.pulsar_machine.specs.Options.{Chosen, Options}
 pub use Rattle.pulsar_job.specs.Outside.{Adds, AddsFront, Given, HasFault, Seen, limit, seen, since}

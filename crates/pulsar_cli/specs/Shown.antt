@@ -6,7 +6,7 @@ use Rattle.pulsar_cli.specs.declared.feed.Next.{Next}
 use Rattle.pulsar_cli.specs.declared.reading.Reading.{Reading}
 use Rattle.pulsar_cli.specs.declared.stop.Stop.{Stop}
 use Rattle.pulsar_cli.specs.declared.stop.Stop.TheVariants as stop
-use Rattle.pulsar_client.specs.Outside.{Rose}
+use Rattle.pulsar_streams.specs.Outside.{Rose}
 use Rattle.pulsar_calls.specs.Content.{Heard, heard}
 use Rattle.pulsar_acts.specs.Run.{Good, is_empty}
 use Rattle.pulsar_calls.specs.Steps.{Step}

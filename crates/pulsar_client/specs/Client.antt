@@ -7,7 +7,7 @@ use Rattle.pulsar_client.specs.declared.pulsar.Pulsar.{Pulsar}
 use Rattle.std.specs.Option.{option_map}
 use Rattle.pulsar_messages.specs.Content.{authentication_values}
 use Rattle.pulsar_producer.specs.Routing.{Policy}
-use Rattle.pulsar_links.specs.Address.{base_in}
+use Rattle.pulsar_addresses.specs.Address.{base_in}
 use Rattle.pulsar_calls.specs.Content.{Heard}
 use Rattle.pulsar_acts.specs.Run.{Good, tickets_in, view}
 use Rattle.pulsar_calls.specs.Steps.{Step}

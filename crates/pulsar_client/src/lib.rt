@@ -71,16 +71,12 @@ mod events;
 pub mod future;
 mod machine;
 pub mod options;
-pub mod outside;
 pub mod pulsar;
 mod steps;
 
 pub use crate::answers::Taken;
 pub use crate::future::SendFuture;
 pub use crate::options::ClientOptions;
-pub use crate::outside::Failed;
-pub use crate::outside::sink::{FailingSink, MemorySink, Sink};
-pub use crate::outside::source::{FailingSource, MemorySource, Source};
 pub use crate::pulsar::Pulsar;
 pub use pulsar_addresses::address::BrokerAddress;
 pub use pulsar_addresses::options::{ConnectionRetryOptions, OperationRetryOptions};
@@ -103,6 +99,9 @@ pub use pulsar_messages::{
 pub use pulsar_outgoing::producer_builder::ProducerBuilder;
 pub use pulsar_producer::producer::Producer;
 pub use pulsar_producer::routing::{CustomRoutingPolicy, PartitionedProducer};
+pub use pulsar_streams::{
+    Failed, FailingSink, FailingSource, MemorySink, MemorySource, Sink, Source,
+};
 pub use pulsar_wire::{
     AuthenticationError, Body, CommandConsumerStatsResponse, CommandGetLastMessageIdResponse,
     CommandGetSchemaResponse, CommandGetTopicsOfNamespaceResponse, CommandLookupTopicResponse,

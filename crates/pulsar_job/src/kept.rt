@@ -6,7 +6,7 @@ ghost use Rattle.pulsar_machine.specs.Machine.{step};
 ghost use Rattle.pulsar_shared.specs.Trace.{history, numbered, steps};
 ghost use Rattle.pulsar_shared.specs.Unset.{unset};
 
-use pulsar_client::Event;
+use pulsar_calls::event::Event;
 use pulsar_machine::Machine;
 use pulsar_pumps::{Receipt, Submitter};
 use pulsar_shared::Traced;

@@ -11,7 +11,7 @@ ghost use Rattle.pulsar_job.specs.Driven.{Goes, IsDialed, Learns, LinkNow, Reach
 ghost use Rattle.pulsar_job.specs.Links.{link_seen};
 
 use crate::kept::{Kept, Terms};
-use pulsar_client::Event;
+use pulsar_calls::event::Event;
 use pulsar_machine::Machine;
 use pulsar_pumps::{Edge, Input, Output, PumpEnd, Receipt, round_in, round_out};
 use pulsar_wire::NoMemory;

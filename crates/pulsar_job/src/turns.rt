@@ -10,7 +10,7 @@ ghost use Rattle.pulsar_job.specs.Driven.{Asks, Calls, ComesOut, Ends, IsSame, K
 
 use crate::kept::{Kept, Terms};
 use crate::links::{Link, dial_all, hear_all, shut_all, submit, write_all};
-use pulsar_client::{Call, Event};
+use pulsar_calls::event::{Call, Event};
 use pulsar_machine::Machine;
 use pulsar_pumps::{Edge, Input, Output};
 use pulsar_wire::NoMemory;

@@ -13,7 +13,7 @@ use Rattle.pulsar_messages.specs.Words.{Words, GetTopicsOfNamespace, LookupTopic
 use Rattle.pulsar_outgoing.specs.Wanted.{ProducerWanted}
 use Rattle.pulsar_wire.specs.Failures.{Io, Canceled, Disconnected, Shutdown}
 use Rattle.pulsar_session.specs.Link.{bare, message_of}
-use Rattle.pulsar_links.specs.Address.{base_in}
+use Rattle.pulsar_addresses.specs.Address.{base_in}
 use Rattle.pulsar_calls.specs.declared.effect.Settlement.TheVariants as settlement
 use Rattle.pulsar_calls.specs.Content.{Heard, Called, Build, Stop, Topics, Lookup, Producer, Send, Raw, Opened, FailedToOpen, Bytes, Drain, Ticked, Poll, Shown, Connect, Queued, Write, Retry, Settles, Ends, Close, Hands, FindsNothing, Done, Names, Address, Receipt, Replies}
 use Rattle.pulsar_procedures.specs.Plan.{failed}

@@ -1,20 +1,12 @@
 -- Where the service is, as the URL of the options has it, and where an address leads.
 -- (Pulsar client documentation, Connection URL: `pulsar://HOST:PORT`, with the port 6650 where it has none. URL Standard, section
 -- 4.4, URL parsing, and section 3.5, host serializing)
-use Rattle.std.specs.Prelude.{◌≡◌, ℕ, if◌then◌else◌, List, codes, Option, Some, None, unwrap_or, Ok, Err}
+use Rattle.std.specs.Prelude.{◌≡◌, ℕ, if◌then◌else◌, List, codes, Option, Some, None, unwrap_or}
 use Rattle.std.specs.Option.{option_map}
 use Rattle.url.specs.Host.{host_text}
-use Rattle.url.specs.Parts.{Parts, nonempty_host}
-use Rattle.url.specs.Parser.{Parsed, parse_url}
-use Rattle.pulsar_addresses.specs.Address.{Place, base_of, default_port, is_reachable}
-
--- the address of the service in a text; there is none where the text is no URL, or has no host
-abbrev pub base_parsed : Parsed Parts → Option Place
-base_parsed (Ok url) = base_of url
-base_parsed (Err e) = None
-
-abbrev pub base_in : List ℕ → Option Place
-base_in text = base_parsed (parse_url None text)
+use Rattle.url.specs.Parts.{nonempty_host}
+use Rattle.pulsar_addresses.specs.Address.{Place, default_port, is_reachable}
+use Rattle.pulsar_addresses.specs.Address.{base_in}
 
 -- where an address leads: the host of its URL, as that writes it, and its port
 abbrev pub leads_to : Place → Option (List ℕ × ℕ)

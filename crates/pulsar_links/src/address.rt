@@ -1,7 +1,7 @@
 //! Where the service is, and where an address leads.
 
 ghost use Rattle.std.specs.Prelude.{◌≡◌, ◌++◌, IfOk, OnOk, map};
-ghost use Rattle.pulsar_links.specs.Address.{base_in};
+ghost use Rattle.pulsar_addresses.specs.Address.{base_in};
 ghost use Rattle.pulsar_calls.specs.Content.{shown};
 ghost use Rattle.pulsar_links.specs.LinkEffects.{connects};
 ghost use Rattle.pulsar_addresses.specs.Address.{base_of};

@@ -1,7 +1,7 @@
 //! Where bytes go to.
 
 ghost use Rattle.std.specs.Prelude.{◌≡◌, ◌≤◌, ◌<◌, ◌++◌, [], ℕ, List, Option, Some, IfOk, OnErr, length, take};
-ghost use Rattle.pulsar_client.specs.Outside.{Rose};
+ghost use Rattle.pulsar_streams.specs.Outside.{Rose};
 
 use crate::outside::Failed;
 use std::alloc::Global;

@@ -1,7 +1,7 @@
 //! Where bytes come from.
 
 ghost use Rattle.std.specs.Prelude.{◌≡◌, ◌≤◌, ◌-◌, ℕ, List, Option, Some, IfOk, OnErr, length, take, drop, vec_len};
-ghost use Rattle.pulsar_client.specs.Outside.{Rose, Takes};
+ghost use Rattle.pulsar_streams.specs.Outside.{Rose, Takes};
 
 use crate::outside::Failed;
 use std::marker::Model;

@@ -11,9 +11,14 @@ use std::alloc::Global;
 use std::marker::Model;
 
 /// A message of the broker in a box, seen by what is read in it.
-#[derive(Drop)]
 pub struct Received {
     message: Box<Message>,
+}
+
+impl Drop for Received {
+    fn drop(self) {
+        let Received { message: _ } = self;
+    }
 }
 
 impl Model for Received {

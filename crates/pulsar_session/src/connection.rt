@@ -32,9 +32,14 @@ use uuid::Uuid;
 /// One connection to a broker, from the moment at which it is dialed. It is told what happens to its stream, and the moments,
 /// in milliseconds; it knows its frames by their places, from 0 in the order of their queueing. Where a call answers
 /// `NoMemory`, nothing is said of the connection afterwards.
-#[derive(Drop)]
 pub struct Connection {
     link: Link,
+}
+
+impl Drop for Connection {
+    fn drop(self) {
+        let Connection { link: _ } = self;
+    }
 }
 
 /// What sends on a connection is the connection.

@@ -5,7 +5,9 @@ mod policy;
 
 use crate::policy::Second;
 use pulsar_cli::{Limits, NO_FORM, NO_MEMORY, StandardInput, StandardOutput, Status, TcpEdge, run};
-use pulsar_client::{CustomRoutingPolicy, Sink, Source};
+use pulsar_client::CustomRoutingPolicy;
+use pulsar_streams::outside::sink::Sink;
+use pulsar_streams::outside::source::Source;
 use std::alloc::{AllocError, Global};
 use std::net::{Net, TcpStream};
 use std::process::ExitCode;

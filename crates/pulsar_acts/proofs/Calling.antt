@@ -1,13 +1,13 @@
 -- What a call leaves to do, and what is seen after it: by whether tickets are left for it, and whether the client is open.
 use Rattle.std.proofs.Common.{◌≡◌, ◌∙◌, ap, sym, ℕ, ◌+◌, ◌-◌, ◌^◌, Bool, true, false, cond, not, ◌&&◌, List, [], ◌∷◌, ◌++◌, refl, Option, Some, None}
 use Rattle.std.proofs.lemmas.List.{append-nil}
-use Rattle.pulsar_session.specs.Failures.{Exhausted}
+use Rattle.pulsar_wire.specs.Failures.{Exhausted}
 use Rattle.pulsar_calls.specs.declared.act.Act.TheVariants.{Comes, Answers}
 use Rattle.pulsar_calls.specs.declared.act.Alarm.TheVariants.{CheckIdle}
 use Rattle.pulsar_calls.specs.declared.act.Makes.{Makes}
 use Rattle.pulsar_calls.specs.declared.act.Makes.TheVariants.{Nothing, Client, Consumer, RawConsumer, Producer}
 use Rattle.pulsar_calls.specs.declared.act.Part.TheVariants.{Calls}
-use Rattle.pulsar_tables.specs.Alarms.{set}
+use Rattle.pulsar_links.specs.Alarms.{set}
 use Rattle.pulsar_calls.specs.declared.act.Procedure.{Procedure}
 use Rattle.pulsar_calls.specs.declared.act.Procedure.TheVariants as procedure
 use Rattle.pulsar_calls.specs.declared.act.Refusal.TheVariants as refusal
@@ -16,13 +16,16 @@ use Rattle.pulsar_calls.specs.declared.event.Call.{Call as Wanted}
 use Rattle.pulsar_calls.specs.declared.event.Call.TheVariants as call
 use Rattle.pulsar_calls.specs.Content as content
 use Rattle.pulsar_calls.specs.Content.{Asked, asked, lacks_tickets, shares}
-use Rattle.pulsar_procedures.specs.Plan.{fails}
+use Rattle.pulsar_plans.specs.Plan.{fails}
 use Rattle.pulsar_consumer_table.specs.Consumers as consumer
 use Rattle.pulsar_consumer_table.specs.Consumers.{Consumers}
 use Rattle.pulsar_producer_table.specs.Producers.{Producers, called_on, opened_on, why_not}
-use Rattle.pulsar_tables.specs.Rules.{parts_of, procedure_for, shares_unless, starts, unless_refused}
-use Rattle.pulsar_agenda.specs.Run.{Agenda, goes_on}
-use Rattle.pulsar_tables.specs.View.{Chosen, Tickets, View, after, alarms_built, builds, idle_period, later, may_call}
+use Rattle.pulsar_acts.specs.Rules.{parts_of, procedure_for, shares_unless, starts, unless_refused}
+use Rattle.pulsar_acts.specs.Run.{goes_on}
+use Rattle.pulsar_agenda.specs.Agenda.{Agenda}
+use Rattle.pulsar_acts.specs.View.{Tickets, View, after, alarms_built, builds, idle_period, may_call}
+use Rattle.pulsar_machine.specs.Options.{Chosen}
+use Rattle.pulsar_links.specs.Seats.{later}
 
 -- TICKETS
 

@@ -2,13 +2,14 @@
 use Rattle.std.proofs.Common.{◌≡◌, ◌∙◌, ap, sym, ℕ, Bool, true, false, cond, ◌&&◌, List, [], ◌∷◌, ◌++◌, refl, Option, Some, None, inl, inr, bytes_eq}
 use Rattle.std.proofs.lemmas.Bool.{cases_Bool}
 use Rattle.std.proofs.lemmas.Slice.Eq.{bytes_eq-Decides}
-use Rattle.pulsar_plans.specs.Address.{Place, address_key, is_reachable}
+use Rattle.pulsar_addresses.specs.Address.{Place, address_key, is_reachable}
 use Rattle.pulsar_calls.specs.declared.act.Act.TheVariants.{Does}
 use Rattle.pulsar_calls.specs.declared.act.Action.TheVariants.{Get}
 use Rattle.pulsar_calls.specs.declared.act.Who.{Who}
-use Rattle.pulsar_tables.specs.declared.addresses.Series.{Series}
-use Rattle.pulsar_tables.specs.declared.addresses.Series.TheVariants.{Serves}
-use Rattle.pulsar_tables.specs.View.{Base, View, after, base_waiting, got_at, serving, waits_for}
+use Rattle.pulsar_links.specs.declared.addresses.Series.{Series}
+use Rattle.pulsar_links.specs.declared.addresses.Series.TheVariants.{Serves}
+use Rattle.pulsar_acts.specs.View.{View, after, serving, waits_for}
+use Rattle.pulsar_links.specs.Seats.{Base, base_waiting, got_at}
 
 -- waits where none serves yet
 abbrev pub serves : Series → Bool

@@ -5,13 +5,13 @@ use Rattle.std.proofs.lemmas.List.{append-nil}
 use Rattle.std.specs.List.{flat_map}
 use Rattle.std.specs.Option.{is_some, option_map, option_to_list}
 use Rattle.pulsar_producer.specs.Topic.{Act as Deed}
-use Rattle.pulsar_producer.specs.declared.deed.News.TheVariants as news
+use Rattle.pulsar_outgoing.specs.declared.news.News.TheVariants as news
 use Rattle.pulsar_calls.specs.declared.act.Act.{Act}
 use Rattle.pulsar_calls.specs.declared.act.Who.{Who}
 use Rattle.pulsar_producer_table.specs.declared.table.Topic.{Topic}
 use Rattle.pulsar_producer_table.specs.Producers.{Producers, changed, topic_after, turn_taken}
-use Rattle.pulsar_tables.specs.Rules.{grants, takes_turn, tells_lost}
-use Rattle.pulsar_agenda.specs.Run.{Agenda}
+use Rattle.pulsar_acts.specs.Rules.{grants, takes_turn, tells_lost}
+use Rattle.pulsar_agenda.specs.Agenda.{Agenda}
 
 -- what comes at once stands in front
 pub in_front : (g : Agenda) (xs ys : List Act) → xs ≡ ys → record g { now = xs ++ g.now } ≡ record g { now = ys ++ g.now; behind = g.behind ++ [] }

@@ -6,3 +6,4 @@ pub mod Calling
 pub mod Granting
 pub mod Storing
 pub mod Sending
+pub mod Idling

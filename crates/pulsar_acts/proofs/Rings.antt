@@ -6,12 +6,14 @@ use Rattle.pulsar_calls.specs.declared.act.Act.TheVariants.{Comes}
 use Rattle.pulsar_calls.specs.declared.act.Alarm.{Alarm}
 use Rattle.pulsar_calls.specs.declared.act.Alarm.TheVariants.{Retry, Wake, Batch, KeepAlive, CheckIdle}
 use Rattle.pulsar_calls.specs.declared.act.Part.TheVariants.{Rings}
-use Rattle.pulsar_tables.specs.declared.addresses.Pause.{Pause}
-use Rattle.pulsar_tables.specs.Alarms.{rings}
+use Rattle.pulsar_links.specs.declared.addresses.Pause.{Pause}
+use Rattle.pulsar_links.specs.Alarms.{rings}
 use Rattle.pulsar_producer_table.specs.Producers.{Producers}
-use Rattle.pulsar_tables.specs.Rules.{below, opens, rung, woken}
-use Rattle.pulsar_agenda.specs.Run.{Agenda, goes_on}
-use Rattle.pulsar_tables.specs.View.{View, after, alarms_rung, pause_rung, producers_rung}
+use Rattle.pulsar_acts.specs.Rules.{rung, woken}
+use Rattle.pulsar_calls.specs.Order.{below, opens}
+use Rattle.pulsar_acts.specs.Run.{goes_on}
+use Rattle.pulsar_agenda.specs.Agenda.{Agenda}
+use Rattle.pulsar_acts.specs.View.{View, after, alarms_rung, pause_rung, producers_rung}
 
 -- what is left, and what is seen
 abbrev leaves : Bool → View → Alarm → Agenda → Agenda

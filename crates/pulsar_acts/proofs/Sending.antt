@@ -5,11 +5,11 @@ use Rattle.std.proofs.lemmas.Bool.{eq-eqb}
 use Rattle.std.proofs.lemmas.List.{length-map, map-append}
 use Rattle.std.specs.Option.{is_some, option_map}
 use Rattle.pulsar_messages.specs.Content.{ProducerMessageValues}
-use Rattle.pulsar_plans.specs.declared.turn.Ways.{Ways}
+use Rattle.pulsar_searches.specs.declared.turn.Ways.{Ways}
 use Rattle.pulsar_producer.specs.Producer as producer
 use Rattle.pulsar_producer.specs.Routing as routing
-use Rattle.pulsar_producer.specs.Storage.{is_batching}
-use Rattle.pulsar_producer.specs.declared.sending.Errand.{Errand}
+use Rattle.pulsar_outgoing.specs.Storage.{is_batching}
+use Rattle.pulsar_outgoing.specs.declared.orders.Errand.{Errand}
 use Rattle.pulsar_calls.specs.declared.act.Act.{Act}
 use Rattle.pulsar_calls.specs.declared.act.Act.TheVariants.{Starts}
 use Rattle.pulsar_calls.specs.declared.act.Procedure.{Procedure}
@@ -21,9 +21,10 @@ use Rattle.pulsar_calls.specs.declared.act.Who.TheVariants.{Call}
 use Rattle.pulsar_calls.specs.Content.{SendAll}
 use Rattle.pulsar_producer_table.specs.Producers.{Producers, all_routed, batches_in, routed, sent_on, why_not}
 use Rattle.pulsar_calls.specs.Content.{next_advice}
-use Rattle.pulsar_tables.specs.Reading.{unless}
-use Rattle.pulsar_tables.specs.Rules.{parts_of, sends_as, sends_by, sends_with, share, shares_of, shares_unless}
-use Rattle.pulsar_tables.specs.View.{Chosen, View, may_call}
+use Rattle.pulsar_acts.specs.Reading.{unless}
+use Rattle.pulsar_acts.specs.Rules.{parts_of, sends_as, sends_by, sends_with, share, shares_of, shares_unless}
+use Rattle.pulsar_acts.specs.View.{View, may_call}
+use Rattle.pulsar_machine.specs.Options.{Chosen}
 
 -- REFUSED OR MADE
 

@@ -6,9 +6,10 @@ use Rattle.pulsar_run.specs.Order.{put, put_all}
 use Rattle.pulsar_producer.specs.Topic.{Act}
 use Rattle.pulsar_producer_table.specs.declared.table.Topic.{Topic}
 use Rattle.pulsar_calls.specs.declared.act.Alarm.TheVariants.{Batch}
-use Rattle.pulsar_tables.specs.Alarms.{clear, set}
+use Rattle.pulsar_links.specs.Alarms.{clear, set}
 use Rattle.pulsar_producer_table.specs.Producers.{Producers, changed, is_bare, timeout_at, topic_after}
-use Rattle.pulsar_tables.specs.View.{View, alarms_on_topic, alarms_waiting, later, waits_from}
+use Rattle.pulsar_acts.specs.View.{View, alarms_on_topic, alarms_waiting, waits_from}
+use Rattle.pulsar_links.specs.Seats.{later}
 
 -- one more is put
 pub put_all_end : {A : Type 0} (below : A → A → Bool) (xs : List A) (x : A) (ys : List A) →

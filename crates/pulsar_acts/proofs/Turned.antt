@@ -2,7 +2,7 @@
 use Rattle.std.proofs.Common.{◌≡◌, ◌∙◌, ◌==◌, ◌++◌, ap, sym, ℕ, cond, List, [], refl, Option, Some, None, Result, Ok, Err, OnOk}
 use Rattle.std.proofs.lemmas.List.{append-nil}
 use Rattle.std.specs.Option.{option_map}
-use Rattle.pulsar_plans.specs.Address.{Place}
+use Rattle.pulsar_addresses.specs.Address.{Place}
 use Rattle.pulsar_calls.specs.declared.act.Act.TheVariants.{Comes}
 use Rattle.pulsar_calls.specs.declared.act.Alarm.{Alarm}
 use Rattle.pulsar_calls.specs.declared.act.Alarm.TheVariants.{Retry, Wake, Batch, KeepAlive, CheckIdle}
@@ -10,12 +10,14 @@ use Rattle.pulsar_calls.specs.declared.act.Arrival.{Arrival}
 use Rattle.pulsar_calls.specs.declared.act.LinkAct.{LinkAct}
 use Rattle.pulsar_calls.specs.declared.act.Part.TheVariants.{ToLink}
 use Rattle.pulsar_calls.specs.declared.act.Who.{Who}
-use Rattle.pulsar_tables.specs.Effects.{retries}
-use Rattle.pulsar_tables.specs.Links.{Remains, change_in}
-use Rattle.pulsar_tables.specs.Rules.{served_on, waiters_of}
-use Rattle.pulsar_agenda.specs.Run.{Agenda}
+use Rattle.pulsar_acts.specs.Effects.{retries}
+use Rattle.pulsar_links.specs.Links.{Remains, change_in}
+use Rattle.pulsar_acts.specs.Rules.{served_on, waiters_of}
+use Rattle.pulsar_agenda.specs.Agenda.{Agenda}
 use Rattle.pulsar_acts.specs.Tables.{retry_set, retry_shown, turned_view, welcomed}
-use Rattle.pulsar_tables.specs.View.{Addresses, Chosen, Links, Seat, Turned, View, addresses_after, alarms_after, alarms_over, is_for, is_to_follow, links_after, pause_with, took_some, turned}
+use Rattle.pulsar_acts.specs.View.{Turned, View, addresses_after, alarms_after, alarms_over, is_to_follow, links_after, turned}
+use Rattle.pulsar_machine.specs.Options.{Chosen}
+use Rattle.pulsar_links.specs.Seats.{Addresses, Links, Seat, is_for, pause_with, took_some}
 use Rattle.pulsar_acts.proofs.Turning.{IsStill, alarms_still, base_still, pause_still}
 
 -- two things hold where a call goes well

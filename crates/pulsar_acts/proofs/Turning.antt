@@ -2,19 +2,22 @@
 use Rattle.std.proofs.Common.{◌≡◌, ◌∙◌, ap, sym, ℕ, Bool, true, false, cond, List, [], ◌++◌, refl, Option, Some, None, bytes_eq}
 use Rattle.std.proofs.lemmas.List.{append-nil}
 use Rattle.std.specs.Option.{option_map}
-use Rattle.pulsar_plans.specs.Address.{Place, address_key}
-use Rattle.pulsar_session.specs.Failures.{Fault}
+use Rattle.pulsar_addresses.specs.Address.{Place, address_key}
+use Rattle.pulsar_wire.specs.Failures.{Fault}
 use Rattle.pulsar_calls.specs.declared.act.Alarm.{Alarm}
 use Rattle.pulsar_calls.specs.declared.act.Arrival.{Arrival}
 use Rattle.pulsar_calls.specs.declared.act.End.{End}
 use Rattle.pulsar_calls.specs.declared.act.LinkAct.{LinkAct}
 use Rattle.pulsar_calls.specs.declared.act.LinkAct.TheVariants.{Opens, Reads, Drains, Pings, Ends}
-use Rattle.pulsar_tables.specs.declared.addresses.Pause.{Pause}
-use Rattle.pulsar_tables.specs.Effects.{retries, retries_on}
-use Rattle.pulsar_tables.specs.Links.{Remains, IsOver, change_at, change_in}
-use Rattle.pulsar_tables.specs.Rules.{ended_on, failed_on, waiters_of}
+use Rattle.pulsar_links.specs.declared.addresses.Pause.{Pause}
+use Rattle.pulsar_acts.specs.Effects.{retries, retries_on}
+use Rattle.pulsar_links.specs.Links.{Remains, IsOver, change_at, change_in}
+use Rattle.pulsar_acts.specs.Rules.{failed_on, waiters_of}
+use Rattle.pulsar_links.specs.LinkRules.{ended_on}
 use Rattle.pulsar_acts.specs.Tables.{welcomed}
-use Rattle.pulsar_tables.specs.View.{Addresses, Base, Chosen, Seat, Turned, alarms_on, arrival_at, base_on, base_turned, closing, pause_of, pause_on, pause_for, took_some, turned_by}
+use Rattle.pulsar_acts.specs.View.{Turned, alarms_on, base_on, pause_of, pause_on, pause_for, turned_by}
+use Rattle.pulsar_machine.specs.Options.{Chosen}
+use Rattle.pulsar_links.specs.Seats.{Addresses, Base, Seat, arrival_at, base_turned, closing, took_some}
 
 -- NOTHING IS TURNED
 

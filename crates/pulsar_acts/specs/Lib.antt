@@ -1,1 +1,6 @@
 pub mod Tables
+pub mod View
+pub mod Rules
+pub mod Reading
+pub mod Effects
+pub mod Run

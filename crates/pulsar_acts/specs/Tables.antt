@@ -1,21 +1,30 @@
 -- For the code's contracts alone: what is seen of the tables of a client.
-use Rattle.std.specs.Prelude.{ℕ, List, [], ◌∷◌, Option, Some, None, true, if◌then◌else◌}
+use Rattle.std.specs.Prelude.{ℕ, Bool, not, ◌&&◌, List, [], ◌∷◌, Option, Some, None, true, if◌then◌else◌}
 use Rattle.std.specs.Option.{option_map}
 use Rattle.pulsar_messages.specs.Content.{authentication_values}
-use Rattle.pulsar_plans.specs.Address.{address_key}
+use Rattle.pulsar_addresses.specs.Address.{address_key}
+use Rattle.pulsar_calls.specs.declared.act.Act.{Act}
+use Rattle.pulsar_calls.specs.declared.act.Act.TheVariants.{Comes}
 use Rattle.pulsar_calls.specs.declared.act.Alarm.{Alarm}
 use Rattle.pulsar_calls.specs.declared.act.Alarm.TheVariants as alarm
 use Rattle.pulsar_calls.specs.declared.act.Arrival.{Arrival}
+use Rattle.pulsar_calls.specs.declared.act.End.TheVariants.{Idles}
+use Rattle.pulsar_calls.specs.declared.act.LinkAct.TheVariants.{Ends}
+use Rattle.pulsar_calls.specs.declared.act.Part.TheVariants.{ToLink}
+use Rattle.pulsar_consumer_table.specs.Consumers.{Consumers, is_heard}
+use Rattle.pulsar_producer_table.specs.Producers.{Producers, is_held}
 use Rattle.pulsar_acts.specs.declared.settings.Settings.{Settings}
 use Rattle.pulsar_acts.specs.declared.tables.Tables.{Tables}
 use Rattle.pulsar_calls.specs.Content.{Shown, Retry}
-use Rattle.pulsar_tables.specs.Alarms.{set}
-use Rattle.pulsar_tables.specs.Kept.{addresses_of, links_in}
+use Rattle.pulsar_links.specs.Alarms.{set}
+use Rattle.pulsar_links.specs.Kept.{addresses_of, links_in}
 use Rattle.pulsar_producer_table.specs.KeptProducers.{producers_of}
 use Rattle.pulsar_consumer_table.specs.KeptConsumers.{consumers_in}
-use Rattle.pulsar_tables.specs.View.{Chosen, Seat, Turned, View, alarms_on, alarms_rung, base_on, delay_with, later, nobody, pause_on, pause_rung, waits_on}
-use Rattle.pulsar_tables.specs.Links.{change_in}
-use Rattle.pulsar_procedures.specs.Standing.{stand_of}
+use Rattle.pulsar_acts.specs.View.{Turned, View, alarms_on, alarms_rung, base_on, delay_with, pause_on, pause_rung, waits_on}
+use Rattle.pulsar_machine.specs.Options.{Chosen}
+use Rattle.pulsar_links.specs.Seats.{Seat, later, nobody}
+use Rattle.pulsar_links.specs.Links.{change_in}
+use Rattle.pulsar_plans.specs.Standing.{stand_of}
 
 -- THE THINGS
 
@@ -82,3 +91,11 @@ unset_view v =
       addresses = record { base = λ key. if waits_on v.addresses v.alarms key then nobody else v.addresses.base key; pause = λ l. None };
       alarms = [];
     }
+
+-- no subscription lives on a link, and no topic producer has it
+abbrev pub is_unused : (link : ℕ) → Consumers → Producers → Bool
+is_unused l cs ps = not (is_heard cs l) && not (is_held ps l)
+
+-- the end of such a link
+abbrev pub unused_act : Consumers → Producers → ℕ → List Act
+unused_act cs ps l = if is_unused l cs ps then Comes (ToLink l (Ends Idles)) ∷ [] else []

@@ -3,8 +3,8 @@ use Rattle.std.proofs.Common.{◌≡◌, ℕ, refl, Bool, true, false, cond, nat
 use Rattle.std.proofs.lemmas.Bool.Decides.{nat_tests}
 use Rattle.std.proofs.lemmas.Grind.{common_steps}
 use Rattle.std.specs.Cmp.{IsStrictWeakOrder}
-use Rattle.pulsar_tables.specs.Effects.{effect_below, effect_rank, is_before3}
-use Rattle.pulsar_tables.specs.Rules.{below}
+use Rattle.pulsar_calls.specs.Order.{effect_below, effect_rank, is_before3}
+use Rattle.pulsar_calls.specs.Order.{below}
 use Rattle.pulsar_calls.specs.Who.{is_before, rank}
 
 one_way2 : (a b c d : ℕ) → is_before (a, b) (c, d) ≡ true → is_before (c, d) (a, b) ≡ false

@@ -12,8 +12,8 @@ use Rattle.pulsar_run.proofs.Orders.{arranged_from_sort, arranged_map}
 use Rattle.pulsar_calls.specs.declared.act.Notice.{Notice}
 use Rattle.pulsar_calls.specs.declared.effect.Effect.{Effect}
 use Rattle.pulsar_calls.specs.Content.{shown}
-use Rattle.pulsar_tables.specs.Effects.{effect_below, effect_rank, is_before3}
-use Rattle.pulsar_tables.specs.Rules.{below}
+use Rattle.pulsar_calls.specs.Order.{effect_below, effect_rank, is_before3}
+use Rattle.pulsar_calls.specs.Order.{below}
 use Rattle.pulsar_calls.specs.Who.{is_before, rank}
 use Rattle.pulsar_agenda.proofs.Orders.{below_order, effect_order}
 

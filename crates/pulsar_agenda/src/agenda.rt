@@ -3,8 +3,8 @@
 ghost use Rattle.std.specs.Prelude.{◌≡◌, ◌++◌, ◌∷◌, [], map, OnOk};
 ghost use Rattle.pulsar_run.specs.Order.{arranged, put};
 ghost use Rattle.pulsar_run.specs.Run.{only};
-ghost use Rattle.pulsar_tables.specs.Rules.{alone, below, opens};
-ghost use Rattle.pulsar_agenda.specs.Run.{first, first_of, rest, rest_of};
+ghost use Rattle.pulsar_calls.specs.Order.{alone, below, opens};
+ghost use Rattle.pulsar_agenda.specs.Agenda.{first, first_of, rest, rest_of};
 ghost use Rattle.pulsar_agenda.specs.Agenda.{agenda_of};
 
 use crate::queue::Queue;
@@ -69,8 +69,10 @@ impl Tasks {
     fn turn_to_next(&mut self)
         ensures now { self.new.now ≡ self.old.now }
         ensures parts { self.new.parts ≡ self.old.parts }
-        ensures first { first_of [] self.new.here self.new.behind.items self.new.parts.items ≡ first_of [] self.old.here self.old.behind.items self.old.parts.items }
-        ensures rest { rest_of [] self.new.here self.new.behind.items self.new.parts.items ≡ rest_of [] self.old.here self.old.behind.items self.old.parts.items }
+        ensures first { first_of [] self.new.here self.new.behind.items self.new.parts.items
+            ≡ first_of [] self.old.here self.old.behind.items self.old.parts.items }
+        ensures rest { rest_of [] self.new.here self.new.behind.items self.new.parts.items
+            ≡ rest_of [] self.old.here self.old.behind.items self.old.parts.items }
         ensures none { self.new.here ≡ [] → self.new.behind.items ≡ [] }
     {
         while self.here.is_empty() {
@@ -116,7 +118,8 @@ impl Tasks {
 
     /// Each of these is a cause by itself.
     pub fn open_each(&mut self, notices: Vec<Notice>) -> Result<(), NoMemory>
-        ensures { OnOk result (agenda_of self.new ≡ record (agenda_of self.old) { behind = (agenda_of self.old).behind ++ map (arranged below) (map alone notices.items) }) }
+        ensures { OnOk result (agenda_of self.new
+            ≡ record (agenda_of self.old) { behind = (agenda_of self.old).behind ++ map (arranged below) (map alone notices.items) }) }
     {
         for notice in notices {
             self.behind.push_back(Queue::of_one(self.alloc, notice)?)?;
@@ -126,7 +129,8 @@ impl Tasks {
 
     /// All whom an act serves are one cause, if there are any.
     pub fn open(&mut self, notices: Vec<Notice>) -> Result<(), NoMemory>
-        ensures { OnOk result (agenda_of self.new ≡ record (agenda_of self.old) { behind = (agenda_of self.old).behind ++ map (arranged below) (opens notices.items) }) }
+        ensures { OnOk result (agenda_of self.new
+            ≡ record (agenda_of self.old) { behind = (agenda_of self.old).behind ++ map (arranged below) (opens notices.items) }) }
     {
         if notices.is_empty() {
             return Ok(());

@@ -1,4 +1,4 @@
-//! What is left to do in a step of a client, and the order of its effects. The run that all of it serves is defined here.
+//! What is left to do in a step of a client, and the order of its effects.
 #![tactic(auto)]
 
 pub mod agenda;

@@ -3,7 +3,7 @@
 ghost use Rattle.std.specs.Prelude.{◌≡◌, OnOk, map};
 ghost use Rattle.pulsar_run.specs.Order.{arranged};
 ghost use Rattle.pulsar_calls.specs.Content.{shown};
-ghost use Rattle.pulsar_tables.specs.Effects.{effect_below, effect_rank};
+ghost use Rattle.pulsar_calls.specs.Order.{effect_below, effect_rank};
 
 use pulsar_calls::effect::Effect;
 use pulsar_wire::error::NoMemory;

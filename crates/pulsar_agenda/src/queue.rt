@@ -3,7 +3,7 @@
 ghost use Rattle.std.specs.Prelude.{◌≡◌, ◌≤◌, ◌++◌, ◌∷◌, [], drop, take, IfOk, MatchOption, MatchBool, OnOk};
 ghost use Rattle.std.specs.VecDeque.{deque_len};
 ghost use Rattle.pulsar_run.specs.Order.{InOrder, arranged, put};
-ghost use Rattle.pulsar_tables.specs.Rules.{below};
+ghost use Rattle.pulsar_calls.specs.Order.{below};
 ghost use Rattle.pulsar_calls.specs.declared.act.Notice.{Notice as Meant};
 
 use pulsar_calls::act::{Notice, Who};
@@ -27,9 +27,9 @@ impl Drop for Queue {
 impl Model for Queue {
     ghost use Rattle.std.specs.Prelude.{List};
     ghost use Rattle.pulsar_run.specs.Order.{InOrder};
-    ghost use Rattle.pulsar_tables.specs.Rules.{below};
+    ghost use Rattle.pulsar_calls.specs.Order.{below};
     ghost use Rattle.pulsar_calls.specs.declared.act.Notice.{Notice as Meant};
-    ghost use Rattle.pulsar_session.specs.FailureCode.{failure_code};
+    ghost use Rattle.pulsar_wire.specs.FailureCode.{failure_code};
     ghost use Rattle.std.specs.Coded.{codes};
 
     ghost Value = { List Meant };

@@ -3,7 +3,7 @@ use Rattle.std.proofs.Common.{◌≡◌, ◌≢◌, ◌∙◌, ℕ, ap, refl, Li
 use Rattle.std.specs.BTreeMap.{is_at}
 use Rattle.std.specs.Map.{lookup}
 use Rattle.std.specs.Ordering.{nat_cmp}
-use Rattle.pulsar_session.specs.Failures.{Failure, OfPartialSend, NoMore, Sent}
+use Rattle.pulsar_wire.specs.Failures.{Failure, OfPartialSend, NoMore, Sent}
 use Rattle.pulsar_calls.specs.Content as content
 use Rattle.pulsar_calls.specs.Parts.{outcome_at, outcomes_of, sent_with}
 

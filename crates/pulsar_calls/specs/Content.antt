@@ -10,14 +10,14 @@ use Rattle.pulsar_wire.specs.Views.{body_values, message_id_values, message_meta
 use Rattle.pulsar_wire.specs.declared.commands.topics.Mode.{Mode}
 use Rattle.pulsar_wire.specs.declared.error.Error.{Error}
 use Rattle.pulsar_wire.specs.declared.error.IoKind.{IoKind}
-use Rattle.pulsar_session.specs.Failures.{Failure, failure}
-use Rattle.pulsar_link.specs.Messages.{Written, written}
-use Rattle.pulsar_link.specs.RawCall.{words_of}
+use Rattle.pulsar_wire.specs.Failures.{Failure, failure}
+use Rattle.pulsar_exchange.specs.Messages.{Written, written}
+use Rattle.pulsar_exchange.specs.RawCall.{words_of}
 use Rattle.pulsar_messages.specs.Content.{ProducerMessageValues, message_content}
 use Rattle.pulsar_messages.specs.Words.{Words}
-use Rattle.pulsar_consumer.specs.Content.{ConsumerWanted, consumer_wanted}
-use Rattle.pulsar_producer.specs.Wanted.{ProducerWanted, producer_wanted}
-use Rattle.pulsar_plans.specs.Address.{Place, Named, named, place}
+use Rattle.pulsar_incoming.specs.Content.{ConsumerWanted, consumer_wanted}
+use Rattle.pulsar_outgoing.specs.Wanted.{ProducerWanted, producer_wanted}
+use Rattle.pulsar_addresses.specs.Address.{Place, Named, named, place}
 use Rattle.pulsar_calls.specs.declared.event.Call.{Call}
 use Rattle.pulsar_calls.specs.declared.event.Call.TheVariants as call
 use Rattle.pulsar_calls.specs.declared.event.Event.{Event}

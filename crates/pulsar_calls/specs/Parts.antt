@@ -3,7 +3,7 @@ use Rattle.std.specs.Prelude.{ℕ, List, [], ◌∷◌, Option, Some, None}
 use Rattle.std.specs.BTreeMap.{insert_entry, is_at}
 use Rattle.std.specs.Map.{lookup}
 use Rattle.std.specs.Ordering.{nat_cmp}
-use Rattle.pulsar_session.specs.Failures.{Failure, OfPartialSend, Sent, NoMore, Went, Failed as Fails}
+use Rattle.pulsar_wire.specs.Failures.{Failure, OfPartialSend, Sent, NoMore, Went, Failed as Fails}
 use Rattle.pulsar_calls.specs.Content.{Said, Sends, Failed}
 use Rattle.pulsar_calls.specs.Content.{numbers_from}
 

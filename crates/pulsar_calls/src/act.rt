@@ -4,15 +4,14 @@
 use crate::content::{
     Advice, Asking, Cause, Granted, Joined, Made, Notices, Numbers, Recalled, Remade, Said,
 };
-use pulsar_consumer::building::Order as ConsumerOrder;
-use pulsar_link::content::{Received, Request, Subscribed};
-use pulsar_plans::content::{Address, Refusal as Failure};
-use pulsar_plans::plan::Procedure as Sought;
-use pulsar_plans::turn::Ways;
-use pulsar_producer::Receipt;
-use pulsar_producer::building::Order;
-use pulsar_producer::content::{Entry, Outgoing};
-use pulsar_producer::sending::Errand;
+use pulsar_addresses::content::{Address, Refusal as Failure};
+use pulsar_exchange::content::{Received, Request, Subscribed};
+use pulsar_incoming::orders::Order as ConsumerOrder;
+use pulsar_outgoing::batch::Receipt;
+use pulsar_outgoing::content::{Entry, Outgoing};
+use pulsar_outgoing::orders::{Errand, Order};
+use pulsar_searches::plan::Procedure as Sought;
+use pulsar_searches::turn::Ways;
 use pulsar_wire::error::IoKind;
 
 /// One that has a plan. A cause serves them in the order of their ranks.

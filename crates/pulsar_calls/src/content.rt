@@ -8,21 +8,25 @@ ghost use Rattle.pulsar_calls.specs.Content.{numbers_from};
 ghost use Rattle.pulsar_calls.specs.Content.{next_advice};
 ghost use Rattle.pulsar_calls.specs.Parts.{failed_with, outcome_at, outcomes_of, sent_from};
 ghost use Rattle.pulsar_wire.specs.declared.error.Error.{Error as Meant};
-ghost use Rattle.pulsar_session.specs.Failures.{fault, sent};
+ghost use Rattle.pulsar_wire.specs.Failures.{fault, sent};
 
 use crate::act::Notice;
 use crate::effect::Answer;
 use crate::event::Call;
-use pulsar_consumer::settings::Settings as Config;
-use pulsar_plans::content::{Refusal, Text};
-use pulsar_plans::making::Command;
-use pulsar_producer::content::{Parts, Settings};
-use pulsar_producer::deed::News;
-use pulsar_producer::replies::Given;
+use pulsar_addresses::content::{Refusal, Text};
+use pulsar_incoming::settings::Settings as Config;
+use pulsar_outgoing::content::{Parts, Settings};
+use pulsar_outgoing::news;
+use pulsar_outgoing::replies::Given;
+use pulsar_searches::making::Command;
+use pulsar_searches::turn::Outcome;
 use pulsar_wire::error::{ConnectionError, Error, NoMemory, ProducerError};
 use std::alloc::Global;
 use std::collections::{BTreeMap, VecDeque};
 use std::marker::Model;
+
+/// What the plan of a send is told.
+pub type News = news::News<Outcome, Command>;
 
 /// What a user asks of the client.
 pub struct Asking {
@@ -80,7 +84,7 @@ impl Drop for Said {
 impl Model for Said {
     ghost use Rattle.pulsar_calls.specs.Content as content;
     ghost use Rattle.pulsar_calls.specs.Content.{said};
-    ghost use Rattle.pulsar_session.specs.FailureCode.{failure_code};
+    ghost use Rattle.pulsar_wire.specs.FailureCode.{failure_code};
     ghost use Rattle.std.specs.Coded.{codes};
 
     ghost Value = { content.Said };
@@ -118,7 +122,7 @@ impl Drop for Cause {
 }
 
 impl Model for Cause {
-    ghost use Rattle.pulsar_session.specs.Failures.{Fault, fault};
+    ghost use Rattle.pulsar_wire.specs.Failures.{Fault, fault};
 
     ghost Value = { Fault };
 
@@ -153,7 +157,7 @@ impl Drop for Granted {
 }
 
 impl Model for Granted {
-    ghost use Rattle.pulsar_producer.specs.declared.deed.News.{News};
+    ghost use Rattle.pulsar_calls.specs.News.{News};
 
     ghost Value = { News };
 
@@ -332,7 +336,7 @@ impl Drop for Recalled {
 }
 
 impl Model for Recalled {
-    ghost use Rattle.pulsar_plans.specs.declared.making.Command.{Command};
+    ghost use Rattle.pulsar_searches.specs.declared.making.Command.{Command};
 
     ghost Value = { Command };
 
@@ -415,7 +419,7 @@ impl Drop for Notices {
 impl Model for Notices {
     ghost use Rattle.std.specs.Prelude.{List};
     ghost use Rattle.pulsar_calls.specs.declared.act.Notice.{Notice};
-    ghost use Rattle.pulsar_session.specs.FailureCode.{failure_code};
+    ghost use Rattle.pulsar_wire.specs.FailureCode.{failure_code};
     ghost use Rattle.std.specs.Coded.{codes};
 
     ghost Value = { List Notice };
@@ -513,8 +517,8 @@ impl Drop for Failures {
 
 impl Model for Failures {
     ghost use Rattle.std.specs.Prelude.{ℕ, List};
-    ghost use Rattle.pulsar_session.specs.Failures.{Failure};
-    ghost use Rattle.pulsar_session.specs.FailureCode.{failure_code};
+    ghost use Rattle.pulsar_wire.specs.Failures.{Failure};
+    ghost use Rattle.pulsar_wire.specs.FailureCode.{failure_code};
     ghost use Rattle.std.specs.Coded.{codes};
 
     // the tickets with the failures, in their order

@@ -1,14 +1,14 @@
 //! Answers once more.
 
 ghost use Rattle.std.specs.Prelude.{◌≡◌, IfOk, map};
-ghost use Rattle.pulsar_plans.specs.Address.{named};
+ghost use Rattle.pulsar_addresses.specs.Address.{named};
 ghost use Rattle.pulsar_wire.specs.Views.{body_values};
 ghost use Rattle.pulsar_calls.specs.Content.{answered, said};
 
 use crate::effect::Answer;
-use pulsar_plans::BrokerAddress;
-use pulsar_plans::content::Refusal;
-use pulsar_producer::copying::{copy_error, copy_refusal};
+use pulsar_addresses::address::BrokerAddress;
+use pulsar_addresses::content::Refusal;
+use pulsar_outgoing::copying::{copy_error, copy_refusal};
 use pulsar_wire::commands::base::Body;
 use pulsar_wire::encoding::copying::copy_values;
 use pulsar_wire::error::{Error, NoMemory};

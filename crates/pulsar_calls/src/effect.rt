@@ -6,9 +6,9 @@ ghost use Rattle.pulsar_wire.specs.Rows.{send_receipt};
 ghost use Rattle.pulsar_wire.specs.Views.{send_receipt_values};
 ghost use Rattle.pulsar_calls.specs.Content.{Receipt, answered, receipt_in};
 
-use pulsar_consumer::MessageData;
+use pulsar_addresses::address::BrokerAddress;
 use pulsar_frame::payload::Payload;
-use pulsar_plans::BrokerAddress;
+use pulsar_incoming::message::MessageData;
 use pulsar_wire::commands::base::Body;
 use pulsar_wire::commands::producer::CommandSendReceipt;
 use pulsar_wire::error::Error;

@@ -4,10 +4,10 @@ ghost use Rattle.std.specs.Prelude.{◌≡◌, IfOk, map};
 ghost use Rattle.pulsar_messages.specs.Content.{message_content};
 ghost use Rattle.pulsar_calls.specs.Content.{asked, heard};
 
-use pulsar_consumer::ConsumerBuilder;
-use pulsar_link::raw_call::RawCall;
+use pulsar_exchange::raw_call::RawCall;
+use pulsar_incoming::builder::ConsumerBuilder;
 use pulsar_messages::Message;
-use pulsar_producer::ProducerBuilder;
+use pulsar_outgoing::producer_builder::ProducerBuilder;
 use pulsar_wire::commands::ids::MessageIdData;
 use pulsar_wire::commands::topics::Mode;
 use pulsar_wire::error::{IoKind, NoMemory};

@@ -3,8 +3,10 @@
 use crate::pieces::Pieces;
 use crate::policy::Second;
 use pulsar_cli::{Status, run, script};
-use pulsar_client::{CustomRoutingPolicy, FailingSink, FailingSource};
+use pulsar_client::CustomRoutingPolicy;
 use pulsar_pumps::MemoryEdge;
+use pulsar_streams::outside::sink::FailingSink;
+use pulsar_streams::outside::source::FailingSource;
 use std::alloc::{AllocError, Global};
 use std::sync::Wait;
 use std::thread::Threads;

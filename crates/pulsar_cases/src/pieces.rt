@@ -2,7 +2,8 @@
 
 ghost use Rattle.std.specs.Prelude.{None};
 
-use pulsar_client::{Failed, FailingSource, Source};
+use pulsar_streams::outside::Failed;
+use pulsar_streams::outside::source::{FailingSource, Source};
 
 /// A source that gives few bytes at a time. It tells no content.
 #[derive(Drop)]

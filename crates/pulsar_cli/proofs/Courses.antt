@@ -3,7 +3,7 @@ use Rattle.std.proofs.Common.{◌≡◌, ℕ, sym, subst, refl, Bool, false, Lis
 use Rattle.pulsar_calls.specs.declared.event.Event.{Event}
 use Rattle.pulsar_calls.specs.declared.effect.Effect.{Effect}
 use Rattle.pulsar_calls.specs.Content.{Ack, Asked, Build, Bytes, Called, CloseConsumer, CloseProducer, Consumer, Heard, Opened, Producer, heard, shown}
-use Rattle.pulsar_agenda.specs.Run.{Step}
+use Rattle.pulsar_calls.specs.Steps.{Step}
 use Rattle.pulsar_client.specs.History.{step}
 use Rattle.pulsar_cli.specs.Demo.{Asks, Begins, Closes, Comes, Drains, Exchange, Exchanges, IsAck, IsAnswered, Item, Next, Ordered, Owes, Polls, Receives, Round, Rounds, Sends, Turn, consumer_ticket, demo_consumer, demo_producer, item_of, piece_of, producer_ticket}
 use Rattle.pulsar_cli.specs.declared.play.Play.{Play}

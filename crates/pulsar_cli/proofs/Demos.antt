@@ -7,13 +7,13 @@ use Rattle.std.proofs.lemmas.List.{map-append, reverse-append, take_more}
 use Rattle.pulsar_calls.specs.declared.event.Event.{Event}
 use Rattle.pulsar_calls.specs.declared.effect.Effect.{Effect}
 use Rattle.pulsar_calls.specs.Content.{Heard, Shown, Write, Hands, shown}
-use Rattle.pulsar_agenda.specs.Run.{Step}
+use Rattle.pulsar_calls.specs.Steps.{Step}
 use Rattle.pulsar_broker.specs.History.{Act, Ended, Fed, Taken, Takes, bytes_for, ended_by, frames, given, settled, state, stream, turns}
 use Rattle.pulsar_broker.specs.State.{State, without}
 use Rattle.pulsar_broker.specs.Stands as broker
 use Rattle.pulsar_broker.specs.declared.broker.Broker.{Broker}
 use Rattle.pulsar_cli.specs.Demo.{Answered, Asks, Busy, Item, Exchange, Owes, Round, Rounds, Sends, fed_by, fed_in, item_of, payload, piece_of, producer_ticket, received, url}
-use Rattle.pulsar_producer.specs.Message.{bare}
+use Rattle.pulsar_messages.specs.Message.{bare}
 use Rattle.pulsar_calls.specs.Content.{Send}
 use Rattle.pulsar_cli.specs.Played.{Sides, step_of, without_takes}
 

@@ -6,14 +6,15 @@ use Rattle.std.specs.declared.alloc.Global.{Global}
 use Rattle.std.specs.declared.dyn_box.DynBox.{DynBox}
 use Rattle.pulsar_client.specs.Client.{StandsFor}
 use Rattle.pulsar_client.specs.declared.pulsar.Pulsar.{Pulsar}
-use Rattle.pulsar_client.specs.Outside.{Rose}
+use Rattle.pulsar_streams.specs.Outside.{Rose}
 use Rattle.pulsar_calls.specs.Content.{Heard, Shown}
-use Rattle.pulsar_agenda.specs.Run.{Good, Step}
-use Rattle.pulsar_tables.specs.View.{Options}
-use Rattle.pulsar_script.specs.Grammar.{lines}
+use Rattle.pulsar_acts.specs.Run.{Good}
+use Rattle.pulsar_calls.specs.Steps.{Step}
+use Rattle.pulsar_machine.specs.Options.{Options}
+use Rattle.pulsar_grammar.specs.Grammar.{lines}
 use Rattle.pulsar_cli.specs.Script.{Adds, AddsFront, Given, IsStopped, Ran, Seen, limit}
 use Rattle.pulsar_cli.specs.Shown.{Awaits, GoesTo, GoesToLast, Going, HasTold, options_in, remaining, steps_left, unread}
-use Rattle.pulsar_script.specs.Text.{step}
+use Rattle.pulsar_printing.specs.Text.{step}
 use Rattle.pulsar_cli.specs.declared.feed.Feed.{Feed}
 use Rattle.pulsar_cli.specs.declared.reading.Reading.{Reading}
 use Rattle.pulsar_cli.proofs.Gives.{given, given-whole, left-behind, ran-done}

@@ -2,7 +2,7 @@
 use Rattle.std.proofs.Common.{◌≡◌, ℕ, ◌+◌, ◌-◌, ◌≤◌, ◌<◌, ◌∙◌, sym, ap, List, [], ◌++◌, refl, arith, Option, Some, length, take, drop, append_assoc, append-nil, length-append}
 use Rattle.std.proofs.lemmas.List.{drop-drop, length-drop, length-take-le}
 use Rattle.std.proofs.Math.Seq.{take-add, take-append_seam}
-use Rattle.pulsar_client.specs.Outside.{Rose, Takes}
+use Rattle.pulsar_streams.specs.Outside.{Rose, Takes}
 use Rattle.pulsar_cli.specs.Script.{Seen, limit}
 use Rattle.pulsar_cli.specs.Shown.{Fed, IsFull, unread}
 use Rattle.pulsar_cli.specs.declared.feed.Feed.{Feed}

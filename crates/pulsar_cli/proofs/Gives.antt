@@ -5,7 +5,7 @@ use Rattle.std.proofs.lemmas.List.{take-append-drop}
 use Rattle.std.proofs.lemmas.Option.{none-some}
 use Rattle.std.proofs.Math.Seq.{drop-append_seam, drop-length}
 use Rattle.pulsar_producer.specs.Routing.{Policy}
-use Rattle.pulsar_client.specs.Outside.{Rose, Takes}
+use Rattle.pulsar_streams.specs.Outside.{Rose, Takes}
 use Rattle.pulsar_cli.specs.Script.{Given, HasFault, IsDone, Printed, Ran, Seen, limit}
 use Rattle.pulsar_cli.specs.Shown.{Faults, Gave, Halts, HasRead, Told, read_status, status_of}
 use Rattle.pulsar_cli.specs.declared.reading.Reading.{Reading}

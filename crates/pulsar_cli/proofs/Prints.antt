@@ -6,10 +6,10 @@ use Rattle.std.proofs.Math.Seq.{take-length}
 use Rattle.std.proofs.Math.ListN.{drop_of_length-le}
 use Rattle.pulsar_producer.specs.Routing.{Policy}
 use Rattle.pulsar_calls.specs.Content.{Heard}
-use Rattle.pulsar_agenda.specs.Run.{Step}
-use Rattle.pulsar_tables.specs.View.{Options}
-use Rattle.pulsar_script.specs.Grammar.{Happens, line as meaning, lines}
-use Rattle.pulsar_script.specs.Text.{refusal}
+use Rattle.pulsar_calls.specs.Steps.{Step}
+use Rattle.pulsar_machine.specs.Options.{Options}
+use Rattle.pulsar_grammar.specs.Grammar.{Happens, line as meaning, lines}
+use Rattle.pulsar_printing.specs.Text.{refusal}
 use Rattle.pulsar_cli.specs.Script.{Adds, AddsFront, IsDone, IsRunOf, IsStopped, IsRefused, Printed, blank, text}
 use Rattle.pulsar_cli.specs.Shown.{Faults, Halts, InTurn, IsLast, IsNoScriptWith, Prints, Reads, Refuses, Refusing, Running, options_in, read_status, said, status_of}
 use Rattle.pulsar_cli.specs.declared.reading.Reading.{Reading}

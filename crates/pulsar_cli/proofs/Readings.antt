@@ -7,13 +7,14 @@ use Rattle.pulsar_wire.specs.Field.{◌>>=◌}
 use Rattle.pulsar_producer.specs.Routing.{Policy}
 use Rattle.pulsar_calls.specs.Content.{Heard, Shown, heard}
 use Rattle.pulsar_calls.specs.declared.event.Event.{Event}
-use Rattle.pulsar_agenda.specs.Run.{Good, Step, is_empty}
-use Rattle.pulsar_tables.specs.View.{Options}
-use Rattle.pulsar_script.specs.Grammar.{Setting, Line, Nothing, Sets, Happens, line, lines}
+use Rattle.pulsar_acts.specs.Run.{Good, is_empty}
+use Rattle.pulsar_calls.specs.Steps.{Step}
+use Rattle.pulsar_machine.specs.Options.{Options}
+use Rattle.pulsar_grammar.specs.Grammar.{Setting, Line, Nothing, Sets, Happens, line, lines}
 use Rattle.pulsar_cli.specs.Script.{Script, blank, chooses, default_choice, with_line, script_from, script_of, happened, text}
-use Rattle.pulsar_script.specs.Text.{step}
+use Rattle.pulsar_printing.specs.Text.{step}
 use Rattle.pulsar_cli.specs.Choice.{choice_of}
-use Rattle.pulsar_script.specs.Parsed.{IsWithinLine}
+use Rattle.pulsar_grammar.specs.Parsed.{IsWithinLine}
 use Rattle.pulsar_cli.specs.Shown.{HasConsumed, KeepsReading, KeepsText, Reads, ReadsMore, Refuses, Running, options_in, said}
 use Rattle.pulsar_cli.proofs.Splitting.{ends-line, feed, goes-on}
 use Rattle.pulsar_cli.specs.declared.reading.Reading.{Reading}

@@ -2,10 +2,10 @@
 use Rattle.std.proofs.Common.{◌≡◌, ◌==◌, ℕ, ◌∙◌, sym, ap, List, [], ◌∷◌, ◌++◌, refl, arith, false, append_assoc, append-nil}
 use Rattle.std.proofs.lemmas.List.Elements.{All-append}
 use Rattle.std.proofs.lemmas.List.Splits.{slice_split_at, slice_split_none}
-use Rattle.pulsar_script.specs.Grammar.{lines}
-use Rattle.pulsar_script.specs.Parsed.{IsWithinLine}
+use Rattle.pulsar_grammar.specs.Grammar.{lines}
+use Rattle.pulsar_grammar.specs.Parsed.{IsWithinLine}
 use Rattle.pulsar_cli.specs.Shown.{Splits}
-use Rattle.pulsar_script.proofs.Lines.{is_feed}
+use Rattle.pulsar_grammar.proofs.Lines.{is_feed}
 
 -- a line that ends behind some bytes
 pub ends-line : {x p : List ℕ} {read : List (List ℕ)} (e : List ℕ) → Splits x read p → IsWithinLine e → (future : List ℕ) → lines ((x ++ (e ++ 10 ∷ [])) ++ future) ≡ read ++ (p ++ e) ∷ lines future

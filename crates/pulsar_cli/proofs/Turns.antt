@@ -2,11 +2,11 @@
 use Rattle.std.proofs.Common.{inl, inr, ◌⊎◌, ◌≡◌, ℕ, ◌≤◌, ◌∙◌, sym, ap, subst, Bool, true, false, List, [], ◌++◌, refl, arith, Option, Some, None, length, append_assoc, append-nil}
 use Rattle.std.specs.Prelude.{string_bytes, Result, Ok, Err, IfErr, IfOk, IfSome, MatchOption, MatchResult}
 use Rattle.pulsar_producer.specs.Routing.{Policy}
-use Rattle.pulsar_client.specs.Outside.{Rose}
+use Rattle.pulsar_streams.specs.Outside.{Rose}
 use Rattle.pulsar_calls.specs.Content.{Heard, heard}
 use Rattle.pulsar_calls.specs.declared.event.Event.{Event}
-use Rattle.pulsar_agenda.specs.Run.{Step}
-use Rattle.pulsar_tables.specs.View.{Options}
+use Rattle.pulsar_calls.specs.Steps.{Step}
+use Rattle.pulsar_machine.specs.Options.{Options}
 use Rattle.pulsar_cli.specs.Script.{Adds, AddsFront, IsDone, Seen, limit}
 use Rattle.pulsar_cli.specs.Shown.{Awaits, Faults, Fed, Gave, GoesTo, Going, Halts, HasConsumed, HasFound, HasRead, InTurn, IsAtEnd, IsFull, IsLast, Prints, Refuses, Running, status_of, unread}
 use Rattle.pulsar_cli.specs.declared.feed.Feed.{Feed}

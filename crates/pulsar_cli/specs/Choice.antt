@@ -2,8 +2,8 @@
 use Rattle.std.specs.Prelude.{string_bytes}
 use Rattle.std.specs.Option.{option_map}
 use Rattle.pulsar_messages.specs.Content.{authentication_values}
-use Rattle.pulsar_tables.specs.Address.{base_in}
-use Rattle.pulsar_tables.specs.View.{Chosen}
+use Rattle.pulsar_addresses.specs.Address.{base_in}
+use Rattle.pulsar_machine.specs.Options.{Chosen}
 use Rattle.pulsar_cli.specs.declared.options.Choice.{Choice}
 
 -- what a choice is

@@ -6,11 +6,12 @@ use Rattle.pulsar_wire.specs.Row.{Values, spelling}
 use Rattle.pulsar_wire.specs.Rows.{message_id}
 use Rattle.pulsar_wire.specs.declared.commands.enumerations.InitialPosition.TheVariants.{Earliest}
 use Rattle.pulsar_messages.specs.Content.{empty_consumer_options}
-use Rattle.pulsar_producer.specs.Message.{bare}
-use Rattle.pulsar_producer.specs.Wanted.{ProducerWanted, no_producer}
-use Rattle.pulsar_consumer.specs.Content.{ConsumerWanted, no_consumer}
+use Rattle.pulsar_messages.specs.Message.{bare}
+use Rattle.pulsar_outgoing.specs.Wanted.{ProducerWanted, no_producer}
+use Rattle.pulsar_incoming.specs.Content.{ConsumerWanted, no_consumer}
 use Rattle.pulsar_calls.specs.Content.{Asked, Build, Producer, Send, Consumer, Ack, CloseConsumer, CloseProducer, Heard, Called, Opened, Bytes, Drain, Poll, Said, Done, Receipt, Shown, Write, Ends, Hands}
-use Rattle.pulsar_agenda.specs.Run.{Good, Step}
+use Rattle.pulsar_acts.specs.Run.{Good}
+use Rattle.pulsar_calls.specs.Steps.{Step}
 use Rattle.pulsar_broker.specs.History.{Act, Fed, given}
 use Rattle.pulsar_cli.specs.Script.{defaults}
 

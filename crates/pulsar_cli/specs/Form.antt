@@ -4,8 +4,8 @@ use Rattle.std.specs.Fmt.{decimal}
 use Rattle.std.specs.Option.{option_map, option_or}
 use Rattle.std.specs.Str.{bytes_eq}
 use Rattle.pulsar_wire.specs.Field.{◌>>=◌}
-use Rattle.pulsar_agenda.specs.Run.{Step}
-use Rattle.pulsar_script.specs.Words.{number}
+use Rattle.pulsar_calls.specs.Steps.{Step}
+use Rattle.pulsar_grammar.specs.Words.{number}
 use Rattle.pulsar_work.specs.Form.{Asking, form_of}
 use Rattle.pulsar_cli.specs.Demo.{IsDemo, Numbers}
 use Rattle.pulsar_cli.specs.Script.{Adds, AddsFront, HasFault, Seen}

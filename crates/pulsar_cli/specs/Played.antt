@@ -9,7 +9,7 @@ use Rattle.pulsar_calls.specs.declared.effect.Effect.{Effect}
 use Rattle.pulsar_calls.specs.declared.effect.Handed.{Handed}
 use Rattle.pulsar_calls.specs.Content.{Heard, heard}
 use Rattle.pulsar_client.specs.History.{step}
-use Rattle.pulsar_agenda.specs.Run.{Step}
+use Rattle.pulsar_calls.specs.Steps.{Step}
 use Rattle.pulsar_broker.specs.History.{Act, Ended, Fed, Taken, settled}
 use Rattle.pulsar_broker.specs.Stands as broker
 use Rattle.pulsar_broker.specs.declared.broker.Broker.{Broker}

@@ -1,15 +1,16 @@
 -- The run of a script.
 use Rattle.std.specs.Prelude.{◌≡◌, ◌⊎◌, if◌then◌else◌, codes, ℕ, ◌+◌, ◌<◌, ◌≤◌, ◌↔◌, List, [], ◌∷◌, ◌++◌, length, drop, Option, Some, None}
 use Rattle.pulsar_wire.specs.Field.{◌>>=◌}
-use Rattle.pulsar_plans.specs.Backoff.{default_connection_retry, default_operation_retry}
+use Rattle.pulsar_addresses.specs.Backoff.{default_connection_retry, default_operation_retry}
 use Rattle.pulsar_producer.specs.Routing.{Policy}
-use Rattle.pulsar_tables.specs.Address.{base_in}
+use Rattle.pulsar_addresses.specs.Address.{base_in}
 use Rattle.pulsar_calls.specs.Content.{Heard}
-use Rattle.pulsar_tables.specs.View.{Chosen, Options}
+use Rattle.pulsar_machine.specs.Options.{Chosen, Options}
 pub use Rattle.pulsar_job.specs.Outside.{Adds, AddsFront, Given, HasFault, Seen, limit, seen, since}
-use Rattle.pulsar_agenda.specs.Run.{Good, Step, is_empty}
-use Rattle.pulsar_script.specs.Grammar.{Setting, Url, Auth, Outbound, Timeout, RetryDelay, OpRetries, Retries, MinBackoff, MaxBackoff, ConnectionTimeout, KeepAlive, MaxIdle, Seed, First, Now, Line, Nothing, Sets, Happens, Refused, line, lines}
-use Rattle.pulsar_script.specs.Text.{step, refusal}
+use Rattle.pulsar_acts.specs.Run.{Good, is_empty}
+use Rattle.pulsar_calls.specs.Steps.{Step}
+use Rattle.pulsar_grammar.specs.Grammar.{Setting, Url, Auth, Outbound, Timeout, RetryDelay, OpRetries, Retries, MinBackoff, MaxBackoff, ConnectionTimeout, KeepAlive, MaxIdle, Seed, First, Now, Line, Nothing, Sets, Happens, Refused, line, lines}
+use Rattle.pulsar_printing.specs.Text.{step, refusal}
 
 -- what a script says: the options of its client, and its events
 pub record Script : Type 0 where

@@ -6,13 +6,14 @@ use Rattle.pulsar_cli.specs.declared.feed.Next.{Next}
 use Rattle.pulsar_cli.specs.declared.reading.Reading.{Reading}
 use Rattle.pulsar_cli.specs.declared.stop.Stop.{Stop}
 use Rattle.pulsar_cli.specs.declared.stop.Stop.TheVariants as stop
-use Rattle.pulsar_client.specs.Outside.{Rose}
+use Rattle.pulsar_streams.specs.Outside.{Rose}
 use Rattle.pulsar_calls.specs.Content.{Heard, heard}
-use Rattle.pulsar_agenda.specs.Run.{Good, Step, is_empty}
-use Rattle.pulsar_tables.specs.View.{Options}
-use Rattle.pulsar_script.specs.Grammar.{Happens, line as meaning, lines}
+use Rattle.pulsar_acts.specs.Run.{Good, is_empty}
+use Rattle.pulsar_calls.specs.Steps.{Step}
+use Rattle.pulsar_machine.specs.Options.{Options}
+use Rattle.pulsar_grammar.specs.Grammar.{Happens, line as meaning, lines}
 use Rattle.pulsar_cli.specs.Choice.{choice_of}
-use Rattle.pulsar_script.specs.Parsed.{IsWithinLine}
+use Rattle.pulsar_grammar.specs.Parsed.{IsWithinLine}
 use Rattle.pulsar_cli.specs.Script.{Script, Adds, Given, HasFault, IsDone, IsStopped, Seen, limit, script_of, happened, text}
 
 -- the options of a reading's client, with these policies

@@ -3,17 +3,17 @@
 ghost use Rattle.std.specs.Prelude.{◌≡◌, ◌∷◌, IfOk, MatchOption, None, Some, false, map};
 ghost use Rattle.std.specs.Option.{option_map};
 ghost use Rattle.pulsar_wire.specs.Views.{message_id_values};
-ghost use Rattle.pulsar_producer.specs.Message.{bare};
+ghost use Rattle.pulsar_messages.specs.Message.{bare};
 ghost use Rattle.pulsar_calls.specs.Content.{Ack, Called, Consumer, Producer, Send, heard, shown};
 ghost use Rattle.pulsar_cli.specs.Demo.{IsAck, demo_consumer, demo_producer, item_of, payload, producer_ticket};
 ghost use Rattle.pulsar_cli.specs.Played.{heard_in, item_in};
 
 use crate::generated::payload;
 use crate::tally::item_of;
-use pulsar_client::{
-    Call, ConsumerBuilder, ConsumerOptions, Effect, Event, Handed, InitialPosition,
-    ProducerBuilder, message_from_bytes,
-};
+use pulsar_client::{Call, ConsumerOptions, Effect, Event, Handed, InitialPosition};
+use pulsar_incoming::builder::ConsumerBuilder;
+use pulsar_messages::serialize::message_from_bytes;
+use pulsar_outgoing::producer_builder::ProducerBuilder;
 use pulsar_wire::NoMemory;
 use std::alloc::Global;
 

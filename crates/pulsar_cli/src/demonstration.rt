@@ -1,7 +1,8 @@
 //! The demo: a client against a broker in memory.
 
 ghost use Rattle.std.specs.Prelude.{[], Bool, List, IfOk};
-ghost use Rattle.pulsar_agenda.specs.Run.{Good, Step};
+ghost use Rattle.pulsar_acts.specs.Run.{Good};
+ghost use Rattle.pulsar_calls.specs.Steps.{Step};
 ghost use Rattle.pulsar_cli.specs.Demo.{IsDemo};
 ghost use Rattle.pulsar_cli.specs.Played.{Holds, IsPlayed, counted, history, numbers};
 ghost use Rattle.pulsar_cli.specs.Script.{defaults};

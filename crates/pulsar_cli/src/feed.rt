@@ -5,7 +5,8 @@ ghost use Rattle.pulsar_cli.specs.Script.{since};
 ghost use Rattle.pulsar_cli.specs.Shown.{Fed, IsAtEnd, IsFull, remaining, unread};
 
 use crate::stop::Stop;
-use pulsar_client::{Event, Source};
+use pulsar_client::Event;
+use pulsar_streams::outside::source::Source;
 use std::alloc::Global;
 
 /// The most bytes that a script may have.

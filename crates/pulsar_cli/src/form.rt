@@ -6,7 +6,7 @@ ghost use Rattle.std.specs.Str.{bytes_eq};
 ghost use Rattle.pulsar_cli.specs.Asked.{form_in};
 ghost use Rattle.pulsar_cli.specs.Form.{demo_of, form_in_memory};
 
-use pulsar_script::grammar::word::number;
+use pulsar_grammar::word::number;
 
 /// The most messages of a demo.
 const MOST: u64 = 100_000;

@@ -27,4 +27,4 @@ pub use pulsar_job::{
     DONE, FAILED, Job, NO_FORM, NO_MEMORY, REFUSED, SINK_FAILED, SOURCE_FAILED, Status, TOO_LONG,
     job,
 };
-pub use pulsar_script::printing::effect::push_step;
+pub use pulsar_printing::effect::push_step;

@@ -5,14 +5,13 @@ ghost use Rattle.std.specs.Option.{option_map};
 ghost use Rattle.pulsar_messages.specs.Content.{authentication_values};
 ghost use Rattle.pulsar_client.specs.Client.{options as meaning};
 ghost use Rattle.pulsar_cli.specs.Choice.{choice_of};
-ghost use Rattle.pulsar_script.specs.Parsed.{setting_of};
+ghost use Rattle.pulsar_grammar.specs.Parsed.{setting_of};
 ghost use Rattle.pulsar_cli.specs.Script.{chooses, default_choice};
 
-use pulsar_client::{
-    Authentication, ClientOptions, ConnectionRetryOptions, CustomRoutingPolicy,
-    OperationRetryOptions,
-};
-use pulsar_script::grammar::setting::Setting;
+use pulsar_addresses::options::{ConnectionRetryOptions, OperationRetryOptions};
+use pulsar_client::options::ClientOptions;
+use pulsar_client::{Authentication, CustomRoutingPolicy};
+use pulsar_grammar::setting::Setting;
 use pulsar_wire::NoMemory;
 use std::alloc::Global;
 

@@ -1,7 +1,7 @@
 //! What has happened in a demo.
 
 ghost use Rattle.std.specs.Prelude.{◌≡◌, ◌∷◌, [], ℕ, Bool, List, IfOk, OnOk, map};
-ghost use Rattle.pulsar_agenda.specs.Run.{Step};
+ghost use Rattle.pulsar_calls.specs.Steps.{Step};
 ghost use Rattle.pulsar_calls.specs.Content.{heard, shown};
 ghost use Rattle.pulsar_broker.specs.History.{Act};
 ghost use Rattle.pulsar_broker.specs.Stands.{StandsFor};

@@ -2,23 +2,23 @@
 
 ghost use Rattle.std.specs.Prelude.{◌≡◌, ◌⊎◌, ◌+◌, ◌-◌, ◌<◌, ◌++◌, [], ℕ, List, Err, IfErr, IfOk, IfSome, MatchOption, OnOk, length, map, string_bytes, take};
 ghost use Rattle.pulsar_calls.specs.Content.{heard, shown};
-ghost use Rattle.pulsar_agenda.specs.Run.{Step};
-ghost use Rattle.pulsar_tables.specs.View.{Options};
+ghost use Rattle.pulsar_calls.specs.Steps.{Step};
+ghost use Rattle.pulsar_machine.specs.Options.{Options};
 ghost use Rattle.pulsar_producer.specs.Routing.{Policy};
-ghost use Rattle.pulsar_script.specs.Grammar.{Happens, line as meaning};
+ghost use Rattle.pulsar_grammar.specs.Grammar.{Happens, line as meaning};
 ghost use Rattle.pulsar_cli.specs.Choice.{choice_of};
-ghost use Rattle.pulsar_script.specs.Parsed.{line_of, setting_of};
+ghost use Rattle.pulsar_grammar.specs.Parsed.{line_of, setting_of};
 ghost use Rattle.pulsar_cli.specs.Script.{chooses};
 ghost use Rattle.pulsar_cli.specs.Shown.{HasConsumed, IsNoScriptWith, KeepsReading, KeepsText, ReadsMore, Refuses, Running};
-ghost use Rattle.pulsar_script.specs.Text.{step};
+ghost use Rattle.pulsar_printing.specs.Text.{step};
 
 use crate::options::{Choice, choose, defaults};
 use crate::stop::Stop;
 use pulsar_client::{Effect, Event};
-use pulsar_script::grammar::line::{Line, parse};
-use pulsar_script::grammar::setting::Setting;
-use pulsar_script::grammar::word::cut_line;
-use pulsar_script::printing::effect::push_step;
+use pulsar_grammar::line::{Line, parse};
+use pulsar_grammar::setting::Setting;
+use pulsar_grammar::word::cut_line;
+use pulsar_printing::effect::push_step;
 use pulsar_wire::NoMemory;
 use std::alloc::Global;
 

@@ -2,7 +2,9 @@
 
 ghost use Rattle.std.specs.Prelude.{None};
 
-use pulsar_client::{Failed, Sink, Source};
+use pulsar_streams::outside::Failed;
+use pulsar_streams::outside::sink::Sink;
+use pulsar_streams::outside::source::Source;
 use std::io::{Read, Write};
 
 /// Standard input.

@@ -4,7 +4,7 @@ ghost use Rattle.std.specs.Prelude.{if◌then◌else◌, length, bytes_eq, ◌�
 ghost use Rattle.std.specs.List.{list_any};
 ghost use Rattle.std.specs.Option.{option_copied, option_map};
 ghost use Rattle.pulsar_calls.specs.Content.{heard, said, shown};
-ghost use Rattle.pulsar_agenda.specs.Run.{Step};
+ghost use Rattle.pulsar_calls.specs.Steps.{Step};
 ghost use Rattle.pulsar_client.specs.History.{step};
 ghost use Rattle.pulsar_cli.specs.Demo.{acked_by, consumer_ticket, count_if, is_done, is_sent, item_of, one_if_called, one_if_there, payload, right_bytes, right_count};
 ghost use Rattle.pulsar_cli.specs.Played.{Counts, SameElse, item_in};
@@ -80,7 +80,8 @@ impl Tally {
     fn note_item(&mut self, bytes: &[u8]) -> Result<(), NoMemory>
         ensures items { OnOk result (self.new.items ≡ self.old.items + 1) }
         ensures received { OnOk result (self.new.received ≡ self.old.received + count_if (bytes_eq bytes.now (payload self.old.seed self.old.items))) }
-        ensures bytes { OnOk result (self.new.bytes ≡ self.old.bytes + (if bytes_eq bytes.now (payload self.old.seed self.old.items) then length bytes.now else 0)) }
+        ensures bytes { OnOk result (self.new.bytes
+            ≡ self.old.bytes + (if bytes_eq bytes.now (payload self.old.seed self.old.items) then length bytes.now else 0)) }
         ensures rest { OnOk result (SameElse self.old self.new) }
     {
         if is_payload(self.alloc, self.seed, self.items, bytes)? {

@@ -1,8 +1,9 @@
 //! Words, faults, and a long script.
 
 use pulsar_cli::{DONE, NO_FORM, REFUSED, SINK_FAILED, SOURCE_FAILED, Status, run, script};
-use pulsar_client::{FailingSink, FailingSource, MemorySink, MemorySource};
 use pulsar_pumps::MemoryEdge;
+use pulsar_streams::outside::sink::{FailingSink, MemorySink};
+use pulsar_streams::outside::source::{FailingSource, MemorySource};
 use std::alloc::{AllocError, Global};
 use std::process::Abort;
 use std::sync::Wait;

@@ -6,12 +6,12 @@ use Rattle.pulsar_wire.specs.Rows.{send_receipt}
 use Rattle.pulsar_wire.specs.Views.{send_receipt_values}
 use Rattle.pulsar_wire.specs.declared.commands.producer.CommandSendReceipt.{CommandSendReceipt}
 use Rattle.pulsar_wire.specs.declared.error.Error.{Error}
-use Rattle.pulsar_session.specs.Failures.{failure}
-use Rattle.pulsar_producer.specs.Errors.{IsNoMemory}
+use Rattle.pulsar_wire.specs.Failures.{failure}
+use Rattle.pulsar_outgoing.specs.Errors.{IsNoMemory}
 use Rattle.pulsar_calls.specs.Content.{Receipt, Said, Shown, answered, receipt_in}
 use Rattle.pulsar_calls.specs.declared.effect.Answer.{Answer}
 use Rattle.pulsar_calls.specs.declared.effect.Answer.TheVariants as answer
-use Rattle.pulsar_agenda.specs.Run.{Step}
+use Rattle.pulsar_calls.specs.Steps.{Step}
 use Rattle.pulsar_client.specs.Taken.{Held, IsPolled, IsSaid, IsUnsaid, ended_in, held_but, is_lost, left_after, poll_said, polled, polled_answer}
 
 -- one more effect

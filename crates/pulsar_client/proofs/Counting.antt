@@ -8,13 +8,17 @@ use Rattle.pulsar_calls.specs.declared.act.Part.{Part}
 use Rattle.pulsar_calls.specs.declared.act.Part.TheVariants.{Calls}
 use Rattle.pulsar_acts.specs.declared.tables.Tables.{Tables}
 use Rattle.pulsar_calls.specs.Content.{Heard, Shown, Called, Ticked}
-use Rattle.pulsar_tables.specs.Effects.{effect_below, effects}
-use Rattle.pulsar_tables.specs.Rules.{at_once, brings, further, parts}
-use Rattle.pulsar_agenda.specs.Run.{Entry, Begins, Then, IsRun, Rests, Step, agenda, first_of, heard_to, rest, rest_of, rules, steps, tickets_in, view}
+use Rattle.pulsar_acts.specs.Effects.{effects}
+use Rattle.pulsar_calls.specs.Order.{effect_below}
+use Rattle.pulsar_acts.specs.Rules.{at_once, brings, further, parts}
+use Rattle.pulsar_acts.specs.Run.{Entry, Begins, Then, IsRun, Rests, agenda, heard_to, rules, steps, tickets_in, view}
+use Rattle.pulsar_calls.specs.Steps.{Step}
+use Rattle.pulsar_agenda.specs.Agenda.{first_of, rest, rest_of}
 use Rattle.pulsar_client.specs.History.{Stands}
-use Rattle.pulsar_tables.specs.View.{Options, View, drawn_after, is_live}
-use Rattle.pulsar_agenda.proofs.Acts.{Each, begun_same}
-use Rattle.pulsar_agenda.proofs.Single.{IsMany, NoSingle, at_once_many, further_many, ticks_many}
+use Rattle.pulsar_acts.specs.View.{View, drawn_after, is_live}
+use Rattle.pulsar_machine.specs.Options.{Options}
+use Rattle.pulsar_client.proofs.Acts.{Each, begun_same}
+use Rattle.pulsar_client.proofs.Single.{IsMany, NoSingle, at_once_many, further_many, ticks_many}
 
 -- WHAT IS LEFT TO DRAW
 

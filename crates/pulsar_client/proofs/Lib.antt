@@ -4,3 +4,6 @@ pub mod Stepping
 pub mod Counting
 pub mod Taking
 pub mod Recorded
+pub mod Acts
+pub mod Raising
+pub mod Single

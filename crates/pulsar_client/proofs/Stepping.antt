@@ -8,11 +8,14 @@ use Rattle.pulsar_calls.specs.declared.effect.Effect.{Effect}
 use Rattle.pulsar_calls.specs.declared.event.Event.{Event}
 use Rattle.pulsar_acts.specs.declared.tables.Tables.{Tables}
 use Rattle.pulsar_calls.specs.Content.{Heard, heard, shown}
-use Rattle.pulsar_tables.specs.Rules.{brings}
-use Rattle.pulsar_agenda.specs.Run.{Good, Step, first, rules, view}
+use Rattle.pulsar_acts.specs.Rules.{brings}
+use Rattle.pulsar_acts.specs.Run.{Good, rules, view}
+use Rattle.pulsar_calls.specs.Steps.{Step}
+use Rattle.pulsar_agenda.specs.Agenda.{first}
 use Rattle.pulsar_client.specs.History.{Stands, answered, step}
 use Rattle.pulsar_acts.specs.Tables.{view_of}
-use Rattle.pulsar_tables.specs.View.{Options, begun_live, is_live}
+use Rattle.pulsar_acts.specs.View.{begun_live, is_live}
+use Rattle.pulsar_machine.specs.Options.{Options}
 
 answered_more : (es : List Event) (xs : List (Vec Effect)) (e : Event) (x : Vec Effect) → length xs ≡ length es →
     answered (es ++ e ∷ []) (xs ++ x ∷ []) ≡ answered es xs ++ step e x.items ∷ []

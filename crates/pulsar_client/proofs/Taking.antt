@@ -2,7 +2,8 @@
 use Rattle.std.proofs.Common.{◌≡◌, ◌∙◌, ap, sym, subst, ℕ, ◌+◌, ◌<◌, ◌≤◌, ◌==◌, ◌&&◌, ◌||◌, ◌⊎◌, nat_le, nat_lt, arith, true, false, cond, List, [], ◌∷◌, refl, Option, Some, None, inl, inr}
 use Rattle.std.proofs.lemmas.Bool.{cases_Bool, eq-eqb, eqb-false, eqb-true, lt-leb, ltb-true, ne_eqb}
 use Rattle.pulsar_calls.specs.Content.{Asked, Heard, Shown, Ends, Called, Opened, FailedToOpen, Bytes, Lost, Drain, Ticked, Poll, Said, lacks_tickets, shares}
-use Rattle.pulsar_agenda.specs.Run.{Step, called_to, heard_to, tickets_in}
+use Rattle.pulsar_acts.specs.Run.{called_to, heard_to, tickets_in}
+use Rattle.pulsar_calls.specs.Steps.{Step}
 use Rattle.std.specs.declared.alloc.Global.{Global}
 use Rattle.std.specs.declared.dyn_box.DynBox.{DynBox}
 use Rattle.pulsar_producer.specs.Routing.{Policy}
@@ -10,7 +11,8 @@ use Rattle.pulsar_client.specs.declared.pulsar.Pulsar.{Pulsar}
 use Rattle.pulsar_acts.specs.declared.tables.Tables.{Tables}
 use Rattle.pulsar_client.specs.Client.{StandsFor}
 use Rattle.pulsar_client.specs.History.{Stands}
-use Rattle.pulsar_tables.specs.View.{Chosen, Options, View, is_live, new}
+use Rattle.pulsar_acts.specs.View.{View, is_live, new}
+use Rattle.pulsar_machine.specs.Options.{Chosen, Options}
 use Rattle.pulsar_run.proofs.Steps.{at_first}
 use Rattle.pulsar_acts.specs.Tables.{view_of}
 use Rattle.pulsar_client.specs.Taken.{Held, drawn_to, ended_in, held, held_but, is_in, left_after, taken_left, taken_with, with_taken}

@@ -6,11 +6,14 @@ use Rattle.pulsar_session.specs.declared.states.Stage.TheVariants.{Dialing, Hand
 use Rattle.pulsar_session.specs.Link.{is_open}
 use Rattle.pulsar_consumer_table.specs.Consumers.{IsHeard}
 use Rattle.pulsar_acts.specs.declared.tables.Tables.{Tables}
-use Rattle.pulsar_agenda.specs.Run.{Good, Step, view}
+use Rattle.pulsar_acts.specs.Run.{Good, view}
+use Rattle.pulsar_calls.specs.Steps.{Step}
 use Rattle.pulsar_client.specs.History.{Stands}
 use Rattle.pulsar_acts.specs.Tables.{view_of}
 use Rattle.pulsar_client.proofs.Stepping.{seen_of}
-use Rattle.pulsar_tables.specs.View.{Options, Seat, View, Waits, is_at, is_busy, is_handshaking}
+use Rattle.pulsar_acts.specs.View.{View, Waits, is_at, is_handshaking}
+use Rattle.pulsar_machine.specs.Options.{Options}
+use Rattle.pulsar_links.specs.Seats.{Seat, is_busy}
 
 abbrev stage_of : Option Seat → Option Stage
 stage_of row = option_map (λ seat. seat.seen.stage) row

@@ -7,12 +7,14 @@ use Rattle.pulsar_client.specs.declared.pulsar.Pulsar.{Pulsar}
 use Rattle.std.specs.Option.{option_map}
 use Rattle.pulsar_messages.specs.Content.{authentication_values}
 use Rattle.pulsar_producer.specs.Routing.{Policy}
-use Rattle.pulsar_tables.specs.Address.{base_in}
+use Rattle.pulsar_addresses.specs.Address.{base_in}
 use Rattle.pulsar_calls.specs.Content.{Heard}
-use Rattle.pulsar_agenda.specs.Run.{Good, Step, tickets_in, view}
+use Rattle.pulsar_acts.specs.Run.{Good, tickets_in, view}
+use Rattle.pulsar_calls.specs.Steps.{Step}
 use Rattle.pulsar_client.specs.History.{Stands}
 use Rattle.pulsar_client.specs.Taken.{held_but, held_in, is_in}
-use Rattle.pulsar_tables.specs.View.{Chosen, Options, is_live}
+use Rattle.pulsar_acts.specs.View.{View, is_live}
+use Rattle.pulsar_machine.specs.Options.{Chosen, Options}
 
 -- Options hold policies in boxes, of whatever types X and d, and `routes` says what function a policy is.
 
@@ -50,6 +52,14 @@ pub record StandsFor {X : Type 0} {d : X → Type 0} (routes : DynBox X Global d
   pub answers : (t : ℕ) → held_in c.answers.held t ≡ held_but taken t history
   pub drawn : (t : ℕ) → is_in t taken ≡ true → t < tickets_in history
   pub whole : c.failed ≡ false
+
+-- so it is for each history that the client stands for
+abbrev pub Always : {X : Type 0} {d : X → Type 0} → (routes : DynBox X Global d → Policy) → Pulsar X d → (Options → List Step → List ℕ → Type 0) → Type 0
+Always routes c P = (o : Options) (h : List Step) (taken : List ℕ) → StandsFor routes o c h taken → P o h taken
+
+-- so it is of what is seen after each run of such a history
+abbrev pub InEachRun : {X : Type 0} {d : X → Type 0} → (routes : DynBox X Global d → Policy) → Pulsar X d → (View → Type 0) → Type 0
+InEachRun routes c P = Always routes c (λ o h taken. (g : Good o h) → P (view o g.log))
 
 -- the event names no live link, no state that the link is in, or no consumer, after any run of a history that the client stands for
 abbrev pub IsDead : {X : Type 0} {d : X → Type 0} → (routes : DynBox X Global d → Policy) → Pulsar X d → Heard → Type 0

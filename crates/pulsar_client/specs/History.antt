@@ -5,10 +5,12 @@ use Rattle.pulsar_run.specs.Standing as standing
 use Rattle.pulsar_calls.specs.declared.effect.Effect.{Effect}
 use Rattle.pulsar_calls.specs.declared.event.Event.{Event}
 use Rattle.pulsar_calls.specs.Content.{Heard, Shown, heard, shown}
-use Rattle.pulsar_agenda.specs.Run.{Agenda, Step, rules}
+use Rattle.pulsar_acts.specs.Run.{rules}
+use Rattle.pulsar_calls.specs.Steps.{Step}
+use Rattle.pulsar_agenda.specs.Agenda.{Agenda}
 use Rattle.pulsar_acts.specs.declared.tables.Tables.{Tables}
 use Rattle.pulsar_acts.specs.Tables.{view_of}
-use Rattle.pulsar_tables.specs.View.{Options}
+use Rattle.pulsar_machine.specs.Options.{Options}
 
 -- the tables stand for a history
 abbrev pub Stands : Options → Tables → List Step → Type 0

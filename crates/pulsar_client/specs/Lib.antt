@@ -1,4 +1,3 @@
 pub mod Taken
 pub mod History
 pub mod Client
-pub mod Outside

@@ -9,12 +9,13 @@ use Rattle.pulsar_wire.specs.Rows.{send_receipt}
 use Rattle.pulsar_wire.specs.Views.{send_receipt_values}
 use Rattle.pulsar_wire.specs.declared.commands.producer.CommandSendReceipt.{CommandSendReceipt}
 use Rattle.pulsar_wire.specs.declared.error.Error.{Error}
-use Rattle.pulsar_session.specs.Failures.{Failure, OfProducer, ProducerCustom, failure}
-use Rattle.pulsar_producer.specs.Errors.{IsNoMemory}
+use Rattle.pulsar_wire.specs.Failures.{Failure, OfProducer, ProducerCustom, failure}
+use Rattle.pulsar_outgoing.specs.Errors.{IsNoMemory}
 use Rattle.pulsar_client.specs.declared.answers.Taken.{Taken}
 use Rattle.pulsar_client.specs.declared.answers.Taken.TheVariants as taken
 use Rattle.pulsar_calls.specs.Content.{Said, Receipt, Failed, Done, Names, Address, Count, Addresses, Sends, Replies, Shown, Ends, said}
-use Rattle.pulsar_agenda.specs.Run.{Step, tickets_in}
+use Rattle.pulsar_acts.specs.Run.{tickets_in}
+use Rattle.pulsar_calls.specs.Steps.{Step}
 
 -- what there is of a ticket: nothing, a call that waits, or what it ended with
 abbrev pub Held : Type 0

@@ -4,8 +4,8 @@ ghost use Rattle.std.specs.Prelude.{◌≡◌, ◌++◌, ◌∷◌, [], map, IfO
 ghost use Rattle.pulsar_calls.specs.Content.{asked, heard};
 ghost use Rattle.pulsar_producer_table.specs.KeptProducers.{producers_of};
 ghost use Rattle.pulsar_producer_table.specs.Producers.{advice};
-ghost use Rattle.pulsar_tables.specs.Rules.{brings, call_part};
-ghost use Rattle.pulsar_tables.specs.View.{begun, is_live};
+ghost use Rattle.pulsar_acts.specs.Rules.{brings, call_part};
+ghost use Rattle.pulsar_acts.specs.View.{begun, is_live};
 ghost use Rattle.pulsar_acts.specs.Tables.{view_of};
 
 use pulsar_acts::tables::Tables;

@@ -1,13 +1,12 @@
 //! A send that has been asked for.
 
 ghost use Rattle.std.specs.Prelude.{◌≡◌, ◌⊎◌, ℕ, List, MatchOption, MatchResult, Ok, Err};
-ghost use Rattle.pulsar_session.specs.Failures.{failure};
-ghost use Rattle.pulsar_producer.specs.Errors.{IsNoMemory};
-ghost use Rattle.pulsar_client.specs.Client.{StandsFor};
+ghost use Rattle.pulsar_wire.specs.Failures.{failure};
+ghost use Rattle.pulsar_outgoing.specs.Errors.{IsNoMemory};
+ghost use Rattle.pulsar_calls.specs.Steps.{Step};
+ghost use Rattle.pulsar_client.specs.Client.{Always, StandsFor};
 ghost use Rattle.pulsar_calls.specs.Content.{answered, said};
-ghost use Rattle.pulsar_agenda.specs.Run.{Step};
 ghost use Rattle.pulsar_client.specs.Taken.{IsPolled, IsTaken, is_lost, poll_said, polled_answer, taken_with};
-ghost use Rattle.pulsar_tables.specs.View.{Options};
 
 use crate::answers::Taken;
 use crate::pulsar::Pulsar;
@@ -26,8 +25,8 @@ impl SendFuture {
     /// What the send has ended with, and none while it waits. It is told once: then, and for a ticket that was never drawn, and where
     /// the call ended with anything else than a receipt, it is Producer(Custom).
     pub fn poll(&mut self, client: &mut Pulsar) -> Option<Result<CommandSendReceipt, Error>>
-        ensures polled { (o : Options) (h : List Step) (taken : List ℕ) → StandsFor (λ p. routes p) o client.old h taken → IsPolled result self.old.ticket h taken }
-        ensures stands { (o : Options) (h : List Step) (taken : List ℕ) → StandsFor (λ p. routes p) o client.old h taken → StandsFor (λ p. routes p) o client.new h (taken_with self.old.ticket h taken) }
+        ensures polled { Always (λ p. routes p) client.old (λ o h taken. IsPolled result self.old.ticket h taken) }
+        ensures stands { Always (λ p. routes p) client.old (λ o h taken. StandsFor (λ p. routes p) o client.new h (taken_with self.old.ticket h taken)) }
         ensures same { self.new ≡ self.old }
     {
         let taken = client.take_answer(self.ticket);
@@ -48,8 +47,7 @@ fn told(alloc: Global, taken: Taken) -> Option<Result<CommandSendReceipt, Error>
 
 /// The receipt in what a send ended with.
 fn receipt_in(alloc: Global, answer: Result<Answer, Error>) -> Result<CommandSendReceipt, Error>
-    ensures { MatchResult result
-        (λ r. polled_answer (said answer) ≡ poll_said (Ok r))
+    ensures { MatchResult result (λ r. polled_answer (said answer) ≡ poll_said (Ok r))
         (λ e. (polled_answer (said answer) ≡ Err (failure e)) ⊎ (IsNoMemory (failure e) × (polled_answer (said answer) ≡ Err is_lost))) }
 {
     match answer {

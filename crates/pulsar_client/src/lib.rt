@@ -71,32 +71,36 @@ mod events;
 pub mod future;
 mod machine;
 pub mod options;
-pub mod outside;
 pub mod pulsar;
 mod steps;
 
 pub use crate::answers::Taken;
 pub use crate::future::SendFuture;
 pub use crate::options::ClientOptions;
-pub use crate::outside::Failed;
-pub use crate::outside::sink::{FailingSink, MemorySink, Sink};
-pub use crate::outside::source::{FailingSource, MemorySource, Source};
 pub use crate::pulsar::Pulsar;
+pub use pulsar_addresses::address::BrokerAddress;
+pub use pulsar_addresses::options::{ConnectionRetryOptions, OperationRetryOptions};
 pub use pulsar_calls::effect::{Answer, Effect, Handed, Settlement};
 pub use pulsar_calls::event::{Call, Event};
-pub use pulsar_consumer::{
-    Consumer, ConsumerBuilder, ConsumerConfig, DeadLetterPolicy, DeserializeMessage,
-    InitialPosition, MessageData, SubType, TopicConsumer,
-};
+pub use pulsar_consumer::consumer::Consumer;
+pub use pulsar_consumer::topic_consumer::TopicConsumer;
+pub use pulsar_consumer::{InitialPosition, SubType};
+pub use pulsar_exchange::raw_call::RawCall;
 pub use pulsar_frame::Payload;
-pub use pulsar_link::raw_call::RawCall;
+pub use pulsar_incoming::builder::ConsumerBuilder;
+pub use pulsar_incoming::config::{ConsumerConfig, DeadLetterPolicy};
+pub use pulsar_incoming::deserialize::DeserializeMessage;
+pub use pulsar_incoming::message::MessageData;
+pub use pulsar_messages::message_builder::MessageBuilder;
+pub use pulsar_messages::serialize::{SerializeMessage, message_from_bytes, message_from_text};
 pub use pulsar_messages::{
     Authentication, ConsumerOptions, Message, ProducerMessage, ProducerOptions, RoutingPolicy,
 };
-pub use pulsar_plans::{BrokerAddress, ConnectionRetryOptions, OperationRetryOptions};
-pub use pulsar_producer::{
-    CustomRoutingPolicy, MessageBuilder, PartitionedProducer, Producer, ProducerBuilder,
-    SerializeMessage, message_from_bytes, message_from_text,
+pub use pulsar_outgoing::producer_builder::ProducerBuilder;
+pub use pulsar_producer::producer::Producer;
+pub use pulsar_producer::routing::{CustomRoutingPolicy, PartitionedProducer};
+pub use pulsar_streams::{
+    Failed, FailingSink, FailingSource, MemorySink, MemorySource, Sink, Source,
 };
 pub use pulsar_wire::{
     AuthenticationError, Body, CommandConsumerStatsResponse, CommandGetLastMessageIdResponse,

@@ -1,17 +1,18 @@
 //! The client as whoever records it sees it.
 
 ghost use Rattle.std.specs.Prelude.{[], ◌≡◌, ◌↔◌, IsTrue, map};
-ghost use Rattle.pulsar_agenda.specs.Run.{Good, view};
-ghost use Rattle.pulsar_tables.specs.View.{Waits, has_ended};
+ghost use Rattle.pulsar_acts.specs.Run.{Good, view};
+ghost use Rattle.pulsar_acts.specs.View.{Waits};
+ghost use Rattle.pulsar_links.specs.Seats.{has_ended};
 ghost use Rattle.pulsar_client.specs.Client as meaning;
 ghost use Rattle.pulsar_client.specs.Client.{StandsFor, options_of};
 
 use crate::options::ClientOptions;
 use crate::pulsar::Pulsar;
+use pulsar_addresses::options::{ConnectionRetryOptions, OperationRetryOptions};
 use pulsar_calls::effect::Effect;
 use pulsar_calls::event::Event;
 use pulsar_machine::{FromUrl, Machine};
-use pulsar_plans::{ConnectionRetryOptions, OperationRetryOptions};
 use pulsar_producer::CustomRoutingPolicy;
 use pulsar_wire::error::NoMemory;
 use std::alloc::Global;

@@ -2,15 +2,18 @@
 
 ghost use Rattle.std.specs.Prelude.{◌≡◌, ◌∷◌, [], ℕ, List, OnErr, IfOk, IsErr, IsTrue, ◌↔◌, length, map, reverse};
 ghost use Rattle.pulsar_calls.specs.Content.{Called, asked, heard, shown};
-ghost use Rattle.pulsar_agenda.specs.Run.{Good, Step, ticket_for, tickets_in, view};
-ghost use Rattle.pulsar_tables.specs.View.{Options, Waits, has_ended};
+ghost use Rattle.pulsar_acts.specs.Run.{Good, ticket_for, tickets_in};
+ghost use Rattle.pulsar_calls.specs.Steps.{Step};
+ghost use Rattle.pulsar_acts.specs.View.{Waits};
+ghost use Rattle.pulsar_machine.specs.Options.{Options};
+ghost use Rattle.pulsar_links.specs.Seats.{has_ended};
 ghost use Rattle.pulsar_client.specs.History.{answered, step};
 ghost use Rattle.std.specs.Option.{option_copied, option_map};
-ghost use Rattle.pulsar_producer.specs.Wanted.{no_producer, producer_wanted};
-ghost use Rattle.pulsar_consumer.specs.Content.{consumer_wanted, no_consumer};
+ghost use Rattle.pulsar_outgoing.specs.Wanted.{no_producer, producer_wanted};
+ghost use Rattle.pulsar_incoming.specs.Content.{consumer_wanted, no_consumer};
 ghost use Rattle.pulsar_consumer_table.specs.Consumers.{built_at};
 ghost use Rattle.pulsar_client.specs.Client as meaning;
-ghost use Rattle.pulsar_client.specs.Client.{HasFailed, IsDead, StandsFor, options_of};
+ghost use Rattle.pulsar_client.specs.Client.{Always, HasFailed, InEachRun, IsDead, StandsFor, options_of};
 ghost use Rattle.pulsar_client.specs.Taken.{IsTaken, taken_with};
 
 use crate::answers::{Answers, Taken};
@@ -20,8 +23,10 @@ use crate::steps::step;
 use pulsar_acts::tables::Tables;
 use pulsar_calls::effect::Effect;
 use pulsar_calls::event::{Call, Event};
-use pulsar_consumer::{Consumer, ConsumerBuilder};
-use pulsar_producer::{Producer, ProducerBuilder};
+use pulsar_consumer::consumer::Consumer;
+use pulsar_incoming::builder::ConsumerBuilder;
+use pulsar_outgoing::producer_builder::ProducerBuilder;
+use pulsar_producer::producer::Producer;
 use pulsar_session::states::Stage;
 use pulsar_wire::error::NoMemory;
 use std::alloc::Global;
@@ -80,7 +85,7 @@ impl Pulsar {
     /// One event, with all that arises from it. After want of memory every later step answers want of memory. An event
     /// that names no live link, a state that the link is not in, or no consumer, changes nothing and has no effect.
     pub fn step(&mut self, event: Event) -> Result<Vec<Effect>, NoMemory>
-        ensures ok { IfOk result (λ out. (o : Options) (h : List Step) (taken : List ℕ) → StandsFor (λ p. routes p) o self.old h taken → StandsFor (λ p. routes p) o self.new (step event out.items ∷ h) taken) }
+        ensures ok { IfOk result (λ out. Always (λ p. routes p) self.old (λ o h taken. StandsFor (λ p. routes p) o self.new (step event out.items ∷ h) taken)) }
         ensures failed { OnErr result (HasFailed self.new) }
         ensures stays { HasFailed self.old → IsErr result × HasFailed self.new }
         ensures dead { IsDead (λ p. routes p) self.old (heard event) → (self.new ≡ self.old) × IfOk result (λ out. out.items ≡ []) }
@@ -91,8 +96,9 @@ impl Pulsar {
 
     /// A step with this call, and its ticket.
     pub fn submit(&mut self, call: Call) -> Result<(u64, Vec<Effect>), NoMemory>
-        ensures ok { IfOk result (λ r. (o : Options) (h : List Step) (taken : List ℕ) → StandsFor (λ p. routes p) o self.old h taken → StandsFor (λ p. routes p) o self.new (record { event = Called (asked call); effects = map shown r.1.items } ∷ h) taken) }
-        ensures ticket { IfOk result (λ r. (o : Options) (h : List Step) (taken : List ℕ) → StandsFor (λ p. routes p) o self.old h taken → r.0 ≡ ticket_for (asked call) (tickets_in h)) }
+        ensures ok { IfOk result (λ r. Always (λ p. routes p) self.old
+            (λ o h taken. StandsFor (λ p. routes p) o self.new (record { event = Called (asked call); effects = map shown r.1.items } ∷ h) taken)) }
+        ensures ticket { IfOk result (λ r. Always (λ p. routes p) self.old (λ o h taken. r.0 ≡ ticket_for (asked call) (tickets_in h))) }
         ensures failed { OnErr result (HasFailed self.new) }
         ensures stays { HasFailed self.old → IsErr result × HasFailed self.new }
         ensures options { options_of self.new ≡ options_of self.old }
@@ -105,15 +111,15 @@ impl Pulsar {
     /// The options that it was made with.
     pub fn options(&self) -> &ClientOptions
         ensures options { result.now ≡ options_of self.now }
-        ensures chosen { (o : Options) (h : List Step) (taken : List ℕ) → StandsFor (λ p. routes p) o self.now h taken → o ≡ meaning.options (λ p. routes p) result.now }
+        ensures chosen { Always (λ p. routes p) self.now (λ o h taken. o ≡ meaning.options (λ p. routes p) result.now) }
     {
         &self.options
     }
 
     /// What a call ended with. It is told once.
     pub fn take_answer(&mut self, ticket: u64) -> Taken
-        ensures taken { (o : Options) (h : List Step) (taken : List ℕ) → StandsFor (λ p. routes p) o self.old h taken → IsTaken result ticket h taken }
-        ensures stands { (o : Options) (h : List Step) (taken : List ℕ) → StandsFor (λ p. routes p) o self.old h taken → StandsFor (λ p. routes p) o self.new h (taken_with ticket h taken) }
+        ensures taken { Always (λ p. routes p) self.old (λ o h taken. IsTaken result ticket h taken) }
+        ensures stands { Always (λ p. routes p) self.old (λ o h taken. StandsFor (λ p. routes p) o self.new h (taken_with ticket h taken)) }
         ensures failed { HasFailed self.old → HasFailed self.new }
         ensures options { options_of self.new ≡ options_of self.old }
     {
@@ -129,7 +135,7 @@ impl Pulsar {
 
     /// The producer that the call of this ticket built.
     pub fn producer_at(&self, ticket: u64) -> Option<&Producer>
-        ensures { (o : Options) (h : List Step) (taken : List ℕ) → StandsFor (λ p. routes p) o self.now h taken → (g : Good o h) → option_copied result ≡ (view o g.log).producers.built ticket }
+        ensures { InEachRun (λ p. routes p) self.now (λ v. option_copied result ≡ v.producers.built ticket) }
     {
         self.tables.producers.built.get(&ticket)
     }
@@ -143,7 +149,7 @@ impl Pulsar {
 
     /// The consumer that the call of this ticket built.
     pub fn consumer_at(&self, ticket: u64) -> Option<&Consumer>
-        ensures { (o : Options) (h : List Step) (taken : List ℕ) → StandsFor (λ p. routes p) o self.now h taken → (g : Good o h) → option_map (λ c. c.inner) (option_copied result) ≡ built_at ((view o g.log).consumers.rows ticket) }
+        ensures { InEachRun (λ p. routes p) self.now (λ v. option_map (λ c. c.inner) (option_copied result) ≡ built_at (v.consumers.rows ticket)) }
     {
         self.tables.consumers.built(ticket)
     }
@@ -155,7 +161,7 @@ impl Pulsar {
 
     /// A link of this number has ended. It takes no memory.
     pub fn link_ended(&self, link: u64) -> bool
-        ensures { (o : Options) (h : List Step) (taken : List ℕ) → StandsFor (λ p. routes p) o self.now h taken → (g : Good o h) → result ≡ has_ended link (view o g.log).links }
+        ensures { InEachRun (λ p. routes p) self.now (λ v. result ≡ has_ended link v.links) }
     {
         self.tables.links.has_ended(link)
     }
@@ -163,7 +169,7 @@ impl Pulsar {
     /// A link of this number is open, and something waits for it: it is not ready yet, or a request of it waits for a reply, or
     /// a subscription on it is live. It takes no memory.
     pub fn link_waits(&self, link: u64) -> bool
-        ensures { (o : Options) (h : List Step) (taken : List ℕ) → StandsFor (λ p. routes p) o self.now h taken → (g : Good o h) → IsTrue result ↔ Waits link (view o g.log) }
+        ensures { InEachRun (λ p. routes p) self.now (λ v. IsTrue result ↔ Waits link v) }
     {
         match self.tables.links.stage(link) {
             Some(Stage::Handshaking) => true,
@@ -178,7 +184,8 @@ impl Pulsar {
 
     /// Each event in turn.
     fn take_all(&mut self, alloc: Global, events: &[Event]) -> Result<Vec<Vec<Effect>>, NoMemory>
-        ensures stands { IfOk result (λ all. (o : Options) (taken : List ℕ) → StandsFor (λ p. routes p) o self.old [] taken → StandsFor (λ p. routes p) o self.new (reverse (answered events.now all.items)) taken) }
+        ensures stands { IfOk result (λ all. (o : Options) (taken : List ℕ) → StandsFor (λ p. routes p) o self.old [] taken
+            → StandsFor (λ p. routes p) o self.new (reverse (answered events.now all.items)) taken) }
         ensures one_each { IfOk result (λ all. length all.items ≡ length events.now) }
     {
         let mut all = Vec::new(alloc);
@@ -189,7 +196,7 @@ impl Pulsar {
     }
 
     fn take(&mut self, event: Event) -> Result<Vec<Effect>, NoMemory>
-        ensures ok { IfOk result (λ out. (o : Options) (h : List Step) (taken : List ℕ) → StandsFor (λ p. routes p) o self.old h taken → StandsFor (λ p. routes p) o self.new (step event out.items ∷ h) taken) }
+        ensures ok { IfOk result (λ out. Always (λ p. routes p) self.old (λ o h taken. StandsFor (λ p. routes p) o self.new (step event out.items ∷ h) taken)) }
         ensures failed { OnErr result (HasFailed self.new) }
         ensures stays { HasFailed self.old → IsErr result × HasFailed self.new }
         ensures dead { IsDead (λ p. routes p) self.old (heard event) → (self.new ≡ self.old) × IfOk result (λ out. out.items ≡ []) }

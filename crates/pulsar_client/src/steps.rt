@@ -4,10 +4,11 @@ ghost use Rattle.std.specs.Prelude.{◌≡◌, ◌∷◌, List, map, IfOk, OnOk,
 ghost use Rattle.pulsar_run.specs.Order.{arranged};
 ghost use Rattle.pulsar_calls.specs.Content.{Heard, heard, shown};
 ghost use Rattle.pulsar_producer.specs.Routing.{Policy};
-ghost use Rattle.pulsar_tables.specs.Effects.{effect_below};
-ghost use Rattle.pulsar_tables.specs.View.{Options, is_live};
+ghost use Rattle.pulsar_calls.specs.Order.{effect_below};
+ghost use Rattle.pulsar_acts.specs.View.{is_live};
+ghost use Rattle.pulsar_machine.specs.Options.{Options};
 ghost use Rattle.pulsar_agenda.specs.Agenda.{agenda_of};
-ghost use Rattle.pulsar_agenda.specs.Run.{Step};
+ghost use Rattle.pulsar_calls.specs.Steps.{Step};
 ghost use Rattle.pulsar_acts.specs.Tables.{view_of};
 ghost use Rattle.pulsar_client.specs.History.{InStep, Stands, step};
 
@@ -27,7 +28,8 @@ pub fn step(
     policies: &[Box<dyn CustomRoutingPolicy>],
 ) -> Result<Vec<Effect>, NoMemory>
     requires { is_live (view_of tables.old) (heard event) ≡ true }
-    ensures stands { IfOk result (λ out. (o : Options) (h : List Step) → o.policies ≡ map (λ p. routes p) policies.now → Stands o tables.old h → Stands o tables.new (step event out.items ∷ h)) }
+    ensures stands { IfOk result (λ out. (o : Options) (h : List Step) → o.policies ≡ map (λ p. routes p) policies.now → Stands o tables.old h
+        → Stands o tables.new (step event out.items ∷ h)) }
     ensures settings { tables.new.settings ≡ tables.old.settings }
 {
     // most steps have one or two effects
@@ -41,7 +43,8 @@ pub fn step(
 
 /// Does all that is left to do, and all that arises from it.
 fn work(tables: &mut Tables, tasks: &mut Tasks, out: &mut Vec<Effect>) -> Result<(), NoMemory>
-    ensures stands { OnOk result ((o : Options) (e : Heard) (h : List Step) → InStep o tables.old (agenda_of tasks.old) e (map shown out.old.items) h → Stands o tables.new (record { event = e; effects = arranged effect_below (map shown out.new.items) } ∷ h)) }
+    ensures stands { OnOk result ((o : Options) (e : Heard) (h : List Step) → InStep o tables.old (agenda_of tasks.old) e (map shown out.old.items) h
+        → Stands o tables.new (record { event = e; effects = arranged effect_below (map shown out.new.items) } ∷ h)) }
     ensures settings { tables.new.settings ≡ tables.old.settings }
 {
     for _ in 0..u64::MAX {

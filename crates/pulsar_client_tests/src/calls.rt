@@ -2,7 +2,7 @@
 
 use crate::help::{LOCAL, events, options};
 use pulsar_client::{Effect, Pulsar};
-use pulsar_script::printing::effect::push_step;
+use pulsar_printing::effect::push_step;
 use pulsar_wire::NoMemory;
 use std::alloc::Global;
 use std::test::Fail;

@@ -1,9 +1,9 @@
 //! Clients, and lines of scripts as their events.
 
-use pulsar_client::{
-    ClientOptions, ConnectionRetryOptions, CustomRoutingPolicy, Event, OperationRetryOptions,
-};
-use pulsar_script::grammar::line::{Line, parse};
+use pulsar_addresses::options::{ConnectionRetryOptions, OperationRetryOptions};
+use pulsar_client::options::ClientOptions;
+use pulsar_client::{CustomRoutingPolicy, Event};
+use pulsar_grammar::line::{Line, parse};
 use pulsar_wire::NoMemory;
 use std::alloc::Global;
 

@@ -6,11 +6,11 @@ use Rattle.std.proofs.lemmas.List.Sums.{sum_by-append, sum_by-cons, sum_by_push}
 use Rattle.std.specs.List.{sum}
 use Rattle.std.specs.Option.{option_map}
 use Rattle.url.specs.Parts.{Parts}
-use Rattle.pulsar_link.specs.Items.{Item}
+use Rattle.pulsar_frame.specs.Items.{Item}
 use Rattle.pulsar_consumer.specs.Frames.{Frame, failed}
 use Rattle.pulsar_consumer.specs.Laws.{PermitsAreCounted, arrivals, asked_since, begun, weighed_before, weights}
 use Rattle.pulsar_consumer.specs.Topic.{Act, Lives, Hears, Loses, Fails, Ends, Polls, Asks, Engine, Live, Seen, Setup, asked, batch_size, begins, behind, ends, finish, finishes, finishes_by, first_due, first_in, first_of, gives, gives_from, goes_on, half, hears, is_ended, lives_on, no_items, places, seen, subscribed}
-use Rattle.pulsar_consumer.specs.declared.polled.Ending.TheVariants.{LinkLost, NotSubscribed}
+use Rattle.pulsar_incoming.specs.declared.polled.Ending.TheVariants.{LinkLost, NotSubscribed}
 use Rattle.pulsar_consumer.proofs.Begun.{frames_begin_in_turn}
 use Rattle.pulsar_consumer.proofs.Held.{next_of}
 use Rattle.pulsar_consumer.proofs.Histories.{counted_same, grants}

@@ -3,7 +3,7 @@ use Rattle.std.proofs.Common.{◌≡◌, ◌∙◌, sym, ap, refl, ℕ, suc, ◌
 use Rattle.std.proofs.lemmas.List.{append-nil, append_assoc, flat_map_more, length-append, length-drop, length-take, take-append-drop, take-append-le, take_all}
 use Rattle.std.specs.List.{flat_map}
 use Rattle.std.specs.Option.{option_map}
-use Rattle.pulsar_link.specs.Items.{Item}
+use Rattle.pulsar_frame.specs.Items.{Item}
 use Rattle.pulsar_consumer.specs.Frames.{Frame}
 use Rattle.pulsar_consumer.specs.Topic.{Engine, advances, begin, begins, finish, first_of, gives, gives_from, goes_on, hears, no_items, places}
 

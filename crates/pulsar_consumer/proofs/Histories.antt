@@ -5,12 +5,13 @@ use Rattle.std.proofs.lemmas.List.{append-nil, append_assoc, drop_at, length-app
 use Rattle.std.specs.Option.{is_some, option_map, option_or}
 use Rattle.url.specs.Parts.{Parts}
 use Rattle.pulsar_wire.specs.Sink.{capped}
-use Rattle.pulsar_link.specs.Items.{Item}
+use Rattle.pulsar_frame.specs.Items.{Item}
 use Rattle.pulsar_consumer.specs.Frames.{Frame, failed}
-use Rattle.pulsar_consumer.specs.Topic.{Act, Lives, Hears, Loses, Fails, Ends, Polls, Asks, Engine, Live, Seen, Setup, after, asked, batch_size, counts_first, ends, first_of, gives, half, hears, idle, is_ended, is_message, is_on, lives_on, loses, no_items, places, polled, polled_from, queue_of, seen, subscribed}
+use Rattle.pulsar_consumer.specs.Topic.{Act, Lives, Hears, Loses, Fails, Ends, Polls, Asks, Engine, Live, Seen, Setup, after, asked, batch_size, counts_first, ends, first_of, gives, half, hears, idle, is_ended, is_on, lives_on, loses, no_items, places, polled, polled_from, queue_of, seen, subscribed}
+use Rattle.pulsar_frame.specs.Items.{is_message}
 use Rattle.pulsar_consumer.specs.Laws.{EndIsFinal, PermitsInBounds, PollsGiveArrivals, PollsGiveTheNext, QueueIsKept, RawAsksForNothing, arrivals, arrives_by, given, given_by, item_in, items_of, left, queue}
-use Rattle.pulsar_consumer.specs.declared.polled.Ending.{Ending}
-use Rattle.pulsar_consumer.specs.declared.polled.Ending.TheVariants.{LinkLost, NotSubscribed}
+use Rattle.pulsar_incoming.specs.declared.polled.Ending.{Ending}
+use Rattle.pulsar_incoming.specs.declared.polled.Ending.TheVariants.{LinkLost, NotSubscribed}
 use Rattle.pulsar_consumer.proofs.Held.{IsSettled, first_held, gives_holds, gives_settled, hears_holds, hears_settled, held, of_frames, one_of, placed, some_in}
 use Rattle.pulsar_consumer.proofs.Permits.{Bounded, InBounds, Keeps, Quiet, Weightless, asked_quiet, gives_bounded, gives_dead, gives_keeps, gives_quiet, goes_quiet, hears_bounded, hears_keeps, subscribed_bounded}
 

@@ -1,6 +1,5 @@
 pub mod Begun
 pub mod Counted
-pub mod Drawing
 pub mod Going
 pub mod Having
 pub mod Held

@@ -1,8 +1,8 @@
 -- The command that makes a subscription.  (Pulsar binary protocol, Consumer; PulsarApi.proto, CommandSubscribe)
 use Rattle.std.specs.Prelude.{ℕ, List}
 use Rattle.pulsar_messages.specs.Words.{Subscribe}
-use Rattle.pulsar_plans.specs.declared.making.Command.{Command}
-use Rattle.pulsar_consumer.specs.Content.{ConfigValues}
+use Rattle.pulsar_searches.specs.declared.making.Command.{Command}
+use Rattle.pulsar_incoming.specs.Content.{ConfigValues}
 use Rattle.pulsar_consumer.specs.Topic.{Seen}
 
 -- it is answered by a success

@@ -2,9 +2,9 @@
 use Rattle.std.specs.Prelude.{ℕ, List, [], ◌∷◌, Option}
 use Rattle.pulsar_wire.specs.Command.{BodyValues}
 use Rattle.pulsar_frame.specs.Payload.{PayloadValues}
-use Rattle.pulsar_link.specs.Items.{Item, Faulty, items_with, weight_with}
-use Rattle.pulsar_link.specs.Messages.{Reply}
-use Rattle.pulsar_session.specs.Failures.{Failure}
+use Rattle.pulsar_frame.specs.Items.{Item, Faulty, items_with, weight_with}
+use Rattle.pulsar_exchange.specs.Messages.{Reply}
+use Rattle.pulsar_wire.specs.Failures.{Failure}
 
 -- a frame for a consumer: how many permits it costs, and its items
 pub record Frame : Type 0 where

@@ -1,9 +1,7 @@
-pub mod Content
 pub mod Frames
 pub mod Topic
 pub mod Consumer
 pub mod Commands
-pub mod Naming
 pub mod Plans
 pub mod KeptFrame
 pub mod KeptLive

@@ -1,20 +1,20 @@
 -- The plans by which a consumer is made, and subscribed again: machines over what they are told. A line is a rule of the protocol.
 -- (Pulsar binary protocol, Topic lookup; Partitioned topics discovery; Consumer)
 use Rattle.std.specs.Prelude.{ℕ, List, [], ◌∷◌, codes, Option, Some, None, Result, Ok, Err}
-use Rattle.pulsar_session.specs.Failures.{Failure, OfConnection, OfConsumer, ConsumerBuild, Custom}
-use Rattle.pulsar_plans.specs.Address.{Place, Named}
-use Rattle.pulsar_plans.specs.Plans.{and_then, fault_of, look_begins, look_told, made_gets, made_told, names_begins, names_told}
-use Rattle.pulsar_plans.specs.declared.closing.Step.{Step}
-use Rattle.pulsar_plans.specs.declared.closing.Step.TheVariants.{Stays, Gives}
-use Rattle.pulsar_plans.specs.declared.look.Looking.{Looking}
-use Rattle.pulsar_plans.specs.declared.making.Command.{Command}
-use Rattle.pulsar_plans.specs.declared.making.Making.{Making}
-use Rattle.pulsar_plans.specs.declared.making.Served.{Served}
-use Rattle.pulsar_plans.specs.declared.names.Naming.{Naming}
-use Rattle.pulsar_plans.specs.declared.turn.Outcome.{Outcome}
-use Rattle.pulsar_plans.specs.declared.turn.Turn.{Turn}
-use Rattle.pulsar_plans.specs.declared.turn.Turn.TheVariants as turn
-use Rattle.pulsar_plans.specs.declared.turn.Ways.{Ways}
+use Rattle.pulsar_wire.specs.Failures.{Failure, OfConnection, OfConsumer, ConsumerBuild, Custom}
+use Rattle.pulsar_addresses.specs.Address.{Place, Named}
+use Rattle.pulsar_searches.specs.Plans.{and_then, fault_of, look_begins, look_told, made_gets, made_told, names_begins, names_told}
+use Rattle.pulsar_searches.specs.declared.closing.Step.{Step}
+use Rattle.pulsar_searches.specs.declared.closing.Step.TheVariants.{Stays, Gives}
+use Rattle.pulsar_searches.specs.declared.look.Looking.{Looking}
+use Rattle.pulsar_searches.specs.declared.making.Command.{Command}
+use Rattle.pulsar_searches.specs.declared.making.Making.{Making}
+use Rattle.pulsar_searches.specs.declared.making.Served.{Served}
+use Rattle.pulsar_searches.specs.declared.names.Naming.{Naming}
+use Rattle.pulsar_searches.specs.declared.turn.Outcome.{Outcome}
+use Rattle.pulsar_searches.specs.declared.turn.Turn.{Turn}
+use Rattle.pulsar_searches.specs.declared.turn.Turn.TheVariants as turn
+use Rattle.pulsar_searches.specs.declared.turn.Ways.{Ways}
 use Rattle.pulsar_consumer.specs.Commands.{command}
 use Rattle.pulsar_consumer.specs.declared.building.Building.{Building}
 use Rattle.pulsar_consumer.specs.declared.building.Building.TheVariants as build
@@ -24,7 +24,7 @@ use Rattle.pulsar_consumer.specs.declared.building.Deed.TheVariants.{Does, Numbe
 use Rattle.pulsar_consumer.specs.declared.building.Found.{Found}
 use Rattle.pulsar_consumer.specs.declared.building.News.{News}
 use Rattle.pulsar_consumer.specs.declared.building.News.TheVariants.{Told, Numbered, InUse}
-use Rattle.pulsar_consumer.specs.declared.building.Order.{Order}
+use Rattle.pulsar_incoming.specs.declared.orders.Order.{Order}
 use Rattle.pulsar_consumer.specs.declared.resuming.Resuming.{Resuming}
 use Rattle.pulsar_consumer.specs.declared.resuming.Resuming.TheVariants as resume
 

@@ -4,15 +4,16 @@ use Rattle.std.specs.Prelude.{ℕ, ◌+◌, ◌-◌, ◌/◌, nat_lt, Bool, true
 use Rattle.std.specs.Option.{is_some, option_map, option_or}
 use Rattle.url.specs.Parts.{Parts}
 use Rattle.pulsar_wire.specs.Sink.{capped}
-use Rattle.pulsar_link.specs.Items.{Item, Given, Faulty}
-use Rattle.pulsar_link.specs.Request.{Subscribed}
-use Rattle.pulsar_session.specs.Failures.{Failure}
-use Rattle.pulsar_consumer.specs.Content.{ConfigValues}
+use Rattle.pulsar_frame.specs.Items.{Item}
+use Rattle.pulsar_exchange.specs.Request.{Subscribed}
+use Rattle.pulsar_wire.specs.Failures.{Failure}
+use Rattle.pulsar_incoming.specs.Content.{ConfigValues}
 use Rattle.pulsar_consumer.specs.Frames.{Frame, failed}
-use Rattle.pulsar_consumer.specs.declared.polled.Ending.{Ending}
-use Rattle.pulsar_consumer.specs.declared.polled.Ending.TheVariants.{LinkLost, NotSubscribed}
-use Rattle.pulsar_consumer.specs.declared.polled.Polled.{Polled}
-use Rattle.pulsar_consumer.specs.declared.polled.Polled.TheVariants as poll
+use Rattle.pulsar_incoming.specs.declared.polled.Ending.{Ending}
+use Rattle.pulsar_incoming.specs.declared.polled.Ending.TheVariants.{LinkLost, NotSubscribed}
+use Rattle.pulsar_incoming.specs.declared.polled.Polled.{Polled}
+use Rattle.pulsar_incoming.specs.declared.polled.Polled.TheVariants as poll
+use Rattle.pulsar_frame.specs.Items.{is_message}
 
 -- PERMITS
 
@@ -237,11 +238,6 @@ polled_from None None = poll.Empty
 
 abbrev pub polled : Seen → Polled
 polled v = polled_from (first_of v.engine.unread) v.ended
-
--- an item that is no error counts as a message that was received
-abbrev pub is_message : Item → Bool
-is_message (Given id batch_size metadata payload) = true
-is_message (Faulty f) = false
 
 abbrev pub counts : (clock : ℕ) → Item → Seen → Seen
 counts clock item v = if is_message item then record v { received = capped (v.received + 1); last = Some clock } else v

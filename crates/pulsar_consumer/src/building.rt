@@ -5,13 +5,14 @@ ghost use Rattle.std.specs.Option.{option_map};
 ghost use Rattle.pulsar_consumer.specs.Commands.{command};
 ghost use Rattle.pulsar_consumer.specs.Plans as meaning;
 
-use crate::settings::Settings;
-use pulsar_plans::closing::Step;
-use pulsar_plans::content::{Address, Names, Refusal, Text};
-use pulsar_plans::making::{self, Command, Making, Served};
-use pulsar_plans::names::{self, Naming};
-use pulsar_plans::question::{Question, Request};
-use pulsar_plans::turn::{Action, Outcome, Turn, Ways, error_of};
+use pulsar_addresses::content::{Address, Names, Refusal, Text};
+use pulsar_incoming::orders::Order;
+use pulsar_incoming::settings::Settings;
+use pulsar_searches::closing::Step;
+use pulsar_searches::making::{self, Command, Making, Served};
+use pulsar_searches::names::{self, Naming};
+use pulsar_searches::question::{Question, Request};
+use pulsar_searches::turn::{Action, Outcome, Turn, Ways, error_of};
 use pulsar_wire::encoding::copying::copy_optional;
 use pulsar_wire::error::{ConsumerError, Error, NoMemory};
 use std::alloc::Global;
@@ -19,15 +20,6 @@ use std::collections::VecDeque;
 
 /// The number of the body that answers the command which makes a subscription.
 const SUCCESS: u32 = 13;
-
-/// The consumer that is to be built.
-#[derive(Drop)]
-pub struct Order {
-    /// Its topic, as that was asked for.
-    pub topic: Text,
-    /// How it is to be made.
-    pub config: Settings,
-}
 
 /// A consumer whose subscription was made on this link.
 #[derive(Drop)]

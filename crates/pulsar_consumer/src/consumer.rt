@@ -4,10 +4,10 @@ ghost use Rattle.std.specs.Prelude.{◌≡◌, ◌∷◌, [], map, Some, IfOk, s
 ghost use Rattle.std.specs.Option.{option_map};
 ghost use Rattle.pulsar_messages.specs.Content.{consumer_options_values};
 ghost use Rattle.pulsar_consumer.specs.Consumer.{connections};
-ghost use Rattle.pulsar_consumer.specs.Content.{dead_letter_values};
+ghost use Rattle.pulsar_incoming.specs.Content.{dead_letter_values};
 
-use crate::config::DeadLetterPolicy;
 use crate::topic_consumer::TopicConsumer;
+use pulsar_incoming::config::DeadLetterPolicy;
 use pulsar_messages::ConsumerOptions;
 use pulsar_wire::commands::enumerations::SubType;
 use pulsar_wire::error::NoMemory;

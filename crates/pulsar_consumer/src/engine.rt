@@ -6,7 +6,7 @@ ghost use Rattle.pulsar_consumer.specs.Topic as meaning;
 
 use crate::frame::Frame;
 use crate::live::Live;
-use crate::unread::Unread;
+use pulsar_incoming::unread::Unread;
 use pulsar_wire::error::NoMemory;
 use std::alloc::Global;
 use std::collections::VecDeque;
@@ -42,7 +42,7 @@ impl Model for ConsumerEngine {
     ghost use Rattle.pulsar_consumer.specs.KeptEngine.{engine_of};
     ghost use Rattle.pulsar_consumer.specs.KeptLive.{HasPermits};
     ghost use Rattle.pulsar_consumer.specs.Topic.{Engine as Meant};
-    ghost use Rattle.pulsar_session.specs.FailureCode.{failure_code};
+    ghost use Rattle.pulsar_wire.specs.FailureCode.{failure_code};
     ghost use Rattle.std.specs.Coded.{codes};
 
     ghost Value = { Meant };

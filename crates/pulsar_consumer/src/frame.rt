@@ -5,18 +5,18 @@ ghost use Rattle.std.specs.Option.{option_map};
 ghost use Rattle.pulsar_wire.specs.Views.{body_values, message_id_values};
 ghost use Rattle.pulsar_frame.specs.Batch.{batch_items};
 ghost use Rattle.pulsar_frame.specs.Payload.{payload_values};
-ghost use Rattle.pulsar_link.specs.Held.{item_of};
-ghost use Rattle.pulsar_link.specs.Items as meant;
-ghost use Rattle.pulsar_link.specs.Items.{given, is_compressed, items_of, opened, weight_behind};
+ghost use Rattle.pulsar_frame.specs.Held.{item_of};
+ghost use Rattle.pulsar_frame.specs.Items as meant;
+ghost use Rattle.pulsar_frame.specs.Items.{given, is_compressed, items_of, opened, weight_behind};
 ghost use Rattle.pulsar_consumer.specs.Frames as meaning;
 ghost use Rattle.pulsar_consumer.specs.Frames.{frame_in};
 
-use crate::unread::Unread;
+use pulsar_addresses::content::Refusal;
+use pulsar_exchange::content::Received;
 use pulsar_frame::batch::iterator::BatchedMessageIterator;
+use pulsar_frame::items::Unread as Item;
 use pulsar_frame::payload::Payload;
-use pulsar_link::content::Received;
-use pulsar_link::items::Unread as Item;
-use pulsar_plans::content::Refusal;
+use pulsar_incoming::unread::Unread;
 use pulsar_wire::commands::base::Body;
 use pulsar_wire::commands::consumer::delivery::CommandMessage;
 use pulsar_wire::commands::ids::MessageIdData;
@@ -35,7 +35,7 @@ pub struct Frame {
 impl Model for Frame {
     ghost use Rattle.pulsar_consumer.specs.Frames.{Frame as Meant};
     ghost use Rattle.pulsar_consumer.specs.KeptFrame.{frame_of};
-    ghost use Rattle.pulsar_session.specs.FailureCode.{failure_code};
+    ghost use Rattle.pulsar_wire.specs.FailureCode.{failure_code};
     ghost use Rattle.std.specs.Coded.{codes};
     ghost use Rattle.std.specs.Prelude.{◌<◌, ◌^◌};
 

@@ -3,10 +3,10 @@
 ghost use Rattle.std.specs.Prelude.{◌≡◌, IfOk};
 ghost use Rattle.pulsar_consumer.specs.Plans as meaning;
 
-use pulsar_plans::content::{Address, Refusal};
-use pulsar_plans::look::{self, Looking};
-use pulsar_plans::making::{self, Command, Making, Served};
-use pulsar_plans::turn::{Outcome, Turn, Ways};
+use pulsar_addresses::content::{Address, Refusal};
+use pulsar_searches::look::{self, Looking};
+use pulsar_searches::making::{self, Command, Making, Served};
+use pulsar_searches::turn::{Outcome, Turn, Ways};
 use pulsar_wire::error::NoMemory;
 use std::alloc::Global;
 

@@ -3,20 +3,20 @@
 ghost use Rattle.std.specs.Prelude.{◌≡◌, None, IfOk, OnOk};
 ghost use Rattle.std.specs.Option.{option_map};
 ghost use Rattle.pulsar_consumer.specs.Commands.{command_of};
-ghost use Rattle.pulsar_consumer.specs.Content.{config_values};
+ghost use Rattle.pulsar_incoming.specs.Content.{config_values};
 ghost use Rattle.pulsar_consumer.specs.Topic.{Asks, Ends, Fails, Hears, Lives, Loses, Polls, after, first_due, fresh, is_due, is_ended, link_of, lives_on, of_raw, polled, queue_of, resubscribes};
 ghost use Rattle.pulsar_consumer.specs.Topic as meaning;
 
 use crate::building::command;
-use crate::config::ConsumerConfig;
 use crate::engine::ConsumerEngine;
 use crate::frame::Frame;
-use crate::polled::{Ending, Polled};
-use crate::settings::Settings;
-use crate::unread::Unread;
-use pulsar_link::content::Subscribed;
-use pulsar_plans::content::{Refusal, Text};
-use pulsar_plans::making::Command;
+use pulsar_addresses::content::{Refusal, Text};
+use pulsar_exchange::content::Subscribed;
+use pulsar_incoming::config::ConsumerConfig;
+use pulsar_incoming::polled::{Ending, Polled};
+use pulsar_incoming::settings::Settings;
+use pulsar_incoming::unread::Unread;
+use pulsar_searches::making::Command;
 use pulsar_wire::error::NoMemory;
 use std::alloc::Global;
 use std::marker::Model;
@@ -60,7 +60,7 @@ impl Drop for TopicConsumer {
 impl Model for TopicConsumer {
     ghost use Rattle.pulsar_consumer.specs.Kept.{seen_of};
     ghost use Rattle.pulsar_consumer.specs.Topic.{Seen};
-    ghost use Rattle.pulsar_session.specs.FailureCode.{failure_code};
+    ghost use Rattle.pulsar_wire.specs.FailureCode.{failure_code};
     ghost use Rattle.std.specs.Coded.{codes};
 
     ghost Value = { Seen };

@@ -4,8 +4,9 @@ use Rattle.std.proofs.lemmas.Bool.{eqb-true, false≢true}
 use Rattle.std.proofs.lemmas.List.Folds.{list_any-append}
 use Rattle.std.specs.BTreeMap.{BTreeMap}
 use Rattle.std.specs.BTreeSet.{BTreeSet}
-use Rattle.pulsar_consumer_table.specs.KeptConsumers.{Drops, is_listed, listed_at}
-use Rattle.pulsar_consumer_table.proofs.Places.{swapped}
+use Rattle.pulsar_consumer_table.specs.KeptConsumers.{Drops, listed_at}
+use Rattle.pulsar_calls.specs.Places.{is_listed}
+use Rattle.pulsar_calls.proofs.Places.{swapped}
 
 stays : (a g k : Bool) → k ≡ true → a ≡ (a && not (true && (g && not k)))
 stays a g false e = absurd (false≢true e)

@@ -12,9 +12,10 @@ use Rattle.pulsar_consumer.specs.Topic as topic
 use Rattle.pulsar_consumer.specs.Topic.{is_ended, link_of, lives_on}
 use Rattle.pulsar_consumer_table.specs.declared.row.ConsumerRow.{ConsumerRow}
 use Rattle.pulsar_consumer_table.specs.Consumers.{IsHeard, Member, at_row, has_built, has_number, lives_at, lives_with}
-use Rattle.pulsar_consumer_table.specs.KeptConsumers.{AreListed, is_known, is_listed, listed_at, member_in, rows_in, some_changed}
+use Rattle.pulsar_consumer_table.specs.KeptConsumers.{AreListed, is_known, listed_at, member_in, rows_in, some_changed}
+use Rattle.pulsar_calls.specs.Places.{is_listed}
 use Rattle.pulsar_consumer_table.proofs.Heard.{filtered, same_gives}
-use Rattle.pulsar_consumer_table.proofs.Places.{listed_is, swapped}
+use Rattle.pulsar_calls.proofs.Places.{listed_is, swapped}
 use Rattle.pulsar_consumer_table.proofs.Rows.{any_key, some_one}
 
 -- one that is there has a ticket

@@ -8,8 +8,8 @@ use Rattle.std.specs.List.Sorted.{IsStrictlySortedBy}
 use Rattle.std.specs.Option.{option_map, option_to_list}
 use Rattle.std.specs.Ordering.{nat_cmp}
 use Rattle.pulsar_requests.proofs.Awaiting.{is_at-eqb}
-use Rattle.pulsar_link.specs.Messages.{Reply, is_body}
-use Rattle.pulsar_session.specs.Failures.{Fault}
+use Rattle.pulsar_exchange.specs.Messages.{Reply, is_body}
+use Rattle.pulsar_wire.specs.Failures.{Fault}
 use Rattle.pulsar_calls.specs.declared.act.Arrival.{Arrival}
 use Rattle.pulsar_calls.specs.declared.act.Arrival.TheVariants.{Bad, Gives, Nothing, Passes, Readied, Settles}
 use Rattle.pulsar_calls.specs.declared.act.Notice.{Notice}
@@ -20,13 +20,13 @@ use Rattle.pulsar_calls.specs.declared.act.Word.TheVariants as word
 use Rattle.pulsar_consumer.specs.Frames.{frame_in}
 use Rattle.pulsar_consumer.specs.Topic as topic
 use Rattle.pulsar_consumer.specs.Topic.{Hears, Ends, Loses, is_due as is_flow_due, lives_on, resubscribes}
-use Rattle.pulsar_consumer.specs.declared.polled.Ending.TheVariants.{Closed, TopicEnded}
+use Rattle.pulsar_incoming.specs.declared.polled.Ending.TheVariants.{Closed, TopicEnded}
 use Rattle.pulsar_consumer_table.specs.Consumers.{Consumers, Member, all_changed, at_row, closes, ends_on, hears, hears_frame, lives_at, lives_with, member_after, word_if, word_of_close, word_of_frame}
-use Rattle.pulsar_consumer_table.specs.KeptConsumers.{is_listed}
+use Rattle.pulsar_calls.specs.Places.{is_listed}
 use Rattle.pulsar_calls.specs.Notices.{notice}
 use Rattle.pulsar_consumer_table.specs.Notices.{heard_at, word_to}
 use Rattle.pulsar_consumer_table.proofs.Numbered.{frame_number}
-use Rattle.pulsar_consumer_table.proofs.Places.{by_keys}
+use Rattle.pulsar_calls.proofs.Places.{by_keys}
 
 -- TWO LISTS OF TICKETS
 

@@ -1,4 +1,3 @@
-pub mod Places
 pub mod Rows
 pub mod Heard
 pub mod Numbered

@@ -5,8 +5,9 @@ use Rattle.std.specs.BTreeMap.{is_at}
 use Rattle.std.specs.BTreeSet.{BTreeSet, contains}
 use Rattle.std.specs.Ordering.{nat_cmp}
 use Rattle.pulsar_requests.proofs.Awaiting.{is_at-eqb}
-use Rattle.pulsar_consumer_table.specs.KeptConsumers.{is_listed, tickets_of}
-use Rattle.pulsar_consumer_table.proofs.Places.{listed_is, swapped}
+use Rattle.pulsar_consumer_table.specs.KeptConsumers.{tickets_of}
+use Rattle.pulsar_calls.specs.Places.{is_listed}
+use Rattle.pulsar_calls.proofs.Places.{listed_is, swapped}
 
 at_is : (k q : ℕ) → is_at (nat_cmp k) q ≡ (q == k)
 at_is k q = is_at-eqb k q ∙ swapped k q

@@ -7,20 +7,21 @@ use Rattle.std.specs.List.{list_any}
 use Rattle.std.specs.Option.{option_map}
 use Rattle.std.specs.Ordering.{nat_cmp}
 use Rattle.pulsar_requests.proofs.Awaiting.{is_at-eqb}
-use Rattle.pulsar_link.specs.Items.{Item}
-use Rattle.pulsar_link.specs.Messages.{Reply, is_body}
+use Rattle.pulsar_frame.specs.Items.{Item}
+use Rattle.pulsar_exchange.specs.Messages.{Reply, is_body}
 use Rattle.pulsar_consumer.specs.Frames.{Frame, frame_in}
 use Rattle.pulsar_consumer.specs.Topic as topic
 use Rattle.pulsar_consumer.specs.Topic.{Engine, Hears, Loses, Ends, Live, Seen, link_of, lives_on}
-use Rattle.pulsar_consumer.specs.declared.polled.Ending.{Ending}
-use Rattle.pulsar_consumer.specs.declared.polled.Ending.TheVariants.{LinkLost, TopicEnded}
+use Rattle.pulsar_incoming.specs.declared.polled.Ending.{Ending}
+use Rattle.pulsar_incoming.specs.declared.polled.Ending.TheVariants.{LinkLost, TopicEnded}
 use Rattle.pulsar_consumer_table.specs.declared.row.ConsumerRow.{ConsumerRow}
 use Rattle.pulsar_consumer_table.specs.Consumers.{Member, ends_on, hears_frame, link_at, lives_at, lives_with, member_after, stopped}
-use Rattle.pulsar_consumer_table.specs.KeptConsumers.{AreHeard, is_listed, listed_at, rows_in, tickets_of}
+use Rattle.pulsar_consumer_table.specs.KeptConsumers.{AreHeard, listed_at, rows_in, tickets_of}
+use Rattle.pulsar_calls.specs.Places.{is_listed}
 use Rattle.pulsar_consumer_table.proofs.Finding.{both, found_any, keyed, there_is}
 use Rattle.pulsar_consumer_table.proofs.Heard.{filtered}
 use Rattle.pulsar_consumer_table.proofs.Placed.{Holds}
-use Rattle.pulsar_consumer_table.proofs.Places.{swapped}
+use Rattle.pulsar_calls.proofs.Places.{swapped}
 
 -- AN ENGINE KEEPS ITS LINK as it goes on: what becomes of a subscription stays on its link
 

@@ -2,17 +2,17 @@
 use Rattle.std.proofs.Common.{◌≡◌, ◌∙◌, ℕ, ◌==◌, ◌&&◌, ◌||◌, not, sym, ap, refl, Bool, true, false, cond, List, [], ◌∷◌, Option, Some, None, inl, inr}
 use Rattle.std.proofs.lemmas.Bool.{cases_Bool, eq-eqb, eqb-true, false≢true, and_from, and_parts}
 use Rattle.std.specs.Option.{is_some, option_map, option_or}
-use Rattle.pulsar_link.specs.Items.{Item, Given, Faulty}
-use Rattle.pulsar_link.specs.Messages.{Reply, is_body}
+use Rattle.pulsar_frame.specs.Items.{Item, Given, Faulty}
+use Rattle.pulsar_exchange.specs.Messages.{Reply, is_body}
 use Rattle.pulsar_consumer.specs.Frames.{Frame, frame_in}
 use Rattle.pulsar_consumer.specs.Topic as topic
 use Rattle.pulsar_consumer.specs.Topic.{Act, Engine, Lives, Hears, Loses, Fails, Ends, Polls, Asks, Live, Seen, counts_first, first_of, is_ended, link_of, lives_on}
-use Rattle.pulsar_consumer.specs.declared.polled.Ending.{Ending}
-use Rattle.pulsar_consumer.specs.declared.polled.Ending.TheVariants.{Stopped, TopicEnded}
+use Rattle.pulsar_incoming.specs.declared.polled.Ending.{Ending}
+use Rattle.pulsar_incoming.specs.declared.polled.Ending.TheVariants.{Stopped, TopicEnded}
 use Rattle.pulsar_consumer_table.specs.Consumers.{Member, ends_on, hears_frame, lives_with, member_after, number_at, stopped}
 use Rattle.pulsar_consumer_table.specs.KeptConsumers.{is_known, known_at}
 use Rattle.pulsar_consumer_table.proofs.Placed.{Holds}
-use Rattle.pulsar_consumer_table.proofs.Places.{swapped}
+use Rattle.pulsar_calls.proofs.Places.{swapped}
 
 -- AN ENGINE WITHOUT A SUBSCRIPTION has none as it goes on
 

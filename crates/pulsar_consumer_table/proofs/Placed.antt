@@ -8,7 +8,8 @@ use Rattle.std.specs.Option.{option_map}
 use Rattle.std.specs.Ordering.{nat_cmp}
 use Rattle.pulsar_consumer.specs.Topic.{is_on}
 use Rattle.pulsar_consumer_table.specs.Consumers.{Member}
-use Rattle.pulsar_consumer_table.specs.KeptConsumers.{Drops, Moves, is_listed, listed_at, one_changed, some_changed, tickets_of}
+use Rattle.pulsar_consumer_table.specs.KeptConsumers.{Drops, Moves, listed_at, one_changed, some_changed, tickets_of}
+use Rattle.pulsar_calls.specs.Places.{is_listed}
 
 -- what is left of one that was listed where it passed the test, and passes it now or not
 left : (was is one here kept : Bool) → (one ≡ false → was ≡ is) → (is ≡ true → was ≡ true) → (one ≡ true → was ≡ true → here ≡ true) → (here ≡ true → kept ≡ is) →

@@ -17,7 +17,7 @@ use Rattle.pulsar_requests.proofs.Awaiting.{is_at-eqb}
 use Rattle.pulsar_consumer_table.specs.declared.row.ConsumerRow.{ConsumerRow}
 use Rattle.pulsar_consumer_table.specs.Consumers.{Member, at_row}
 use Rattle.pulsar_consumer_table.specs.KeptConsumers.{member_in, rows_in}
-use Rattle.pulsar_consumer_table.proofs.Places.{swapped}
+use Rattle.pulsar_calls.proofs.Places.{swapped}
 
 abbrev Found : BTreeMap ℕ ConsumerRow → List (ℕ × ConsumerRow) → Type 0
 Found rows es = AllByRecursion (λ e. get nat_cmp rows e.0 ≡ Some e.1) es

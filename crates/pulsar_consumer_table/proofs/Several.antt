@@ -10,7 +10,8 @@ use Rattle.std.specs.Option.{option_map, option_to_list}
 use Rattle.std.specs.Ordering.{nat_cmp}
 use Rattle.std.specs.declared.cmp.Ordering.TheVariants.{Less}
 use Rattle.pulsar_consumer_table.specs.Consumers.{Member, at_row}
-use Rattle.pulsar_consumer_table.specs.KeptConsumers.{is_listed, one_changed, some_changed}
+use Rattle.pulsar_consumer_table.specs.KeptConsumers.{one_changed, some_changed}
+use Rattle.pulsar_calls.specs.Places.{is_listed}
 
 all_at : (P : ℕ → Type 0) (ys rest : List ℕ) (x : ℕ) → AllByRecursion P (ys ++ x ∷ rest) → P x
 all_at P [] rest x h = h.0

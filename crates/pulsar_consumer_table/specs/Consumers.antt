@@ -7,20 +7,20 @@ use Rattle.std.specs.Map.{remove_entry}
 use Rattle.std.specs.Option.{option_map, option_to_list}
 use Rattle.std.specs.Ordering.{nat_cmp}
 use Rattle.url.specs.Parts.{Parts}
-use Rattle.pulsar_session.specs.Failures.{Failure, Fault}
-use Rattle.pulsar_session.specs.Link.{is_spent}
-use Rattle.pulsar_link.specs.Items.{Item, Given, Faulty}
-use Rattle.pulsar_link.specs.Messages.{Reply, is_body}
-use Rattle.pulsar_link.specs.Request.{named_consumer}
-use Rattle.pulsar_plans.specs.declared.making.Command.{Command}
+use Rattle.pulsar_wire.specs.Failures.{Failure, Fault}
+use Rattle.pulsar_messages.specs.Claims.{is_spent}
+use Rattle.pulsar_frame.specs.Items.{Item, Given, Faulty}
+use Rattle.pulsar_exchange.specs.Messages.{Reply, is_body}
+use Rattle.pulsar_exchange.specs.Request.{named_consumer}
+use Rattle.pulsar_searches.specs.declared.making.Command.{Command}
 use Rattle.pulsar_consumer.specs.Commands.{command_of}
 use Rattle.pulsar_consumer.specs.Frames.{frame_in}
 use Rattle.pulsar_consumer.specs.Topic as topic
 use Rattle.pulsar_consumer.specs.Topic.{Act, Seen, Setup, Live, Lives, Hears, Loses, Fails, Ends, first_due, fresh, is_due as is_flow_due, is_ended, link_of, lives_on, resubscribes}
-use Rattle.pulsar_consumer.specs.declared.polled.Ending.{Ending}
-use Rattle.pulsar_consumer.specs.declared.polled.Ending.TheVariants.{Closed, TopicEnded, Stopped}
-use Rattle.pulsar_consumer.specs.declared.polled.Polled.{Polled}
-use Rattle.pulsar_consumer.specs.declared.polled.Polled.TheVariants as poll
+use Rattle.pulsar_incoming.specs.declared.polled.Ending.{Ending}
+use Rattle.pulsar_incoming.specs.declared.polled.Ending.TheVariants.{Closed, TopicEnded, Stopped}
+use Rattle.pulsar_incoming.specs.declared.polled.Polled.{Polled}
+use Rattle.pulsar_incoming.specs.declared.polled.Polled.TheVariants as poll
 use Rattle.pulsar_calls.specs.declared.act.Arrival.{Arrival}
 use Rattle.pulsar_calls.specs.declared.act.Arrival.TheVariants.{Nothing, Readied, Settles, Gives, Passes, Bad}
 use Rattle.pulsar_calls.specs.declared.act.Refusal.{Refusal}

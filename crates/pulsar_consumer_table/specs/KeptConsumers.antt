@@ -2,13 +2,13 @@
 use Rattle.std.specs.Prelude.{◌≡◌, ◌==◌, ◌&&◌, ◌||◌, not, ℕ, Bool, false, if◌then◌else◌, List, [], Option, Some, None}
 use Rattle.std.specs.BTreeMap.{BTreeMap, get, keys}
 use Rattle.std.specs.BTreeSet.{BTreeSet}
-use Rattle.std.specs.List.{list_any}
 use Rattle.std.specs.Option.{is_some, option_map}
 use Rattle.std.specs.Ordering.{nat_cmp}
 use Rattle.pulsar_consumer_table.specs.declared.numbers.Numbers.{Numbers}
 use Rattle.pulsar_consumer_table.specs.declared.row.ConsumerRow.{ConsumerRow}
 use Rattle.pulsar_consumer.specs.Topic.{is_ended, is_on, link_of}
 use Rattle.pulsar_consumer_table.specs.Consumers.{Consumers, Member, lives_at}
+use Rattle.pulsar_calls.specs.Places.{is_listed}
 
 abbrev pub member_in : ConsumerRow → Member
 member_in r = record { seen = r.consumer.inner; seekers = r.seekers.items }
@@ -29,9 +29,6 @@ tickets_of (Some tickets) = tickets.keys
 
 abbrev pub listed_at : BTreeMap ℕ (BTreeSet ℕ) → (number : ℕ) → List ℕ
 listed_at listing n = tickets_of (get nat_cmp listing n)
-
-abbrev pub is_listed : ℕ → List ℕ → Bool
-is_listed t tickets = list_any (λ u. u == t) tickets
 
 -- one of them is changed, and some are
 abbrev pub one_changed : (ticket : ℕ) → (Member → Member) → (ℕ → Option Member) → ℕ → Option Member

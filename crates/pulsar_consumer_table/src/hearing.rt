@@ -7,20 +7,21 @@ ghost use Rattle.std.specs.List.Sorted.{IsStrictlySortedBy};
 ghost use Rattle.std.specs.Option.{option_map, option_to_list};
 ghost use Rattle.std.specs.Ordering.{nat_cmp};
 ghost use Rattle.pulsar_calls.specs.Content.{shown};
-ghost use Rattle.pulsar_consumer.specs.declared.polled.Ending.{Ending};
+ghost use Rattle.pulsar_incoming.specs.declared.polled.Ending.{Ending};
 ghost use Rattle.pulsar_consumer.specs.Topic.{Asks, Ends, Loses, Polls, is_on, resubscribes};
 ghost use Rattle.pulsar_consumer_table.specs.Consumers as meaning;
 ghost use Rattle.pulsar_consumer_table.specs.Consumers.{at_row, flow_at, hears_frame, lives_at, member_after, polled, sought, word_if, word_of_frame};
-ghost use Rattle.pulsar_consumer_table.specs.KeptConsumers.{Drops, Moves, is_known, is_listed, known_at, listed_at, member_in, one_changed, rows_in, some_changed};
+ghost use Rattle.pulsar_consumer_table.specs.KeptConsumers.{Drops, Moves, is_known, known_at, listed_at, member_in, one_changed, rows_in, some_changed};
+ghost use Rattle.pulsar_calls.specs.Places.{is_listed};
 ghost use Rattle.pulsar_calls.specs.Notices.{stopped_one};
 ghost use Rattle.pulsar_consumer_table.specs.Notices.{again, again_at, due_at, polled_due, revived_at, stopped_seekers, word_to};
 
 use crate::listing::{Listing, list, listed, unlist};
 use crate::row::{ConsumerRow, Sought};
+use pulsar_addresses::content::Refusal;
 use pulsar_calls::act::{Notice, Outcome, Who, Word};
 use pulsar_calls::effect::Effect;
-use pulsar_link::content::Received;
-use pulsar_plans::content::Refusal;
+use pulsar_exchange::content::Received;
 use pulsar_wire::error::NoMemory;
 use std::alloc::Global;
 use std::collections::BTreeMap;
@@ -113,7 +114,8 @@ pub fn relist(
 }
 
 fn unlist_from(listing: &mut Listing, place: Option<u64>, ticket: u64) -> Result<(), NoMemory>
-    ensures { OnOk result ((t n : ℕ) → is_listed t (listed_at listing.new n) ≡ (is_listed t (listed_at listing.old n) && not (is_on n place && (t == ticket)))) }
+    ensures { OnOk result ((t n : ℕ) → is_listed t (listed_at listing.new n)
+        ≡ (is_listed t (listed_at listing.old n) && not (is_on n place && (t == ticket)))) }
 {
     let Some(place) = place else {
         return Ok(());
@@ -248,7 +250,8 @@ fn hear_copies(
     notices: &mut Vec<Notice>,
 ) -> Result<(), NoMemory>
     requires { IsStrictlySortedBy nat_cmp tickets.now }
-    ensures notices { OnOk result (notices.new.items ≡ notices.old.items ++ flat_map (at_row (λ t m. word_to t m (word_of_frame link reply.now m)) (rows_in rows.old)) tickets.now) }
+    ensures notices { OnOk result (notices.new.items ≡ notices.old.items
+        ++ flat_map (at_row (λ t m. word_to t m (word_of_frame link reply.now m)) (rows_in rows.old)) tickets.now) }
     ensures rows { OnOk result ((t : ℕ) → rows_in rows.new t ≡ some_changed tickets.now (hears_frame link reply.now) (rows_in rows.old) t) }
     ensures tickets { OnOk result (keys rows.new ≡ keys rows.old) }
 {
@@ -267,7 +270,8 @@ fn hear_at(
     reply: Received,
     notices: &mut Vec<Notice>,
 ) -> Result<(), NoMemory>
-    ensures notices { OnOk result (notices.new.items ≡ notices.old.items ++ at_row (λ t m. word_to t m (word_of_frame link reply m)) (rows_in rows.old) ticket) }
+    ensures notices { OnOk result (notices.new.items ≡ notices.old.items ++ at_row (λ t m. word_to t m (word_of_frame link reply m))
+        (rows_in rows.old) ticket) }
     ensures rows { OnOk result ((t : ℕ) → rows_in rows.new t ≡ one_changed ticket (hears_frame link reply) (rows_in rows.old) t) }
     ensures tickets { OnOk result (keys rows.new ≡ keys rows.old) }
 {
@@ -287,7 +291,8 @@ pub fn lose_all(
     link: u64,
 ) -> Result<Vec<Notice>, NoMemory>
     requires { IsStrictlySortedBy nat_cmp tickets.now }
-    ensures notices { IfOk result (λ ns. ns.items ≡ flat_map (at_row (λ t m. word_to t m (word_if (resubscribes link m.seen) Word.Lost)) (rows_in rows.old)) tickets.now) }
+    ensures notices { IfOk result (λ ns. ns.items
+        ≡ flat_map (at_row (λ t m. word_to t m (word_if (resubscribes link m.seen) Word.Lost)) (rows_in rows.old)) tickets.now) }
     ensures rows { OnOk result ((t : ℕ) → rows_in rows.new t ≡ some_changed tickets.now (member_after (Loses link)) (rows_in rows.old) t) }
     ensures tickets { OnOk result (keys rows.new ≡ keys rows.old) }
 {
@@ -304,7 +309,8 @@ pub fn prune_each(
     rows: &BTreeMap<u64, ConsumerRow>,
     tickets: &[u64],
 ) -> Result<(), NoMemory>
-    ensures { OnOk result (Drops tickets.now (λ t. meaning.number_at (rows_in rows.now t)) (λ t. is_known (meaning.number_at (rows_in rows.now t)) (rows_in rows.now t)) listing.old listing.new) }
+    ensures { OnOk result (Drops tickets.now (λ t. meaning.number_at (rows_in rows.now t))
+        (λ t. is_known (meaning.number_at (rows_in rows.now t)) (rows_in rows.now t)) listing.old listing.new) }
 {
     for ticket in tickets {
         prune_one(listing, rows, *ticket)?;
@@ -317,7 +323,8 @@ fn prune_one(
     rows: &BTreeMap<u64, ConsumerRow>,
     ticket: u64,
 ) -> Result<(), NoMemory>
-    ensures { OnOk result (Drops (ticket ∷ []) (λ t. meaning.number_at (rows_in rows.now t)) (λ t. is_known (meaning.number_at (rows_in rows.now t)) (rows_in rows.now t)) listing.old listing.new) }
+    ensures { OnOk result (Drops (ticket ∷ []) (λ t. meaning.number_at (rows_in rows.now t))
+        (λ t. is_known (meaning.number_at (rows_in rows.now t)) (rows_in rows.now t)) listing.old listing.new) }
 {
     prune(listing, rows, number_at(rows, ticket), ticket)?;
     Ok(())
@@ -338,7 +345,8 @@ fn lose_at(
     link: u64,
     notices: &mut Vec<Notice>,
 ) -> Result<(), NoMemory>
-    ensures notices { OnOk result (notices.new.items ≡ notices.old.items ++ at_row (λ t m. word_to t m (word_if (resubscribes link m.seen) Word.Lost)) (rows_in rows.old) ticket) }
+    ensures notices { OnOk result (notices.new.items ≡ notices.old.items ++ at_row (λ t m. word_to t m (word_if (resubscribes link m.seen) Word.Lost))
+        (rows_in rows.old) ticket) }
     ensures rows { OnOk result ((t : ℕ) → rows_in rows.new t ≡ one_changed ticket (member_after (Loses link)) (rows_in rows.old) t) }
     ensures tickets { OnOk result (keys rows.new ≡ keys rows.old) }
 {
@@ -356,7 +364,8 @@ pub fn close_all(
     tickets: &[u64],
 ) -> Result<Vec<Notice>, NoMemory>
     requires { IsStrictlySortedBy nat_cmp tickets.now }
-    ensures notices { IfOk result (λ ns. ns.items ≡ flat_map (at_row (λ t m. word_to t m (word_if (not m.seen.is_raw) Word.Over)) (rows_in rows.old)) tickets.now) }
+    ensures notices { IfOk result (λ ns. ns.items
+        ≡ flat_map (at_row (λ t m. word_to t m (word_if (not m.seen.is_raw) Word.Over)) (rows_in rows.old)) tickets.now) }
     ensures rows { OnOk result ((t : ℕ) → rows_in rows.new t ≡ some_changed tickets.now (member_after (Ends Ending.Closed)) (rows_in rows.old) t) }
     ensures tickets { OnOk result (keys rows.new ≡ keys rows.old) }
 {
@@ -372,7 +381,8 @@ fn close_at(
     ticket: u64,
     notices: &mut Vec<Notice>,
 ) -> Result<(), NoMemory>
-    ensures notices { OnOk result (notices.new.items ≡ notices.old.items ++ at_row (λ t m. word_to t m (word_if (not m.seen.is_raw) Word.Over)) (rows_in rows.old) ticket) }
+    ensures notices { OnOk result (notices.new.items ≡ notices.old.items ++ at_row (λ t m. word_to t m (word_if (not m.seen.is_raw) Word.Over))
+        (rows_in rows.old) ticket) }
     ensures rows { OnOk result ((t : ℕ) → rows_in rows.new t ≡ one_changed ticket (member_after (Ends Ending.Closed)) (rows_in rows.old) t) }
     ensures tickets { OnOk result (keys rows.new ≡ keys rows.old) }
 {

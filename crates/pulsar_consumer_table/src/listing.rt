@@ -2,7 +2,8 @@
 
 ghost use Rattle.std.specs.Prelude.{◌≡◌, ◌==◌, ◌&&◌, ◌||◌, not, ℕ, OnOk};
 ghost use Rattle.std.specs.Option.{option_copied};
-ghost use Rattle.pulsar_consumer_table.specs.KeptConsumers.{is_listed, listed_at, tickets_of};
+ghost use Rattle.pulsar_consumer_table.specs.KeptConsumers.{listed_at, tickets_of};
+ghost use Rattle.pulsar_calls.specs.Places.{is_listed};
 
 use pulsar_wire::error::NoMemory;
 use std::alloc::Global;
@@ -33,7 +34,8 @@ pub fn list(listing: &mut Listing, alloc: Global, number: u64, ticket: u64) -> R
 
 /// A ticket is listed under a number no more.
 pub fn unlist(listing: &mut Listing, number: u64, ticket: u64) -> Result<(), NoMemory>
-    ensures { OnOk result ((n t : ℕ) → is_listed t (listed_at listing.new n) ≡ (is_listed t (listed_at listing.old n) && not ((n == number) && (t == ticket)))) }
+    ensures { OnOk result ((n t : ℕ) → is_listed t (listed_at listing.new n)
+        ≡ (is_listed t (listed_at listing.old n) && not ((n == number) && (t == ticket)))) }
 {
     let Some(mut tickets) = listing.remove(&number) else {
         return Ok(());

@@ -7,14 +7,17 @@ ghost use Rattle.pulsar_consumer.specs.Frames.{frame_in};
 ghost use Rattle.pulsar_consumer_table.specs.Consumers.{ends_on, failed, flow_at, hears_frame, member_after, polled, polled_item, polled_so, revived, seeks, sought, stopped, subscribed_on, unsought, who_of, word_if, word_of_frame};
 ghost use Rattle.pulsar_consumer_table.specs.KeptConsumers.{is_known, member_in};
 
+use pulsar_addresses::content::Refusal;
 use pulsar_calls::act::{Who, Word};
 use pulsar_calls::effect::{Effect, Handed};
+use pulsar_consumer::consumer::Consumer;
 use pulsar_consumer::frame::Frame;
-use pulsar_consumer::unread::Unread;
-use pulsar_consumer::{Consumer, Ending, MessageData, Polled, TopicConsumer};
-use pulsar_link::content::Received;
-use pulsar_link::items::Unread as Item;
-use pulsar_plans::content::Refusal;
+use pulsar_consumer::topic_consumer::TopicConsumer;
+use pulsar_exchange::content::Received;
+use pulsar_frame::items::Unread as Item;
+use pulsar_incoming::message::MessageData;
+use pulsar_incoming::polled::{Ending, Polled};
+use pulsar_incoming::unread::Unread;
 use pulsar_wire::bodies;
 use pulsar_wire::error::NoMemory;
 use std::alloc::Global;
@@ -116,7 +119,8 @@ impl ConsumerRow {
         link: u64,
         reply: Received,
     ) -> Result<Option<Word>, NoMemory>
-        ensures word { IfOk result (λ w. w ≡ word_if (lives_on link (member_in self.old).seen && is_flow_due (member_after (Hears link (frame_in reply)) (member_in self.old)).seen) Word.Due) }
+        ensures word { IfOk result (λ w. w ≡ word_if
+            (lives_on link (member_in self.old).seen && is_flow_due (member_after (Hears link (frame_in reply)) (member_in self.old)).seen) Word.Due) }
         ensures after { OnOk result (member_in self.new ≡ member_after (Hears link (frame_in reply)) (member_in self.old)) }
     {
         let lives = self.consumer.inner.lives_on(link);

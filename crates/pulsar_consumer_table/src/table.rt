@@ -22,12 +22,12 @@ use crate::hearing::{
 use crate::listing::{Listing, listed};
 use crate::numbers::{Numbering, Numbers};
 use crate::row::{ConsumerRow, Sought};
+use pulsar_addresses::content::Refusal as Failure;
 use pulsar_calls::act::{Arrival, Notice, Refusal, Who};
 use pulsar_calls::effect::Effect;
 use pulsar_consumer::Consumer;
-use pulsar_link::content::Received;
-use pulsar_plans::content::Refusal as Failure;
-use pulsar_plans::making::Command;
+use pulsar_exchange::content::Received;
+use pulsar_searches::making::Command;
 use pulsar_wire::error::NoMemory;
 use std::alloc::Global;
 use std::collections::{BTreeMap, BTreeSet};
@@ -121,9 +121,12 @@ impl Consumers {
         ticket: u64,
         clock: u64,
     ) -> Result<Option<(Effect, Option<Notice>)>, NoMemory>
-        ensures effect { IfOk result (λ r. option_map (λ x. shown x.0) r ≡ option_map (polled ticket) ((consumers_in self.old.rows self.old.numbers).rows ticket)) }
-        ensures due { IfOk result (λ r. flat_map (λ x. option_to_list x.1) (option_to_list r) ≡ polled_due clock ticket ((consumers_in self.old.rows self.old.numbers).rows ticket)) }
-        ensures after { OnOk result (consumers_in self.new.rows self.new.numbers ≡ changed ticket (member_after (Polls clock)) (consumers_in self.old.rows self.old.numbers)) }
+        ensures effect { IfOk result (λ r. option_map (λ x. shown x.0) r
+            ≡ option_map (polled ticket) ((consumers_in self.old.rows self.old.numbers).rows ticket)) }
+        ensures due { IfOk result (λ r. flat_map (λ x. option_to_list x.1) (option_to_list r)
+            ≡ polled_due clock ticket ((consumers_in self.old.rows self.old.numbers).rows ticket)) }
+        ensures after { OnOk result (consumers_in self.new.rows self.new.numbers
+            ≡ changed ticket (member_after (Polls clock)) (consumers_in self.old.rows self.old.numbers)) }
     {
         if self.failed {
             return Err(NoMemory);
@@ -164,7 +167,8 @@ impl Consumers {
     /// Consumers hear what comes to a link: what they are told.
     pub fn hear(&mut self, link: u64, arrival: Arrival) -> Result<Vec<Notice>, NoMemory>
         ensures notices { IfOk result (λ ns. ns.items ≡ over_rows (heard_at link arrival) (consumers_in self.old.rows self.old.numbers)) }
-        ensures after { OnOk result (consumers_in self.new.rows self.new.numbers ≡ all_changed (hears link arrival) (consumers_in self.old.rows self.old.numbers)) }
+        ensures after { OnOk result (consumers_in self.new.rows self.new.numbers
+            ≡ all_changed (hears link arrival) (consumers_in self.old.rows self.old.numbers)) }
     {
         match arrival {
             Arrival::Gives { consumer, reply } => self.hear_frame(link, consumer, reply),
@@ -184,7 +188,8 @@ impl Consumers {
         reply: Received,
     ) -> Result<Vec<Notice>, NoMemory>
         ensures notices { IfOk result (λ ns. ns.items ≡ over_rows (heard_at link (Arrival.Gives number reply)) (consumers_in self.old.rows self.old.numbers)) }
-        ensures after { OnOk result (consumers_in self.new.rows self.new.numbers ≡ all_changed (hears link (Arrival.Gives number reply)) (consumers_in self.old.rows self.old.numbers)) }
+        ensures after { OnOk result (consumers_in self.new.rows self.new.numbers
+            ≡ all_changed (hears link (Arrival.Gives number reply)) (consumers_in self.old.rows self.old.numbers)) }
     {
         if self.failed {
             return Err(NoMemory);
@@ -200,8 +205,10 @@ impl Consumers {
 
     /// A link ends: what those are told whose subscriptions were live on it.
     pub fn end(&mut self, link: u64) -> Result<Vec<Notice>, NoMemory>
-        ensures notices { IfOk result (λ ns. ns.items ≡ over_rows (λ t m. word_to t m (meaning.word_if (resubscribes link m.seen) Word.Lost)) (consumers_in self.old.rows self.old.numbers)) }
-        ensures after { OnOk result (consumers_in self.new.rows self.new.numbers ≡ all_changed (member_after (Loses link)) (consumers_in self.old.rows self.old.numbers)) }
+        ensures notices { IfOk result (λ ns. ns.items ≡ over_rows (λ t m. word_to t m (meaning.word_if (resubscribes link m.seen) Word.Lost))
+            (consumers_in self.old.rows self.old.numbers)) }
+        ensures after { OnOk result (consumers_in self.new.rows self.new.numbers
+            ≡ all_changed (member_after (Loses link)) (consumers_in self.old.rows self.old.numbers)) }
     {
         if self.failed {
             return Err(NoMemory);
@@ -222,8 +229,10 @@ impl Consumers {
         number: Option<u64>,
         is_asked: bool,
     ) -> Result<Vec<Notice>, NoMemory>
-        ensures notices { IfOk result (λ ns. ns.items ≡ over_rows (λ t m. word_to t m (meaning.word_of_close number link is_asked m)) (consumers_in self.old.rows self.old.numbers)) }
-        ensures after { OnOk result (consumers_in self.new.rows self.new.numbers ≡ all_changed (closes number link is_asked) (consumers_in self.old.rows self.old.numbers)) }
+        ensures notices { IfOk result (λ ns. ns.items ≡ over_rows (λ t m. word_to t m (meaning.word_of_close number link is_asked m))
+            (consumers_in self.old.rows self.old.numbers)) }
+        ensures after { OnOk result (consumers_in self.new.rows self.new.numbers
+            ≡ all_changed (closes number link is_asked) (consumers_in self.old.rows self.old.numbers)) }
     {
         match number {
             Some(number) => self.close_if(link, number, is_asked),
@@ -232,8 +241,10 @@ impl Consumers {
     }
 
     fn close_if(&mut self, link: u64, number: u64, is_asked: bool) -> Result<Vec<Notice>, NoMemory>
-        ensures notices { IfOk result (λ ns. ns.items ≡ over_rows (λ t m. word_to t m (meaning.word_of_close (Some number) link is_asked m)) (consumers_in self.old.rows self.old.numbers)) }
-        ensures after { OnOk result (consumers_in self.new.rows self.new.numbers ≡ all_changed (closes (Some number) link is_asked) (consumers_in self.old.rows self.old.numbers)) }
+        ensures notices { IfOk result (λ ns. ns.items ≡ over_rows (λ t m. word_to t m (meaning.word_of_close (Some number) link is_asked m))
+            (consumers_in self.old.rows self.old.numbers)) }
+        ensures after { OnOk result (consumers_in self.new.rows self.new.numbers
+            ≡ all_changed (closes (Some number) link is_asked) (consumers_in self.old.rows self.old.numbers)) }
     {
         if !is_asked {
             return Ok(Vec::new(self.alloc));
@@ -242,8 +253,10 @@ impl Consumers {
     }
 
     fn close(&mut self, link: u64, number: u64) -> Result<Vec<Notice>, NoMemory>
-        ensures notices { IfOk result (λ ns. ns.items ≡ over_rows (λ t m. word_to t m (meaning.word_of_close (Some number) link true m)) (consumers_in self.old.rows self.old.numbers)) }
-        ensures after { OnOk result (consumers_in self.new.rows self.new.numbers ≡ all_changed (closes (Some number) link true) (consumers_in self.old.rows self.old.numbers)) }
+        ensures notices { IfOk result (λ ns. ns.items ≡ over_rows (λ t m. word_to t m (meaning.word_of_close (Some number) link true m))
+            (consumers_in self.old.rows self.old.numbers)) }
+        ensures after { OnOk result (consumers_in self.new.rows self.new.numbers
+            ≡ all_changed (closes (Some number) link true) (consumers_in self.old.rows self.old.numbers)) }
     {
         if self.failed {
             return Err(NoMemory);
@@ -260,7 +273,8 @@ impl Consumers {
     /// What one is told who wants the link of a consumer. One that is told nothing waits.
     pub fn seek(&mut self, ticket: u64, who: Who) -> Result<Sought, NoMemory>
         ensures sought { IfOk result (λ s. s ≡ sought ((consumers_in self.old.rows self.old.numbers).rows ticket)) }
-        ensures after { OnOk result (consumers_in self.new.rows self.new.numbers ≡ changed ticket (meaning.seeks who) (consumers_in self.old.rows self.old.numbers)) }
+        ensures after { OnOk result (consumers_in self.new.rows self.new.numbers
+            ≡ changed ticket (meaning.seeks who) (consumers_in self.old.rows self.old.numbers)) }
     {
         if self.failed {
             return Err(NoMemory);
@@ -274,7 +288,8 @@ impl Consumers {
     /// The flow of a consumer that is to be asked for next, with its link. It counts as asked for.
     pub fn take_flow(&mut self, ticket: u64) -> Result<Option<(u64, u32)>, NoMemory>
         ensures flow { IfOk result (λ f. f ≡ meaning.flow_at ((consumers_in self.old.rows self.old.numbers).rows ticket)) }
-        ensures after { OnOk result (consumers_in self.new.rows self.new.numbers ≡ changed ticket (member_after Asks) (consumers_in self.old.rows self.old.numbers)) }
+        ensures after { OnOk result (consumers_in self.new.rows self.new.numbers
+            ≡ changed ticket (member_after Asks) (consumers_in self.old.rows self.old.numbers)) }
     {
         if self.failed {
             return Err(NoMemory);
@@ -313,7 +328,8 @@ impl Consumers {
         url: Option<Url>,
     ) -> Result<Vec<Notice>, NoMemory>
         ensures notices { IfOk result (λ ns. ns.items ≡ revived_at link url ticket ((consumers_in self.old.rows self.old.numbers).rows ticket)) }
-        ensures after { OnOk result (consumers_in self.new.rows self.new.numbers ≡ changed ticket (meaning.revived link url) (consumers_in self.old.rows self.old.numbers)) }
+        ensures after { OnOk result (consumers_in self.new.rows self.new.numbers
+            ≡ changed ticket (meaning.revived link url) (consumers_in self.old.rows self.old.numbers)) }
     {
         if self.failed {
             return Err(NoMemory);
@@ -330,7 +346,8 @@ impl Consumers {
     /// A consumer could not be subscribed again: who is told of it.
     pub fn fail(&mut self, ticket: u64, failure: Failure) -> Result<Vec<Notice>, NoMemory>
         ensures notices { IfOk result (λ ns. ns.items ≡ again_at ((consumers_in self.old.rows self.old.numbers).rows ticket)) }
-        ensures after { OnOk result (consumers_in self.new.rows self.new.numbers ≡ changed ticket (meaning.failed failure) (consumers_in self.old.rows self.old.numbers)) }
+        ensures after { OnOk result (consumers_in self.new.rows self.new.numbers
+            ≡ changed ticket (meaning.failed failure) (consumers_in self.old.rows self.old.numbers)) }
     {
         if self.failed {
             return Err(NoMemory);
@@ -381,7 +398,8 @@ impl Consumers {
     fn take_number(&mut self, ticket: u64, number: u64) -> Result<Numbering, NoMemory>
         requires { self.old.failed ≡ false }
         ensures numbering { IfOk result (λ n. n ≡ numbering (consumers_in self.old.rows self.old.numbers) (Some number)) }
-        ensures after { OnOk result (consumers_in self.new.rows self.new.numbers ≡ numbered ticket (Some number) (consumers_in self.old.rows self.old.numbers)) }
+        ensures after { OnOk result (consumers_in self.new.rows self.new.numbers
+            ≡ numbered ticket (Some number) (consumers_in self.old.rows self.old.numbers)) }
     {
         if self.is_in_use(number) {
             return Ok(Numbering::InUse);

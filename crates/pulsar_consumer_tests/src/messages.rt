@@ -1,7 +1,8 @@
 //! Messages as a consumer hands them out, and what their payloads are read as.
 
-use pulsar_consumer::{DeserializeMessage, Message, MessageData};
 use pulsar_frame::payload::Payload;
+use pulsar_incoming::deserialize::DeserializeMessage;
+use pulsar_incoming::message::{Message, MessageData};
 use pulsar_wire::commands::ids::MessageIdData;
 use pulsar_wire::commands::metadata::MessageMetadata;
 use std::alloc::Global;

@@ -1,13 +1,16 @@
 //! Consumers of one topic, frame by frame and poll by poll.
 
+use pulsar_addresses::content::Text;
 use pulsar_consumer::frame::Frame;
-use pulsar_consumer::settings::Settings;
-use pulsar_consumer::{ConsumerConfig, ConsumerOptions, Ending, Polled, SubType, TopicConsumer};
+use pulsar_consumer::topic_consumer::TopicConsumer;
+use pulsar_consumer::{ConsumerOptions, SubType};
+use pulsar_exchange::content::{Received, Subscribed};
+use pulsar_exchange::raw_call::Subscription;
 use pulsar_frame::message::Message;
 use pulsar_frame::payload::Payload;
-use pulsar_link::content::{Received, Subscribed};
-use pulsar_link::raw_call::Subscription;
-use pulsar_plans::content::Text;
+use pulsar_incoming::config::ConsumerConfig;
+use pulsar_incoming::polled::{Ending, Polled};
+use pulsar_incoming::settings::Settings;
 use pulsar_wire::commands::base::{BaseCommand, Body};
 use pulsar_wire::commands::consumer::delivery::{CommandMessage, CommandReachedEndOfTopic};
 use pulsar_wire::commands::metadata::MessageMetadata;

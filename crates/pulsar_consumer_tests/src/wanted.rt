@@ -1,12 +1,13 @@
 //! What is wanted of a consumer, and how it was made.
 
-use pulsar_consumer::naming::{Ordered, order_of};
-use pulsar_consumer::settings::Settings;
-use pulsar_consumer::{
-    Consumer, ConsumerBuilder, ConsumerConfig, ConsumerOptions, DeadLetterPolicy, SubType,
-    TopicConsumer,
-};
-use pulsar_plans::content::Text;
+use pulsar_addresses::content::Text;
+use pulsar_consumer::consumer::Consumer;
+use pulsar_consumer::topic_consumer::TopicConsumer;
+use pulsar_consumer::{ConsumerOptions, SubType};
+use pulsar_incoming::builder::ConsumerBuilder;
+use pulsar_incoming::config::{ConsumerConfig, DeadLetterPolicy};
+use pulsar_incoming::naming::{Ordered, order_of};
+use pulsar_incoming::settings::Settings;
 use std::alloc::Global;
 use std::test::Fail;
 use url::Url;

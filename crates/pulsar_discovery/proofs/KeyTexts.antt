@@ -2,7 +2,7 @@
 use Rattle.std.proofs.Common.{◌≡◌, ◌≢◌, ◌∙◌, ap, refl, ℕ, ◌+◌, ◌<◌, ◌^◌, ◌%◌, Bool, true, false, List, [], ◌∷◌, ◌++◌, length, codes, decimal, arith}
 use Rattle.std.proofs.lemmas.Fmt.{decimal_by_steps, decimal_injective}
 use Rattle.url.specs.Parts.{serialize}
-use Rattle.pulsar_plans.specs.Address.{Place, address_key, key_of}
+use Rattle.pulsar_addresses.specs.Address.{Place, address_key, key_of}
 
 abbrev NoBlank : List ℕ → Type 0
 NoBlank [] = Unit {0}

@@ -12,7 +12,7 @@ use Rattle.pulsar_discovery.specs.declared.addresses.Seat.{Seat}
 use Rattle.pulsar_discovery.specs.declared.manager.Seen.{Seen}
 use Rattle.pulsar_discovery.specs.declared.manager.Seen.TheVariants as seen
 use Rattle.pulsar_discovery.specs.declared.manager.Terms.{Terms}
-use Rattle.pulsar_plans.specs.Address.{Place}
+use Rattle.pulsar_addresses.specs.Address.{Place}
 
 -- the seat and the connection that are left behind a change
 abbrev seat_left : Place → Option Phase → Option Seat

@@ -1,12 +1,12 @@
 -- What is put where something was put before.
 use Rattle.std.proofs.Common.{◌≡◌, ◌∙◌, ap, refl, ℕ, ◌+◌, Bool, true, false, Option, Some, None, ◌==◌, if◌then◌else◌, bytes_eq}
 use Rattle.pulsar_session.specs.Link as session
-use Rattle.pulsar_plans.specs.Address.{Place, address_key}
+use Rattle.pulsar_addresses.specs.Address.{Place, address_key}
 use Rattle.pulsar_discovery.specs.declared.addresses.Phase.{Phase}
 use Rattle.pulsar_discovery.specs.declared.addresses.Phase.TheVariants.{Runs}
 use Rattle.pulsar_discovery.specs.Series.{IsSeries, Series, reseated, seat_of, without}
 use Rattle.pulsar_discovery.specs.Manager.{GotValues, GotReady, GotStarted, GotWaiting, GotRefused, Is, Known, OnValues, setup, starts}
-use Rattle.pulsar_session.specs.Failures.{Io, SlowDown, Disconnected, PulsarError, Unexpected, Decoding, Encoding, SocketAddr, UnexpectedResponse, Authentication, NotFound, Canceled, Shutdown, Exhausted, NoMemory}
+use Rattle.pulsar_wire.specs.Failures.{Io, SlowDown, Disconnected, PulsarError, Unexpected, Decoding, Encoding, SocketAddr, UnexpectedResponse, Authentication, NotFound, Canceled, Shutdown, Exhausted, NoMemory}
 
 put_twice : {A : Type 0} (t : Bool) (x b f : Option A) → b ≡ (if t then None else f) → (if t then x else b) ≡ (if t then x else f)
 put_twice true x b f e = refl

@@ -4,12 +4,12 @@ use Rattle.std.proofs.lemmas.Bool.{cases_Bool}
 use Rattle.std.proofs.lemmas.Slice.Eq.{bytes_eq-Decides}
 use Rattle.std.specs.Option.{option_map}
 use Rattle.pulsar_session.specs.Link as session
-use Rattle.pulsar_session.specs.Failures.{NotFound}
+use Rattle.pulsar_wire.specs.Failures.{NotFound}
 use Rattle.pulsar_session.specs.declared.states.Stage.{Stage}
 use Rattle.pulsar_session.specs.declared.states.Stage.TheVariants as stages
 use Rattle.pulsar_session.specs.declared.states.Stage.TheVariants.{Dialing, Handshaking, Over}
-use Rattle.pulsar_plans.specs.Address.{Place, address_key, is_reachable}
-use Rattle.pulsar_plans.specs.Backoff.{one_more}
+use Rattle.pulsar_addresses.specs.Address.{Place, address_key, is_reachable}
+use Rattle.pulsar_addresses.specs.Backoff.{one_more}
 use Rattle.pulsar_discovery.specs.declared.addresses.Phase.{Phase}
 use Rattle.pulsar_discovery.specs.declared.addresses.Phase.TheVariants.{Runs, Pauses, Serves}
 use Rattle.pulsar_discovery.specs.declared.addresses.Seat.{Seat}

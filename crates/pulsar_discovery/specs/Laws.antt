@@ -1,9 +1,9 @@
 -- What holds of machines, of the manager, and of its whole histories.
 use Rattle.std.specs.Prelude.{◌≡◌, ◌↔◌, ℕ, ◌<◌, ◌^◌, List, ◌∷◌, length, ◌≤◌, true, false, IsTrue, [], Option, Some, None, if◌then◌else◌, ◌⊎◌}
 use Rattle.url.specs.Parts.{serialize}
-use Rattle.pulsar_plans.specs.Address.{IsSame, Place, address_key, is_reachable}
-use Rattle.pulsar_plans.specs.declared.plan.Procedure.{Procedure}
-use Rattle.pulsar_plans.specs.declared.turn.Ways.{Ways}
+use Rattle.pulsar_addresses.specs.Address.{IsSame, Place, address_key, is_reachable}
+use Rattle.pulsar_searches.specs.declared.plan.Procedure.{Procedure}
+use Rattle.pulsar_searches.specs.declared.turn.Ways.{Ways}
 use Rattle.pulsar_discovery.specs.Machine.{Refuse, lost, next_after, stage_after}
 use Rattle.pulsar_discovery.specs.Manager.{Known, after_look, looks, GotReady, GotStarted, GotWaiting, Is, fresh, gets, is_pausing, seen_running}
 use Rattle.pulsar_discovery.specs.declared.machine.Stage.TheVariants.{Over}

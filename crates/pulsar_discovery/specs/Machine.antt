@@ -4,22 +4,22 @@ use Rattle.std.specs.Prelude.{◌≡◌, ℕ, List, [], ◌∷◌, map, Some, Re
 use Rattle.pulsar_wire.specs.declared.error.ConnectionError.{ConnectionError}
 use Rattle.pulsar_frame.specs.Message.{MessageValues}
 use Rattle.pulsar_frame.specs.Shown.{message_values}
-use Rattle.pulsar_session.specs.Failures.{Disconnected, Failure, OfConnection, failure, fault}
+use Rattle.pulsar_wire.specs.Failures.{Disconnected, Failure, OfConnection, failure, fault}
 use Rattle.pulsar_session.specs.Link.{message_of}
-use Rattle.pulsar_session.specs.Reply.{reply}
-use Rattle.pulsar_plans.specs.Address.{Place, named, place}
-use Rattle.pulsar_plans.specs.Plans as plans
-use Rattle.pulsar_plans.specs.declared.plan.Answer.{Answer}
-use Rattle.pulsar_plans.specs.declared.plan.Answer.TheVariants as answer
-use Rattle.pulsar_plans.specs.declared.plan.Plan.{Plan}
-use Rattle.pulsar_plans.specs.declared.plan.Procedure.{Procedure}
-use Rattle.pulsar_plans.specs.declared.turn.Action.{Action}
-use Rattle.pulsar_plans.specs.declared.turn.Action.TheVariants as action
-use Rattle.pulsar_plans.specs.declared.turn.Outcome.{Outcome as Happened}
-use Rattle.pulsar_plans.specs.declared.turn.Outcome.TheVariants as happened
-use Rattle.pulsar_plans.specs.declared.turn.Turn.{Turn}
-use Rattle.pulsar_plans.specs.declared.turn.Turn.TheVariants.{Stays, Gives}
-use Rattle.pulsar_plans.specs.declared.turn.Ways.{Ways}
+use Rattle.pulsar_frame.specs.Reply.{reply}
+use Rattle.pulsar_addresses.specs.Address.{Place, named, place}
+use Rattle.pulsar_searches.specs.Plans as plans
+use Rattle.pulsar_searches.specs.declared.plan.Answer.{Answer}
+use Rattle.pulsar_searches.specs.declared.plan.Answer.TheVariants as answer
+use Rattle.pulsar_searches.specs.declared.plan.Plan.{Plan}
+use Rattle.pulsar_searches.specs.declared.plan.Procedure.{Procedure}
+use Rattle.pulsar_searches.specs.declared.turn.Action.{Action}
+use Rattle.pulsar_searches.specs.declared.turn.Action.TheVariants as action
+use Rattle.pulsar_searches.specs.declared.turn.Outcome.{Outcome as Happened}
+use Rattle.pulsar_searches.specs.declared.turn.Outcome.TheVariants as happened
+use Rattle.pulsar_searches.specs.declared.turn.Turn.{Turn}
+use Rattle.pulsar_searches.specs.declared.turn.Turn.TheVariants.{Stays, Gives}
+use Rattle.pulsar_searches.specs.declared.turn.Ways.{Ways}
 use Rattle.pulsar_discovery.specs.declared.outcome.Found.{Found}
 use Rattle.pulsar_discovery.specs.declared.outcome.Found.TheVariants as found
 use Rattle.pulsar_discovery.specs.declared.outcome.Next.{Next}

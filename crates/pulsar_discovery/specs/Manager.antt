@@ -1,6 +1,6 @@
 -- Which connection serves an address: the one that is ready, or that comes of the series of attempts that runs.  (Pulsar binary
 -- protocol, Connection establishment; Topic lookup)
-use Rattle.std.specs.Prelude.{◌≡◌, ℕ, ◌+◌, ◌-◌, ◌^◌, nat_lt, nat_le, Bool, true, false, ◌&&◌, List, Option, Some, None, Ok, Err, ◌==◌, if◌then◌else◌}
+use Rattle.std.specs.Prelude.{◌≡◌, ℕ, ◌+◌, ◌-◌, ◌^◌, nat_lt, nat_le, Bool, true, false, ◌&&◌, List, Option, Some, None, ◌==◌, if◌then◌else◌}
 use Rattle.std.specs.BTreeMap.{get}
 use Rattle.std.specs.Option.{option_map}
 use Rattle.std.specs.Ordering.{nat_cmp}
@@ -9,15 +9,13 @@ use Rattle.pulsar_wire.specs.declared.error.IoKind.TheVariants.{ConnectionRefuse
 use Rattle.pulsar_wire.specs.declared.error.ConnectionError.{ConnectionError}
 use Rattle.pulsar_wire.specs.declared.error.ConnectionError.TheVariants as error
 use Rattle.pulsar_messages.specs.Content.{authentication_values}
-use Rattle.pulsar_session.specs.Failures.{Fault, Io, Authentication, NotFound, NoMemory, fault}
+use Rattle.pulsar_wire.specs.Failures.{Fault, Io, Authentication, NotFound, NoMemory, fault}
 use Rattle.pulsar_session.specs.Link as session
 use Rattle.pulsar_session.specs.declared.states.Stage.{Stage}
 use Rattle.pulsar_session.specs.declared.states.Stage.TheVariants.{Dialing, Handshaking, Ready, Over}
-use Rattle.url.specs.Parser.{Parsed, parse_url}
-use Rattle.url.specs.Parts.{Parts}
-use Rattle.pulsar_plans.specs.Address.{Place, base_of, behind, is_reachable}
-use Rattle.pulsar_plans.specs.Backoff.{backoff, capped, connection_id, jitter, one_more}
-use Rattle.pulsar_plans.specs.declared.turn.Ways.{Ways}
+use Rattle.pulsar_addresses.specs.Address.{Place, behind, is_reachable}
+use Rattle.pulsar_addresses.specs.Backoff.{backoff, capped, connection_id, jitter, one_more}
+use Rattle.pulsar_searches.specs.declared.turn.Ways.{Ways}
 use Rattle.pulsar_discovery.specs.declared.manager.ConnectionManager.{ConnectionManager}
 use Rattle.pulsar_discovery.specs.declared.manager.Got.{Got}
 use Rattle.pulsar_discovery.specs.declared.manager.Got.TheVariants as got
@@ -56,14 +54,6 @@ fresh t = record { terms = t; links = 0; series = no_series; connection = λ l. 
 -- where the client looks first
 abbrev pub ways_of : Terms → Ways
 ways_of t = record { base = t.base; retry_delay = t.operation.retry_delay; max_retries = t.operation.max_retries }
-
--- the address of the service that a text names
-abbrev pub base_parsed : Parsed Parts → Option Place
-base_parsed (Ok url) = base_of url
-base_parsed (Err e) = None
-
-abbrev pub base_in : List ℕ → Option Place
-base_in text = base_parsed (parse_url None text)
 
 -- a manager is refused where there is no such address, or for want of memory
 abbrev pub IsNoAddress : ConnectionError → Option Place → Type 0

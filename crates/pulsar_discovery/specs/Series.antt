@@ -4,7 +4,7 @@ use Rattle.std.specs.Prelude.{◌≡◌, ℕ, List, bytes_eq, Option, Some, None
 use Rattle.std.specs.BTreeMap.{get, get_by_text}
 use Rattle.std.specs.Option.{option_map}
 use Rattle.std.specs.Ordering.{nat_cmp}
-use Rattle.pulsar_plans.specs.Address.{Place, address_key}
+use Rattle.pulsar_addresses.specs.Address.{Place, address_key}
 use Rattle.pulsar_discovery.specs.declared.addresses.Addresses.{Addresses}
 use Rattle.pulsar_discovery.specs.declared.addresses.Phase.{Phase}
 use Rattle.pulsar_discovery.specs.declared.addresses.Phase.TheVariants.{Runs}

@@ -7,7 +7,7 @@ ghost use Rattle.std.specs.Ordering.{nat_cmp};
 ghost use Rattle.pulsar_discovery.specs.Series as meaning;
 ghost use Rattle.pulsar_discovery.specs.Series.{IsSeries, series};
 
-use pulsar_plans::content::Address;
+use pulsar_addresses::content::Address;
 use pulsar_wire::error::NoMemory;
 use std::alloc::Global;
 use std::collections::BTreeMap;

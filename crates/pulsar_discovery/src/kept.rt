@@ -2,7 +2,7 @@
 
 ghost use Rattle.std.specs.Prelude.{◌≡◌, IfOk};
 
-use pulsar_plans::plan::Plan;
+use pulsar_searches::plan::Plan;
 use pulsar_wire::error::NoMemory;
 use std::alloc::Global;
 use std::marker::Model;
@@ -14,7 +14,7 @@ pub struct Kept {
 }
 
 impl Model for Kept {
-    ghost use Rattle.pulsar_plans.specs.declared.plan.Plan.{Plan};
+    ghost use Rattle.pulsar_searches.specs.declared.plan.Plan.{Plan};
 
     ghost Value = { Plan };
 

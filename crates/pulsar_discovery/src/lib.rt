@@ -15,5 +15,7 @@ pub use discovery::{
 pub use machine::Machine;
 pub use manager::{ConnectionManager, Got, Seen};
 pub use outcome::{Found, Next, Outcome};
-pub use pulsar_plans::options::{allow_retry, backoff};
-pub use pulsar_plans::{BrokerAddress, ConnectionRetryOptions, OperationRetryOptions};
+pub use pulsar_addresses::address::BrokerAddress;
+pub use pulsar_addresses::options::{
+    ConnectionRetryOptions, OperationRetryOptions, allow_retry, backoff,
+};

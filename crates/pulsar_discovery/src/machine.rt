@@ -1,16 +1,16 @@
 //! The searches as machines: told what happened, each says what is to be done next.
 
 ghost use Rattle.std.specs.Prelude.{◌≡◌, [], Some, None, Err, IfOk, OnErr, IsErr};
-ghost use Rattle.pulsar_plans.specs.Plans.{fails};
-ghost use Rattle.pulsar_session.specs.Failures.{Disconnected};
+ghost use Rattle.pulsar_searches.specs.Plans.{fails};
+ghost use Rattle.pulsar_wire.specs.Failures.{Disconnected};
 ghost use Rattle.pulsar_discovery.specs.Machine.{Extends, Goes, StandsFor, does, lost, stands, step, step_of, told, turns};
 
 use crate::kept::Kept;
 use crate::outcome::{Next, Outcome, Told, content_of, found_by, message_of};
-use pulsar_plans::content::{Cause, Refusal};
-use pulsar_plans::plan::{self, Answer, Plan, Procedure};
-use pulsar_plans::question::Request;
-use pulsar_plans::turn::{Action, Outcome as Happened, Turn, Ways};
+use pulsar_addresses::content::{Cause, Refusal};
+use pulsar_searches::plan::{self, Answer, Plan, Procedure};
+use pulsar_searches::question::Request;
+use pulsar_searches::turn::{Action, Outcome as Happened, Turn, Ways};
 use pulsar_wire::error::{ConnectionError, NoMemory};
 use std::alloc::Global;
 

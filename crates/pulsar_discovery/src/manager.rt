@@ -5,19 +5,19 @@ ghost use Rattle.std.specs.BTreeMap.{get};
 ghost use Rattle.std.specs.Option.{option_copied, option_copied_mut, option_map};
 ghost use Rattle.std.specs.Ordering.{nat_cmp};
 ghost use Rattle.pulsar_messages.specs.Content.{authentication_values};
-ghost use Rattle.pulsar_session.specs.Failures.{fault};
+ghost use Rattle.pulsar_wire.specs.Failures.{fault};
 ghost use Rattle.pulsar_session.specs.Link as session;
-ghost use Rattle.pulsar_plans.specs.Address.{base_of, place};
+ghost use Rattle.pulsar_addresses.specs.Address.{base_in, base_of, place};
 ghost use Rattle.pulsar_discovery.specs.Manager as meaning;
 ghost use Rattle.pulsar_discovery.specs.Manager.{Is, OnGot, known};
 
 use crate::addresses::{Addresses, Phase, set};
+use pulsar_addresses::address::BrokerAddress;
+use pulsar_addresses::content::Address;
+use pulsar_addresses::options::{ConnectionRetryOptions, OperationRetryOptions, backoff};
+use pulsar_addresses::random::{connection_id, jitter};
 use pulsar_messages::Authentication;
-use pulsar_plans::content::Address;
-use pulsar_plans::options::backoff;
-use pulsar_plans::random::{connection_id, jitter};
-use pulsar_plans::turn::Ways;
-use pulsar_plans::{BrokerAddress, ConnectionRetryOptions, OperationRetryOptions};
+use pulsar_searches::turn::Ways;
 use pulsar_session::Connection;
 use pulsar_session::states::Stage;
 use pulsar_wire::error::{ConnectionError, NoMemory};
@@ -91,7 +91,7 @@ impl ConnectionManager {
         seed: u64,
         first_number: u64,
     ) -> Result<ConnectionManager, ConnectionError>
-        ensures base { IfOk result (λ m. meaning.base_in url.now ≡ Some m.terms.base) }
+        ensures base { IfOk result (λ m. base_in url.now ≡ Some m.terms.base) }
         ensures known { IfOk result (λ m. Is (known m) (meaning.fresh (record {
           base = m.terms.base;
           auth = auth;
@@ -101,7 +101,7 @@ impl ConnectionManager {
           seed = seed;
           first_number = first_number;
         }))) }
-        ensures refused { IfErr result (λ e. meaning.IsNoAddress e (meaning.base_in url.now)) }
+        ensures refused { IfErr result (λ e. meaning.IsNoAddress e (base_in url.now)) }
     {
         let Some(base) = base_in(alloc, url)? else {
             return Err(ConnectionError::NotFound);
@@ -332,7 +332,7 @@ impl ConnectionManager {
 
 /// The address of the service that a text names. A text that is too long for a URL is want of memory.
 fn base_in(alloc: Global, text: &str) -> Result<Option<Address>, NoMemory>
-    ensures { IfOk result (λ a. a ≡ meaning.base_in text.now) }
+    ensures { IfOk result (λ a. a ≡ base_in text.now) }
 {
     match Url::parse(alloc, text) {
         Ok(url) => base_of(alloc, &url),

@@ -1,10 +1,9 @@
 //! The connections of addresses.
 
 use crate::help::manager;
-use pulsar_discovery::{
-    ConnectionManager, ConnectionRetryOptions, Got, OperationRetryOptions, Seen,
-};
-use pulsar_plans::random::jitter;
+use pulsar_addresses::options::{ConnectionRetryOptions, OperationRetryOptions};
+use pulsar_addresses::random::jitter;
+use pulsar_discovery::manager::{ConnectionManager, Got, Seen};
 use pulsar_wire::error::{ConnectionError, IoKind};
 use std::alloc::Global;
 use std::test::Fail;

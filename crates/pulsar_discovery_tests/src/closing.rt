@@ -1,7 +1,7 @@
 //! What a failed build made is closed.
 
-use pulsar_plans::closing::{self, Close, Closing, Made, MadeList, Step};
-use pulsar_plans::content::Refusal;
+use pulsar_addresses::content::Refusal;
+use pulsar_searches::closing::{self, Close, Closing, Made, MadeList, Step};
 use pulsar_wire::error::ConnectionError;
 use std::alloc::Global;
 use std::test::Fail;

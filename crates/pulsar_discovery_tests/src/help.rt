@@ -1,9 +1,10 @@
 //! What machines say, as a text.
 
-use pulsar_discovery::{
-    BrokerAddress, ConnectionManager, ConnectionRetryOptions, Found, Machine, Next,
-    OperationRetryOptions, Outcome,
-};
+use pulsar_addresses::address::BrokerAddress;
+use pulsar_addresses::options::{ConnectionRetryOptions, OperationRetryOptions};
+use pulsar_discovery::machine::Machine;
+use pulsar_discovery::manager::ConnectionManager;
+use pulsar_discovery::outcome::{Found, Next, Outcome};
 use pulsar_frame::message::Message;
 use pulsar_frame::reader::FrameReader;
 use pulsar_wire::error::{ConnectionError, IoKind};

@@ -1,7 +1,9 @@
 //! Retries, their delays, and what is drawn.
 
-use pulsar_discovery::{ConnectionRetryOptions, OperationRetryOptions, allow_retry, backoff};
-use pulsar_plans::random::connection_id;
+use pulsar_addresses::options::{
+    ConnectionRetryOptions, OperationRetryOptions, allow_retry, backoff,
+};
+use pulsar_addresses::random::connection_id;
 use uuid::Version;
 
 #[test]

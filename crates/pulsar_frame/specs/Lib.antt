@@ -12,3 +12,6 @@ pub mod Laws
 pub mod Checksum
 pub mod Residue
 pub mod Batch
+pub mod Reply
+pub mod Items
+pub mod Held

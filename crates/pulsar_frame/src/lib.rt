@@ -5,10 +5,12 @@ pub mod batch;
 pub mod checksum;
 pub mod codec;
 mod frame;
+pub mod items;
 pub mod laws;
 pub mod message;
 pub mod payload;
 pub mod reader;
+pub mod received;
 mod refused;
 mod sized;
 
@@ -19,3 +21,4 @@ pub use codec::Codec;
 pub use message::{Message, frame_len};
 pub use payload::{Metadata, Payload, PayloadParts};
 pub use reader::FrameReader;
+pub use received::Received;

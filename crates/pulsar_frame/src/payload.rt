@@ -31,10 +31,19 @@ const HEAD_LEN: u64 = 10;
 pub type Metadata = MessageMetadata;
 
 /// A payload and what is said of it.
-#[derive(Debug, PartialEq, Eq, Drop)]
+#[derive(Debug, PartialEq, Eq)]
 pub struct Payload {
     pub metadata: Metadata,
     pub bytes: Vec<u8>,
+}
+
+impl Drop for Payload {
+    fn drop(self) {
+        let Payload {
+            metadata: _,
+            bytes: _,
+        } = self;
+    }
 }
 
 /// A payload that is not made yet: what is said of it, and its bytes, which are borrowed.

@@ -10,11 +10,17 @@ use std::alloc::Global;
 use std::marker::Model;
 
 /// The bytes of a stream that were fed and not yet taken. Pieces may be cut anywhere.
-#[derive(Debug, Drop)]
+#[derive(Debug)]
 pub struct FrameReader {
     bytes: Vec<u8>,
     // how many bytes in front were taken
     taken: usize,
+}
+
+impl Drop for FrameReader {
+    fn drop(self) {
+        let FrameReader { bytes: _, taken: _ } = self;
+    }
 }
 
 impl Model for FrameReader {

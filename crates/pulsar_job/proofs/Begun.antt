@@ -6,8 +6,8 @@ use Rattle.std.specs.Global.{Vec}
 use Rattle.std.specs.List.{remove, slice_index_or}
 use Rattle.pulsar_wire.specs.declared.error.IoKind.{IoKind}
 use Rattle.pulsar_producer.specs.Routing.{Policy}
-use Rattle.pulsar_tables.specs.View.{Options}
-use Rattle.pulsar_agenda.specs.Run.{Step}
+use Rattle.pulsar_machine.specs.Options.{Options}
+use Rattle.pulsar_calls.specs.Steps.{Step}
 use Rattle.pulsar_machine.specs.Machine.{options_for}
 use Rattle.pulsar_pumps.specs.Outside.{first_of}
 use Rattle.pulsar_work.specs.Calls.{Work, Sends, Takes}

@@ -3,7 +3,7 @@ use Rattle.std.proofs.Common.{◌≡◌, ℕ, ◌<◌, ◌∙◌, sym, ap, List,
 use Rattle.std.proofs.lemmas.List.{take-append-drop}
 use Rattle.std.proofs.lemmas.Option.{none-some}
 use Rattle.std.proofs.Math.Seq.{drop-append_seam, drop-length}
-use Rattle.pulsar_client.specs.Outside.{Takes}
+use Rattle.pulsar_streams.specs.Outside.{Takes}
 use Rattle.pulsar_job.specs.Outside.{Gave, Given, IsAtEnd, Seen}
 
 pub gave-none : (now : Option (List ℕ)) → Gave now now []

@@ -11,7 +11,7 @@ use Rattle.pulsar_pumps.specs.declared.submitter.Receipt.{Receipt}
 use Rattle.pulsar_wire.specs.declared.error.IoKind.{IoKind}
 use Rattle.pulsar_wire.specs.declared.error.IoKind.TheVariants as kind
 use Rattle.pulsar_calls.specs.Content.{Asked, Heard, Called, Opened, FailedToOpen, Bytes, Lost, Drain, Ticked, Shown, shown}
-use Rattle.pulsar_agenda.specs.Run.{Step}
+use Rattle.pulsar_calls.specs.Steps.{Step}
 use Rattle.pulsar_pumps.specs.declared.rounds.PumpEnd.{PumpEnd}
 use Rattle.pulsar_pumps.specs.declared.rounds.PumpEnd.TheVariants as pump_end
 use Rattle.pulsar_pumps.specs.Made as made

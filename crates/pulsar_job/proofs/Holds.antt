@@ -4,7 +4,7 @@ use Rattle.std.specs.List.{AllByRecursion}
 use Rattle.std.proofs.lemmas.Bool.{eq-eqb}
 use Rattle.std.proofs.lemmas.Bool.Decides.{eqb_tells}
 use Rattle.pulsar_calls.specs.Content.{Opened}
-use Rattle.pulsar_agenda.specs.Run.{Step}
+use Rattle.pulsar_calls.specs.Steps.{Step}
 use Rattle.pulsar_pumps.specs.Made.{Made, lost_in, pieces, written}
 use Rattle.pulsar_pumps.specs.Outside.{Grows, Rose}
 use Rattle.pulsar_pumps.proofs.Ran.{rose_then, then_rose}

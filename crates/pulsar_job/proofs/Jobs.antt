@@ -2,8 +2,8 @@
 use Rattle.std.proofs.Common.{inl, inr, ◌⊎◌, ◌≡◌, ℕ, sym, subst, List, refl, arith, Option, Some, None}
 use Rattle.std.specs.Prelude.{IfSome, MatchOption}
 use Rattle.pulsar_producer.specs.Routing.{Policy}
-use Rattle.pulsar_tables.specs.View.{Options}
-use Rattle.pulsar_agenda.specs.Run.{Step}
+use Rattle.pulsar_machine.specs.Options.{Options}
+use Rattle.pulsar_calls.specs.Steps.{Step}
 use Rattle.pulsar_work.specs.Calls.{Work}
 use Rattle.pulsar_work.specs.Form.{Asking, url_of}
 use Rattle.pulsar_job.specs.Links.{LinkSeen}

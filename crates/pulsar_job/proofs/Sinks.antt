@@ -1,7 +1,7 @@
 -- What a sink has grown by, and its faults.
 use Rattle.std.proofs.Common.{inl, inr, ◌≡◌, ℕ, ◌≤◌, ◌∙◌, sym, ap, List, [], ◌++◌, arith, Option, Some, take, drop, append_assoc, append-nil}
 use Rattle.std.proofs.lemmas.List.{take-append-drop}
-use Rattle.pulsar_client.specs.Outside.{Rose}
+use Rattle.pulsar_streams.specs.Outside.{Rose}
 use Rattle.pulsar_job.specs.Outside.{Adds, AddsFront}
 
 pub adds-nil : (now : Option (List ℕ)) → Adds now now []

@@ -4,7 +4,7 @@ use Rattle.std.specs.Global.{Vec}
 use Rattle.std.specs.List.{onto_first, slice_split}
 use Rattle.std.proofs.lemmas.List.{map-append}
 use Rattle.std.proofs.lemmas.List.Splits.{slice_split_at, slice_split_none}
-use Rattle.pulsar_script.specs.Parsed.{IsWithinLine}
+use Rattle.pulsar_grammar.specs.Parsed.{IsWithinLine}
 use Rattle.pulsar_work.specs.Form.{lines_of, without_empty_end}
 
 abbrev is_feed : ℕ → Bool

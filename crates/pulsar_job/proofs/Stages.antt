@@ -3,9 +3,9 @@ use Rattle.std.proofs.Common.{◌≡◌, ◌∙◌, ◌≤◌, ◌+◌, ◌-◌,
 use Rattle.std.specs.Prelude.{slice_get}
 use Rattle.std.specs.List.{flat_map}
 use Rattle.std.proofs.lemmas.List.{length-map, take-append-le, take_all}
-use Rattle.pulsar_producer.specs.Message.{bare}
+use Rattle.pulsar_messages.specs.Message.{bare}
 use Rattle.pulsar_calls.specs.Content.{Asked, Build, Stop, Send, Consumer, Called, Heard, Shown}
-use Rattle.pulsar_agenda.specs.Run.{Step}
+use Rattle.pulsar_calls.specs.Steps.{Step}
 use Rattle.pulsar_pumps.specs.Made.{Made}
 use Rattle.pulsar_work.specs.Asking.{IsAllAsked, IsTaking, Stops, call_at}
 use Rattle.pulsar_work.specs.Calls.{Work, Sends, Takes, HasError, IsWhole, NotBuilt, Stopped, ack_of, call_of, calls, consumer_of, has_ended_well, work}

@@ -9,7 +9,7 @@ use Rattle.pulsar_calls.specs.declared.event.Event.{Event}
 use Rattle.pulsar_calls.specs.declared.effect.Effect.{Effect}
 use Rattle.pulsar_calls.specs.Content.{shown}
 use Rattle.pulsar_machine.specs.Machine.{step}
-use Rattle.pulsar_agenda.specs.Run.{Step}
+use Rattle.pulsar_calls.specs.Steps.{Step}
 use Rattle.pulsar_pumps.specs.Made.{Made}
 use Rattle.pulsar_pumps.specs.Outside.{Grows}
 use Rattle.pulsar_shared.specs.Trace.{history, numbered, steps}

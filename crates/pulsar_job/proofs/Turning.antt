@@ -5,7 +5,7 @@ use Rattle.std.specs.Prelude.{Result, Ok, Err, IfOk, OnOk, slice_get}
 use Rattle.pulsar_wire.specs.declared.error.NoMemory.{NoMemory}
 use Rattle.pulsar_wire.specs.declared.error.IoKind.{IoKind}
 use Rattle.pulsar_calls.specs.Content.{Asked, Stop, Called, Ticked, Poll, Shown}
-use Rattle.pulsar_agenda.specs.Run.{Step}
+use Rattle.pulsar_calls.specs.Steps.{Step}
 use Rattle.pulsar_pumps.specs.Outside.{first_of, later_of}
 use Rattle.pulsar_work.specs.Asking.{IsTaking, call_at}
 use Rattle.pulsar_work.specs.Calls.{Work}

@@ -3,7 +3,7 @@ use Rattle.std.specs.Prelude.{◌≡◌, ◌≤◌, ◌+◌, ◌-◌, ◌⊎◌,
 use Rattle.std.specs.List.{AllByRecursion, flat_map, list_any}
 use Rattle.pulsar_wire.specs.declared.error.IoKind.{IoKind}
 use Rattle.pulsar_calls.specs.Content.{Asked, Build, Stop, Producer, Consumer, Heard, Called, Bytes, Lost, Drain, Shown}
-use Rattle.pulsar_agenda.specs.Run.{Step}
+use Rattle.pulsar_calls.specs.Steps.{Step}
 use Rattle.pulsar_pumps.specs.Made.{Made}
 use Rattle.pulsar_work.specs.Asking.{Stops, sends}
 use Rattle.pulsar_work.specs.Calls.{Work, Sends, Takes, IsWhole, HasError, HasFailed, IsDone, calls, consumer_of, has_ended_well, producer_of}

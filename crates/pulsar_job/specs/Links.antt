@@ -4,7 +4,7 @@ use Rattle.std.specs.List.{AllByRecursion, flat_map, list_any}
 use Rattle.pulsar_wire.specs.declared.error.IoKind.{IoKind}
 use Rattle.pulsar_wire.specs.declared.error.IoKind.TheVariants as kind
 use Rattle.pulsar_calls.specs.Content.{Stop, Heard, Called, Opened, FailedToOpen, Bytes, Lost, Drain, Ticked, Shown, Connect, Write}
-use Rattle.pulsar_agenda.specs.Run.{Step}
+use Rattle.pulsar_calls.specs.Steps.{Step}
 use Rattle.pulsar_pumps.specs.Outside.{Rose}
 
 -- What is seen of a link that was opened: its number; what its input has given, and its output has taken, where they tell that; and how many

@@ -1,6 +1,6 @@
 -- What is seen of a source and of a sink.
 use Rattle.std.specs.Prelude.{◌≡◌, ◌≤◌, ◌<◌, ℕ, List, [], ◌++◌, length, drop, Option, Some}
-use Rattle.pulsar_client.specs.Outside.{Rose}
+use Rattle.pulsar_streams.specs.Outside.{Rose}
 use Rattle.pulsar_job.specs.declared.status.Stop.{Stop}
 use Rattle.pulsar_job.specs.declared.status.Stop.TheVariants as stop
 

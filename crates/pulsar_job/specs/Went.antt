@@ -2,8 +2,8 @@
 use Rattle.std.specs.Prelude.{◌≡◌, ◌≤◌, ◌<◌, ◌⊎◌, ◌↔◌, ℕ, List, length, Option, Some, None, MatchOption}
 use Rattle.pulsar_wire.specs.declared.error.IoKind.{IoKind}
 use Rattle.pulsar_producer.specs.Routing.{Policy}
-use Rattle.pulsar_tables.specs.View.{Options}
-use Rattle.pulsar_agenda.specs.Run.{Step}
+use Rattle.pulsar_machine.specs.Options.{Options}
+use Rattle.pulsar_calls.specs.Steps.{Step}
 use Rattle.pulsar_machine.specs.Machine.{options_for}
 use Rattle.pulsar_work.specs.Form.{Asking, Produce, Consume, lines_of, url_of}
 use Rattle.pulsar_job.specs.Outside.{Adds, AddsFront, Given, HasFault, Seen, limit}

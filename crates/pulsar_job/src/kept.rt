@@ -1,12 +1,12 @@
 //! The record of a client whose options stay what they are.
 
 ghost use Rattle.std.specs.Prelude.{◌≡◌, ◌∷◌, Some, IfOk, OnErr, OnOk, false};
-ghost use Rattle.pulsar_tables.specs.View.{Options};
+ghost use Rattle.pulsar_machine.specs.Options.{Options};
 ghost use Rattle.pulsar_machine.specs.Machine.{step};
 ghost use Rattle.pulsar_shared.specs.Trace.{history, numbered, steps};
 ghost use Rattle.pulsar_shared.specs.Unset.{unset};
 
-use pulsar_client::Event;
+use pulsar_calls::event::Event;
 use pulsar_machine::Machine;
 use pulsar_pumps::{Receipt, Submitter};
 use pulsar_shared::Traced;

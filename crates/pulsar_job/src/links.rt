@@ -11,7 +11,7 @@ ghost use Rattle.pulsar_job.specs.Driven.{Goes, IsDialed, Learns, LinkNow, Reach
 ghost use Rattle.pulsar_job.specs.Links.{link_seen};
 
 use crate::kept::{Kept, Terms};
-use pulsar_client::Event;
+use pulsar_calls::event::Event;
 use pulsar_machine::Machine;
 use pulsar_pumps::{Edge, Input, Output, PumpEnd, Receipt, round_in, round_out};
 use pulsar_wire::NoMemory;
@@ -76,7 +76,8 @@ fn dial_one<T: Terms, C: Machine, E: Edge>(
     edge: &mut E,
     dial: Dial,
 ) -> Result<(), NoMemory>
-    ensures { OnOk result ((w : Work) → ReachesBy dial.link w (history kept.old.traced.trace.items) (history kept.new.traced.trace.items) progress.old progress.new
+    ensures { OnOk result ((w : Work) → ReachesBy dial.link w (history kept.old.traced.trace.items)
+        (history kept.new.traced.trace.items) progress.old progress.new
         (map (link_now E.Input.given E.Input.faults E.Output.taken E.Output.faults) links.old.items)
         (map (link_now E.Input.given E.Input.faults E.Output.taken E.Output.faults) links.new.items)
         (edge_now E.failures E.first E.greatest edge.old) (edge_now E.failures E.first E.greatest edge.new)) }
@@ -112,7 +113,8 @@ fn open<T: Terms, C: Machine, I: Input + Drop, O: Output + Drop>(
     input: I,
     output: O,
 ) -> Result<(), NoMemory>
-    ensures submits { OnOk result (Submits (Opened number) (history kept.old.traced.trace.items) (history kept.new.traced.trace.items) progress.old progress.new) }
+    ensures submits { OnOk result (Submits (Opened number) (history kept.old.traced.trace.items)
+        (history kept.new.traced.trace.items) progress.old progress.new) }
     ensures links { OnOk result (map (link_now I.given I.faults O.taken O.faults) links.new.items
         ≡ map (link_now I.given I.faults O.taken O.faults) links.old.items ++ fresh (link_seen I.given I.faults O.taken O.faults (number, input, output)) ∷ []) }
 {
@@ -150,7 +152,8 @@ fn write_link<T: Terms, C: Machine, R: Wait, I: Input + Drop, O: Output + Drop>(
     link: &mut Link<I, O>,
     progress: &mut Progress,
 ) -> Result<(), NoMemory>
-    ensures { OnOk result ((w : Work) (before behind : List LinkNow) → Goes w (history kept.old.traced.trace.items) (history kept.new.traced.trace.items) progress.old progress.new
+    ensures { OnOk result ((w : Work) (before behind : List LinkNow)
+        → Goes w (history kept.old.traced.trace.items) (history kept.new.traced.trace.items) progress.old progress.new
         (before ++ link_now I.given I.faults O.taken O.faults link.old ∷ behind) (before ++ link_now I.given I.faults O.taken O.faults link.new ∷ behind)) }
 {
     for _ in rt.forever() {
@@ -168,7 +171,8 @@ fn write_once<T: Terms, C: Machine, I: Input + Drop, O: Output + Drop>(
     link: &mut Link<I, O>,
     progress: &mut Progress,
 ) -> Result<bool, NoMemory>
-    ensures { OnOk result ((w : Work) (before behind : List LinkNow) → Goes w (history kept.old.traced.trace.items) (history kept.new.traced.trace.items) progress.old progress.new
+    ensures { OnOk result ((w : Work) (before behind : List LinkNow)
+        → Goes w (history kept.old.traced.trace.items) (history kept.new.traced.trace.items) progress.old progress.new
         (before ++ link_now I.given I.faults O.taken O.faults link.old ∷ behind) (before ++ link_now I.given I.faults O.taken O.faults link.new ∷ behind)) }
 {
     if !link.writes {
@@ -188,7 +192,8 @@ fn write<T: Terms, C: Machine, I: Input + Drop, O: Output + Drop>(
 ) -> Result<bool, NoMemory>
     requires none { made.old.items ≡ [] }
     requires writes { link.old.writes ≡ true }
-    ensures { OnOk result ((w : Work) (before behind : List LinkNow) → Goes w (history kept.old.traced.trace.items) (history kept.new.traced.trace.items) progress.old progress.new
+    ensures { OnOk result ((w : Work) (before behind : List LinkNow)
+        → Goes w (history kept.old.traced.trace.items) (history kept.new.traced.trace.items) progress.old progress.new
         (before ++ link_now I.given I.faults O.taken O.faults link.old ∷ behind) (before ++ link_now I.given I.faults O.taken O.faults link.new ∷ behind)) }
 {
     let end = round_out(kept, link.number, &mut link.output, made)?;
@@ -227,7 +232,8 @@ fn hear<T: Terms, C: Machine, I: Input + Drop, O: Output + Drop>(
     link: &mut Link<I, O>,
     progress: &mut Progress,
 ) -> Result<(), NoMemory>
-    ensures { OnOk result ((w : Work) (before behind : List LinkNow) → Goes w (history kept.old.traced.trace.items) (history kept.new.traced.trace.items) progress.old progress.new
+    ensures { OnOk result ((w : Work) (before behind : List LinkNow)
+        → Goes w (history kept.old.traced.trace.items) (history kept.new.traced.trace.items) progress.old progress.new
         (before ++ link_now I.given I.faults O.taken O.faults link.old ∷ behind) (before ++ link_now I.given I.faults O.taken O.faults link.new ∷ behind)) }
 {
     if !link.hears || !kept.traced().client().link_waits(link.number) {
@@ -246,7 +252,8 @@ fn listen<T: Terms, C: Machine, I: Input + Drop, O: Output + Drop>(
     made: &mut Vec<(Event, Receipt)>,
 ) -> Result<(), NoMemory>
     requires { made.old.items ≡ [] }
-    ensures { OnOk result ((w : Work) (before behind : List LinkNow) → Goes w (history kept.old.traced.trace.items) (history kept.new.traced.trace.items) progress.old progress.new
+    ensures { OnOk result ((w : Work) (before behind : List LinkNow)
+        → Goes w (history kept.old.traced.trace.items) (history kept.new.traced.trace.items) progress.old progress.new
         (before ++ link_now I.given I.faults O.taken O.faults link.old ∷ behind) (before ++ link_now I.given I.faults O.taken O.faults link.new ∷ behind)) }
 {
     let end = round_in(kept, link.number, &mut link.input, made)?;

@@ -1,10 +1,11 @@
 //! What goes into a sink.
 
 ghost use Rattle.std.specs.Prelude.{◌≡◌, ◌≤◌, OnErr, OnOk};
-ghost use Rattle.pulsar_client.specs.Outside.{Rose};
+ghost use Rattle.pulsar_streams.specs.Outside.{Rose};
 ghost use Rattle.pulsar_job.specs.Outside.{Adds, AddsFront};
 
-use pulsar_client::{Failed, Sink};
+use pulsar_streams::outside::Failed;
+use pulsar_streams::outside::sink::Sink;
 
 /// Puts all bytes.
 pub fn put_all<K: Sink>(sink: &mut K, bytes: &[u8]) -> Result<(), Failed>

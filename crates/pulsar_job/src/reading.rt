@@ -5,8 +5,8 @@ ghost use Rattle.pulsar_job.specs.Outside.{Gave, IsAtEnd, Stopped, limit, seen};
 ghost use Rattle.pulsar_work.specs.Form.{lines_of};
 
 use crate::status::Stop;
-use pulsar_client::Source;
-use pulsar_script::grammar::word::cut_line;
+use pulsar_grammar::word::cut_line;
+use pulsar_streams::outside::source::Source;
 use pulsar_wire::NoMemory;
 use std::alloc::Global;
 

@@ -19,10 +19,13 @@ use crate::putting::put_all;
 use crate::reading::{lines, read_all};
 use crate::status::{DONE, FAILED, Job, NO_FORM, NO_MEMORY, SINK_FAILED, Status, Stop, status_of};
 use crate::turns::turns;
-use pulsar_client::{Effect, Event, Sink, Source};
+use pulsar_calls::effect::Effect;
+use pulsar_calls::event::Event;
 use pulsar_machine::{FromUrl, Machine};
 use pulsar_pumps::{Edge, Input, Output};
 use pulsar_shared::Traced;
+use pulsar_streams::outside::sink::Sink;
+use pulsar_streams::outside::source::Source;
 use pulsar_wire::NoMemory;
 use pulsar_work::{Form, Progress, Task, parse, report};
 use std::alloc::Global;
@@ -215,7 +218,8 @@ fn print<K: Sink>(
     is_done: bool,
     sink: &mut K,
 ) -> Result<Status, NoMemory>
-    ensures ended { IfOk result (λ status. (w : Work) → ComesOut w (history trace.now) is_done → Ended status w (seen K.holds K.faults sink.old sink.new) (history trace.now)) }
+    ensures ended { IfOk result (λ status. (w : Work) → ComesOut w (history trace.now) is_done
+        → Ended status w (seen K.holds K.faults sink.old sink.new) (history trace.now)) }
     ensures failed { IfOk result (λ status. status ≡ 5 → HasFault (seen K.holds K.faults sink.old sink.new)) }
     ensures err { OnErr result (sink.new ≡ sink.old) }
 {
@@ -232,7 +236,8 @@ fn halves<I: Input + Drop, O: Output + Drop>(
     alloc: Global,
     links: Vec<Link<I, O>>,
 ) -> Result<Vec<(u64, I, O)>, NoMemory>
-    ensures { IfOk result (λ v. map (link_seen I.given I.faults O.taken O.faults) v.items ≡ seen_of (map (link_now I.given I.faults O.taken O.faults) links.items)) }
+    ensures { IfOk result (λ v. map (link_seen I.given I.faults O.taken O.faults) v.items
+        ≡ seen_of (map (link_now I.given I.faults O.taken O.faults) links.items)) }
 {
     let mut halves = Vec::with_capacity(alloc, links.len())?;
     for link in links {

@@ -2,7 +2,7 @@
 
 ghost use Rattle.std.specs.Prelude.{◌≡◌, ◌↔◌, ◌∷◌, true, false, List, Some, IfOk, IsTrue, OnOk, map, slice_get};
 ghost use Rattle.pulsar_calls.specs.Content.{asked};
-ghost use Rattle.pulsar_agenda.specs.Run.{Step};
+ghost use Rattle.pulsar_calls.specs.Steps.{Step};
 ghost use Rattle.pulsar_shared.specs.Trace.{history};
 ghost use Rattle.pulsar_work.specs.Asking.{IsNext, Stops, work_in};
 ghost use Rattle.pulsar_work.specs.Calls.{Work};
@@ -10,7 +10,7 @@ ghost use Rattle.pulsar_job.specs.Driven.{Asks, Calls, ComesOut, Ends, IsSame, K
 
 use crate::kept::{Kept, Terms};
 use crate::links::{Link, dial_all, hear_all, shut_all, submit, write_all};
-use pulsar_client::{Call, Event};
+use pulsar_calls::event::{Call, Event};
 use pulsar_machine::Machine;
 use pulsar_pumps::{Edge, Input, Output};
 use pulsar_wire::NoMemory;
@@ -58,7 +58,8 @@ fn begin_turn<T: Terms, C: Machine, R: Wait, E: Edge>(
     progress: &mut Progress,
     edge: &mut E,
 ) -> Result<(), NoMemory>
-    ensures { OnOk result (progress.old.stopped ≡ false → UpToCalls (work_in task.now) (history kept.old.traced.trace.items) (history kept.new.traced.trace.items) progress.old progress.new
+    ensures { OnOk result (progress.old.stopped ≡ false → UpToCalls (work_in task.now) (history kept.old.traced.trace.items)
+        (history kept.new.traced.trace.items) progress.old progress.new
         (map (link_now E.Input.given E.Input.faults E.Output.taken E.Output.faults) links.old.items)
         (map (link_now E.Input.given E.Input.faults E.Output.taken E.Output.faults) links.new.items)
         (edge_now E.failures E.first E.greatest edge.old) (edge_now E.failures E.first E.greatest edge.new)) }
@@ -98,7 +99,8 @@ fn call_all<T: Terms, C: Machine, R: Wait, I: Input + Drop, O: Output + Drop>(
     links: &mut Vec<Link<I, O>>,
     progress: &mut Progress,
 ) -> Result<(), NoMemory>
-    ensures { OnOk result (progress.old.stopped ≡ false → Calls (work_in task.now) (history kept.old.traced.trace.items) (history kept.new.traced.trace.items) progress.old progress.new
+    ensures { OnOk result (progress.old.stopped ≡ false → Calls (work_in task.now) (history kept.old.traced.trace.items)
+        (history kept.new.traced.trace.items) progress.old progress.new
         (map (link_now I.given I.faults O.taken O.faults) links.old.items) (map (link_now I.given I.faults O.taken O.faults) links.new.items)) }
 {
     for _ in rt.forever() {
@@ -132,7 +134,8 @@ fn call_next<T: Terms, C: Machine>(
     kept: &mut Kept<T, C>,
     progress: &mut Progress,
 ) -> Result<Called, NoMemory>
-    ensures { OnOk result (progress.old.stopped ≡ false → Makes (work_in task.now) (history kept.old.traced.trace.items) (history kept.new.traced.trace.items) progress.old progress.new) }
+    ensures { OnOk result (progress.old.stopped ≡ false → Makes (work_in task.now) (history kept.old.traced.trace.items)
+        (history kept.new.traced.trace.items) progress.old progress.new) }
 {
     let next = what_next(alloc, task, progress)?;
     make(kept, progress, next)
@@ -143,7 +146,8 @@ fn make<T: Terms, C: Machine>(
     progress: &mut Progress,
     next: Next,
 ) -> Result<Called, NoMemory>
-    ensures { OnOk result ((w : Work) → IsNext w progress.old next → progress.old.stopped ≡ false → Makes w (history kept.old.traced.trace.items) (history kept.new.traced.trace.items) progress.old progress.new) }
+    ensures { OnOk result ((w : Work) → IsNext w progress.old next → progress.old.stopped ≡ false
+        → Makes w (history kept.old.traced.trace.items) (history kept.new.traced.trace.items) progress.old progress.new) }
 {
     match next {
         Next::Call(call) => {
@@ -185,8 +189,10 @@ fn stop<T: Terms, C: Machine>(
     kept: &mut Kept<T, C>,
     progress: &mut Progress,
 ) -> Result<bool, NoMemory>
-    ensures made { IfOk result (λ made. made ≡ true → MakesLast (work_in task.now) (history kept.old.traced.trace.items) (history kept.new.traced.trace.items) progress.old progress.new) }
-    ensures kept { IfOk result (λ made. made ≡ false → IsSame (history kept.old.traced.trace.items) (history kept.new.traced.trace.items) progress.old progress.new) }
+    ensures made { IfOk result (λ made. made ≡ true → MakesLast (work_in task.now) (history kept.old.traced.trace.items)
+        (history kept.new.traced.trace.items) progress.old progress.new) }
+    ensures kept { IfOk result (λ made. made ≡ false
+        → IsSame (history kept.old.traced.trace.items) (history kept.new.traced.trace.items) progress.old progress.new) }
 {
     if !is_last(alloc, task, progress)? {
         return Ok(false);

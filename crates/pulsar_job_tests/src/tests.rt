@@ -1,9 +1,10 @@
 use pulsar_cli::{BrokerEdge, DONE, FAILED, Host, NO_FORM, SOURCE_FAILED, Status, job, run};
-use pulsar_client::{
-    CustomRoutingPolicy, FailingSource, MemorySink, MemorySource, Pulsar, Sink, Source,
-};
+use pulsar_client::CustomRoutingPolicy;
+use pulsar_client::pulsar::Pulsar;
 use pulsar_machine::FromUrl;
 use pulsar_pumps::{Edge, FailingEdge, MemoryEdge};
+use pulsar_streams::outside::sink::{MemorySink, Sink};
+use pulsar_streams::outside::source::{FailingSource, MemorySource, Source};
 use pulsar_wire::error::IoKind;
 use std::alloc::{AllocError, Global};
 use std::sync::Wait;

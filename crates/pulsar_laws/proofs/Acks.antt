@@ -1,94 +1,54 @@
 -- Frames that acknowledge: each is asked for by a call for just this, and at most once for each call.
-use Rattle.std.proofs.Common.{arith, ◌≡◌, ◌⊎◌, inl, inr, ◌∙◌, sym, ap, subst, ℕ, ◌+◌, ◌≤◌, ◌==◌, List, [], ◌∷◌, ◌++◌, refl, Bool, true, false, ◌&&◌, cond, Option, Some, None, length}
-use Rattle.std.proofs.lemmas.Bool.{and_parts, cases_Bool}
-use Rattle.pulsar_run.specs.Laws.{In, InThisStep}
-use Rattle.pulsar_run.specs.Run.{rest}
+use Rattle.std.proofs.Common.{arith, ◌≡◌, ◌⊎◌, inl, inr, ◌∙◌, sym, ap, subst, ℕ, ◌+◌, ◌≤◌, ◌==◌, List, [], ◌∷◌, refl, Bool, true, false, ◌&&◌, cond, Option, Some, None, length}
 use Rattle.pulsar_frame.specs.Batch.{EntryValues}
 use Rattle.pulsar_wire.specs.Row.{Values}
 use Rattle.pulsar_wire.specs.Rows as rows
 use Rattle.pulsar_messages.specs.Content.{ProducerMessageValues}
 use Rattle.pulsar_messages.specs.Words as words
-use Rattle.pulsar_messages.specs.Words.{Words}
-use Rattle.pulsar_session.specs.Failures.{Fault}
-use Rattle.pulsar_link.specs.Messages.{Reply, is_body}
-use Rattle.pulsar_plans.specs.Address.{Place}
-use Rattle.pulsar_plans.specs.declared.making.Command.{Command}
-use Rattle.pulsar_plans.specs.declared.plan.Procedure.{Procedure as Sought}
-use Rattle.pulsar_plans.specs.declared.turn.Ways.{Ways}
 use Rattle.pulsar_producer.specs.Commands.{command_of}
 use Rattle.pulsar_producer.specs.Producer as producer
-use Rattle.pulsar_producer.specs.declared.deed.News.TheVariants as news
-use Rattle.pulsar_producer.specs.declared.sending.Errand.{Errand}
+use Rattle.pulsar_outgoing.specs.declared.news.News.TheVariants as news
 use Rattle.pulsar_consumer.specs.Commands as consumer_commands
-use Rattle.pulsar_consumer.specs.Naming as naming
-use Rattle.pulsar_consumer.specs.Topic.{link_of, is_ended, lives_on, resubscribes}
-use Rattle.pulsar_consumer.specs.declared.naming.Ordered.{Ordered}
-use Rattle.pulsar_consumer.specs.declared.naming.Ordered.TheVariants as ordered
-use Rattle.pulsar_calls.specs.declared.act.Act.{Act}
-use Rattle.pulsar_calls.specs.declared.act.Act.TheVariants.{Comes, Starts, Told, Does, Answers}
-use Rattle.pulsar_calls.specs.declared.act.Action.{Action}
-use Rattle.pulsar_calls.specs.declared.act.Action.TheVariants.{Ask, Recall, RecallConsumer}
-use Rattle.pulsar_calls.specs.declared.act.Arrival.{Arrival}
+use Rattle.pulsar_incoming.specs.Naming as naming
+use Rattle.pulsar_consumer.specs.Topic.{link_of}
+use Rattle.pulsar_incoming.specs.declared.naming.Ordered.{Ordered}
+use Rattle.pulsar_incoming.specs.declared.naming.Ordered.TheVariants as ordered
 use Rattle.pulsar_calls.specs.declared.act.Arrival.TheVariants as arrival
-use Rattle.pulsar_calls.specs.declared.act.Notice.{Notice}
-use Rattle.pulsar_calls.specs.declared.act.Outcome.{Outcome}
 use Rattle.pulsar_calls.specs.declared.act.Outcome.TheVariants as outcome
-use Rattle.pulsar_calls.specs.declared.act.Part.TheVariants.{Calls}
 use Rattle.pulsar_calls.specs.declared.act.Place.TheVariants as place
-use Rattle.pulsar_calls.specs.declared.act.Procedure.{Procedure}
 use Rattle.pulsar_calls.specs.declared.act.Procedure.TheVariants as procedure
-use Rattle.pulsar_calls.specs.declared.act.Refusal.{Refusal}
 use Rattle.pulsar_calls.specs.declared.act.Refusal.TheVariants as refusal
-use Rattle.pulsar_calls.specs.declared.act.Round.TheVariants.{Checks, Flushes}
-use Rattle.pulsar_calls.specs.declared.act.Share.{Share}
-use Rattle.pulsar_calls.specs.declared.act.Verdict.{Verdict}
-use Rattle.pulsar_calls.specs.declared.act.Who.{Who}
-use Rattle.pulsar_calls.specs.declared.act.Who.TheVariants.{Call, Consumer, Producer}
-use Rattle.pulsar_calls.specs.declared.act.Word.{Word}
 use Rattle.pulsar_calls.specs.declared.act.Word.TheVariants as word
 use Rattle.pulsar_calls.specs.Content as content
-use Rattle.pulsar_calls.specs.Content.{Asked, lacks_tickets, shares, next_advice}
-use Rattle.pulsar_calls.specs.Who.{is_same, ticket_of}
-use Rattle.pulsar_procedures.specs.declared.plan.Plan.{Plan}
-use Rattle.pulsar_procedures.specs.declared.plan.Plan.TheVariants.{Acknowledging, Asking}
-use Rattle.pulsar_procedures.specs.declared.plan.Turn.{Turn}
-use Rattle.pulsar_procedures.specs.declared.plan.Turn.TheVariants.{Stays, Gives}
-use Rattle.pulsar_procedures.specs.Plan.{begins, told}
 use Rattle.pulsar_consumer_table.specs.Consumers as consumer
-use Rattle.pulsar_consumer_table.specs.Consumers.{Member, link_at, number_at, recalled, why_not, word_if, word_of, word_of_close, word_of_frame, word_of_loss, hears_frame, is_closed_by}
+use Rattle.pulsar_consumer_table.specs.Consumers.{Member, link_at, number_at, recalled, why_not, word_if, word_of, word_of_frame, word_of_loss}
 use Rattle.pulsar_producer_table.specs.Producers.{Producers, batches_in, errand_of, numbers_at, recalled_at, recalled_by, routed, why_not as unsent_why}
-use Rattle.pulsar_tables.specs.Reading.{subscribes_by, unless}
-use Rattle.pulsar_tables.specs.Rules.{asks_topics, at_once, closes, fails_as, flushes_all, from_base, notice, parts_of, procedure_for, produces_by, produces_from, searches, sends_as, sends_by, sends_with, share, shares_of, shares_unless, starts, stores_as, unless_refused, why_no_raw, why_no_sends, builds_with}
-use Rattle.pulsar_tables.specs.View.{Chosen, Options, Tickets, View, may_call, stand_after, stays, stays_some, told_some, ways_of}
-use Rattle.pulsar_agenda.specs.Run.{Entry, Begins, Then, IsRun, agenda, first, view}
-use Rattle.pulsar_agenda.proofs.Acts.{Each, begun_same, each_append, each_either, each_first, each_map, each_rest, is_served}
-use Rattle.pulsar_agenda.proofs.Raising.{IsRaised, raises}
-use Rattle.pulsar_laws.proofs.Sources.{in_each, step_more, step_some}
+use Rattle.pulsar_acts.specs.Reading.{subscribes_by, unless}
+use Rattle.pulsar_client.proofs.Raising.{IsRaised, raises}
+use Rattle.pulsar_laws.proofs.Lists.{in_each}
+use Rattle.pulsar_laws.proofs.Cases.{cond_so, none_some}
+use Rattle.pulsar_laws.proofs.Standing.{run_older, stands_so}
+use Rattle.pulsar_laws.proofs.Arcs.{StaysSo}
+use Rattle.pulsar_laws.proofs.Sources.{step_more, step_some}
 use Rattle.pulsar_laws.specs.ConsumerLaws.{AcksAreLicensed, AcksOnce, LicensedBy, Licenses, ack_of, is_ack}
-use Rattle.pulsar_laws.specs.Laws.{Cause, EndsOnce, counted, start_of}
 use Rattle.pulsar_laws.proofs.Caused.{outcomes_are_caused_lem}
-use Rattle.pulsar_laws.proofs.Consuming.{StaysSo}
 use Rattle.pulsar_laws.proofs.Drawing.{Every, here}
 use Rattle.pulsar_laws.proofs.Granted.{BeginsSo, GivenBy, IsLedSo, does_from, granted_by, grants_given}
 use Rattle.pulsar_laws.proofs.Left.{left_each}
 use Rattle.pulsar_laws.proofs.Made.{IsMadeAt, calls_are_made_lem}
 use Rattle.pulsar_laws.proofs.Mild.{IsMildPlan, IsMildTurn, MildBegun, MildOutcome, MildPlan, begins_mild, direct_mild, is_direct, told_mild}
 use Rattle.pulsar_laws.proofs.MildSearches.{IsMildCommand, MildSought}
-use Rattle.pulsar_laws.proofs.Same.{same_self, same_who}
-use Rattle.pulsar_producer.specs.Wanted.{ProducerWanted}
+use Rattle.pulsar_outgoing.specs.Wanted.{ProducerWanted}
 use Rattle.pulsar_calls.specs.declared.act.Says.{Says}
 use Rattle.pulsar_calls.specs.declared.act.Says.TheVariants as says
 use Rattle.std.specs.Prelude.{not}
 use Rattle.std.specs.Option.{is_some}
-
-none_some : {A : Type 0} {x : A} → None ≡ Some x → ⊥
-none_some {A} {x} h = cc
+use Rattle.pulsar_laws.proofs.ActWords.{Act, Action, Answers, Arrival, Ask, Asked, Call, Calls, Checks, Comes, Consumer, Does, Flushes, is_same, lacks_tickets, next_advice, Notice, Outcome, Procedure, Producer, Recall, RecallConsumer, Refusal, Share, shares, Starts, ticket_of, Told, Who, Word}
+use Rattle.pulsar_laws.proofs.PlanWords.{begins, Command, Errand, Plan, Sought, Stays, told, Ways}
+use Rattle.pulsar_laws.proofs.RunWords.{agenda, asks_topics, at_once, Begins, builds_with, Cause, Chosen, counted, Each, each_append, each_either, each_first, each_map, each_rest, EndsOnce, Entry, fails_as, flushes_all, from_base, In, InThisStep, is_served, IsRun, may_call, notice, Options, parts_of, procedure_for, produces_from, rest, searches, sends_as, sends_by, share, shares_of, shares_unless, start_of, starts, stores_as, Then, Tickets, unless_refused, view, View, ways_of, why_no_raw, why_no_sends}
+use Rattle.pulsar_laws.proofs.LinkWords.{Fault, is_body, Place, Reply, Words}
 
 -- WHAT CALLS BEGIN
-
-either_begun : (b : Bool) (p q : Procedure) → MildBegun p → MildBegun q → MildBegun (cond b p q)
-either_begun true p q h k = h
-either_begun false p q h k = k
 
 may_begun : (b : Bool) (p : Procedure) → MildBegun p → MildBegun (unless_refused b p)
 may_begun true p h = h
@@ -122,7 +82,7 @@ stores_begun n s (Some e) = tt
 sends_begun : (b : Bool) (s : Option Share) (m : ProducerMessageValues) (w : Option Ways) (e : Option Errand) → MildBegun (sends_by b s m w e)
 sends_begun b s m w None = fails_begun s _
 sends_begun b s m None (Some e) = fails_begun s _
-sends_begun b s m (Some w) (Some e) = either_begun b _ _ (stores_begun e.producer s _) tt
+sends_begun b s m (Some w) (Some e) = cond_so MildBegun b _ _ (stores_begun e.producer s _) tt
 
 subscribes_begun : (w : Option Ways) (x : Ordered) → MildBegun (subscribes_by w x)
 subscribes_begun w ordered.Nothing = tt
@@ -139,7 +99,8 @@ may_ack _ = false
 call_begun : (o : Chosen) (c : Tickets) (cs : consumer.Consumers) (ps : Producers) (advised : List (Option ℕ)) (asked : Asked) → may_ack asked ≡ false →
     MildBegun (procedure_for o c cs ps advised asked)
 call_begun o c cs ps advised content.Build h = may_begun (not c.is_stopped) (builds_with o.outbound o.base)
-    (either_begun (o.outbound == 0) (procedure.Refuse refusal.NoOutbound) (from_base o.base procedure.Build) tt (from_begun o.base procedure.Build (λ p. tt)))
+    (cond_so MildBegun (o.outbound == 0) (procedure.Refuse refusal.NoOutbound) (from_base o.base procedure.Build) tt
+    (from_begun o.base procedure.Build (λ p. tt)))
 call_begun o c cs ps advised content.Stop h = may_begun (may_call c) procedure.Stop tt
 call_begun o c cs ps advised (content.Topics namespace mode) h = may_begun (may_call c) _ (from_begun o.base (asks_topics namespace mode) (λ p. refl))
 call_begun o c cs ps advised (content.Lookup topic) h = may_begun (may_call c) _ (searches_begun (ways_of o) _ tt)
@@ -150,12 +111,13 @@ call_begun o c cs ps advised (content.Send t m) h = may_begun (may_call c) _ (un
     (sends_begun (batches_in (ps.built t)) None m (ways_of o) (errand_of (next_advice advised) m (ps.built t))))
 call_begun o c cs ps advised (content.SendAll t ms) h =
     may_begun (may_call c) _ (unless_begun (unsent_why ps t) (procedure.Gather (c.drawn + 1) (length ms)) tt)
-call_begun o c cs ps advised (content.Flush t) h = may_begun (may_call c) _ (unless_begun (unsent_why ps t) (flushes_all (batches_in (ps.built t)) (numbers_at (ps.built t)))
-    (either_begun (batches_in (ps.built t)) (procedure.Go Flushes (numbers_at (ps.built t))) (procedure.Refuse refusal.NoBatches) tt tt))
+call_begun o c cs ps advised (content.Flush t) h =
+    may_begun (may_call c) _ (unless_begun (unsent_why ps t) (flushes_all (batches_in (ps.built t)) (numbers_at (ps.built t)))
+    (cond_so MildBegun (batches_in (ps.built t)) (procedure.Go Flushes (numbers_at (ps.built t))) (procedure.Refuse refusal.NoBatches) tt tt))
 call_begun o c cs ps advised (content.CheckProducer t) h =
     may_begun (may_call c) _ (unless_begun (unsent_why ps t) (procedure.Go Checks (numbers_at (ps.built t))) tt)
 call_begun o c cs ps advised (content.CloseProducer t) h = may_begun (may_call c) _
-    (either_begun (is_some (ps.built t)) (procedure.Close t (numbers_at (ps.built t))) (procedure.Refuse refusal.UnknownTicket) tt tt)
+    (cond_so MildBegun (is_some (ps.built t)) (procedure.Close t (numbers_at (ps.built t))) (procedure.Refuse refusal.UnknownTicket) tt tt)
 call_begun o c cs ps advised (content.Consumer wanted) h = may_begun (may_call c) _ (subscribes_begun (ways_of o) (naming.order_of o.seed c.drawn wanted))
 call_begun o c cs ps advised (content.Nack t name id) h = may_begun (may_call c) _ (unless_begun (why_not cs t) _ refl)
 call_begun o c cs ps advised (content.CloseConsumer t) h = may_begun (may_call c) _ (unless_begun (why_not cs t) (procedure.Leave t (number_at (cs.rows t))) tt)
@@ -304,7 +266,8 @@ raised_so a (Starts (Producer n) p) other h = absurd cc
 raised_so a _ other h = tt
 
 once_so : (v : View) (a : Act) → Each IsBegun (at_once v a)
-once_so v (Comes (Calls asked advised)) = each_either IsBegun (lacks_tickets v.calls.drawn (shares asked)) _ (starts v advised asked) (tt, tt) (starts_so v advised asked)
+once_so v (Comes (Calls asked advised)) =
+    each_either IsBegun (lacks_tickets v.calls.drawn (shares asked)) _ (starts v advised asked) (tt, tt) (starts_so v advised asked)
 once_so v (Answers who verdict) = left_each IsBegun (ways_of v.chosen) who verdict.makes (λ w e. tt) (λ w n t. tt)
 once_so v a = each_map (IsRaised a) IsBegun (at_once v a) (λ b. raised_so a b refl) (raises v a)
 
@@ -333,18 +296,14 @@ if_none : (b : Bool) (w : Word) → NoRecall (Some w) → NoRecall (word_if b w)
 if_none true w h = h
 if_none false w h = tt
 
-either_none : (b : Bool) (x y : Option Word) → NoRecall x → NoRecall y → NoRecall (cond b x y)
-either_none true x y h k = h
-either_none false x y h k = k
-
 frame_none : (l : ℕ) (r : Reply) (m : Member) → NoRecall (word_of_frame l r m)
 frame_none l r m =
-    either_none (is_body 9 r.content.body) _ _ (if_none _ word.Due tt)
-    (either_none (is_body 27 r.content.body) _ _ (if_none _ (word.TopicEnded l) tt)
-    (either_none (is_body 16 r.content.body) _ _ (if_none _ word.Lost tt) tt))
+    cond_so NoRecall (is_body 9 r.content.body) _ _ (if_none _ word.Due tt)
+    (cond_so NoRecall (is_body 27 r.content.body) _ _ (if_none _ (word.TopicEnded l) tt)
+    (cond_so NoRecall (is_body 16 r.content.body) _ _ (if_none _ word.Lost tt) tt))
 
 heard_none : (l : ℕ) (a : Arrival) (m : Member) → NoRecall (word_of l a m)
-heard_none l (arrival.Gives number reply) m = either_none (m.seen.number == number) _ _ (frame_none l reply m) tt
+heard_none l (arrival.Gives number reply) m = cond_so NoRecall (m.seen.number == number) _ _ (frame_none l reply m) tt
 heard_none l _ m = tt
 
 loss_none : (l : ℕ) (cause : Option Fault) (m : Member) → NoRecall (word_of_loss l cause m)
@@ -378,59 +337,28 @@ told_so o log who _ run = tt
 
 -- ALONG A LOG
 
-record AreMild (o : Options) (log : List Entry) : Type 0 where
-  due : Each IsBegun (agenda o log).now
-  stands : (w : Who) (plan : Plan) → (view o log).stand w ≡ Some plan → MildPlan plan
-
-start_mild : (p : Procedure) → MildBegun p ⊎ (is_direct p ≡ true) → StaysSo IsMildPlan (begins p)
-start_mild p (inl h) = plan_of (begins p) (begins_mild p h)
-  where
-    plan_of : (x : Turn Plan Verdict) → StaysSo IsMildTurn x → StaysSo IsMildPlan x
-    plan_of (Stays plan action) k = k.0
-    plan_of (Gives verdict) k = tt
-start_mild p (inr h) = direct_mild p h
-
-stays_mild : (t : Turn Plan Verdict) (plan : Plan) → StaysSo IsMildPlan t → stays t ≡ Some plan → MildPlan plan
-stays_mild (Stays q action) plan k h = let e : q ≡ plan = cc in subst MildPlan e k
-stays_mild (Gives verdict) plan k h = absurd (none_some h)
-
-turn_mild : (t : Turn Plan Verdict) (plan : Plan) → StaysSo IsMildTurn t → stays t ≡ Some plan → MildPlan plan
-turn_mild (Stays q action) plan k h = let e : q ≡ plan = cc in subst MildPlan e k.0
-turn_mild (Gives verdict) plan k h = absurd (none_some h)
-
-some_mild : (row : Option Plan) (u : Outcome) (plan : Plan) → ((old : Plan) → row ≡ Some old → MildPlan old) → MildOutcome u →
-    stays_some (told_some row u) ≡ Some plan → MildPlan plan
-some_mild None u plan was so h = absurd (none_some h)
-some_mild (Some old) u plan was so h = turn_mild (told old u) plan (told_mild old u (was old refl) so) h
-
-next_mild : (o : Options) (log : List Entry) (a : Act) → IsRun o (Then a ∷ log) → AreMild o log → IsBegun a → (w : Who) (plan : Plan) →
-    stand_after a w ((view o log).stand w) ≡ Some plan → MildPlan plan
-next_mild o log (Starts who p) run k due w plan h = elim (cases_Bool (is_same w who)) [
-  | inl e ↦ stays_mild (begins p) plan (start_mild p (either_way who p due)) (rw e at h)
-  | inr e ↦ k.stands w plan (rw e at h)
-]
-next_mild o log (Told m) run k due w plan h = elim (cases_Bool (is_same w m.who)) [
-  | inl e ↦ some_mild ((view o log).stand w) m.outcome plan (k.stands w) (told_so o log m.who m.outcome run) (rw e at h)
-  | inr e ↦ k.stands w plan (rw e at h)
-]
-next_mild o log _ run k due w plan h = k.stands w plan h
-
-first_so : (o : Options) (log : List Entry) (a : Act) → AreMild o log → first (agenda o log) ≡ Some a → IsBegun a
-first_so o log a k fits = let g = agenda o log in each_first IsBegun g.now g.here g.behind g.parts a served_so k.due fits
-
-are_mild : (o : Options) (log : List Entry) → IsRun o log → AreMild o log
-are_mild o [] run = record { due = tt; stands = λ w plan h. absurd (none_some h) }
-are_mild o (Begins e ∷ log) run =
-    let k = are_mild o log run.0 in
-    let s = begun_same (λ v. v.stand) e (view o log) refl in
-    record { due = tt; stands = λ w plan h. k.stands w plan (sym (ap (λ f. f w) s) ∙ h) }
-are_mild o (Then a ∷ log) run =
-    let k = are_mild o log run.0 in
+begun_due : (o : Options) (log : List Entry) → IsRun o log → Each IsBegun (agenda o log).now
+begun_due o [] run = tt
+begun_due o (Begins e ∷ log) run = tt
+begun_due o (Then a ∷ log) run =
     let g = agenda o log in
-    record {
-      due = each_append IsBegun (at_once (view o log) a) (rest g).now (once_so (view o log) a) (each_rest IsBegun g.now g.here g.behind g.parts k.due);
-      stands = next_mild o log a run k (first_so o log a k run.1);
-    }
+    each_append IsBegun (at_once (view o log) a) (rest g).now (once_so (view o log) a) (each_rest IsBegun g.now g.here g.behind g.parts (begun_due o log run.0))
+
+start_so : (o : Options) (older : List Entry) (who : Who) (p : Procedure) → IsRun o (Then (Starts who p) ∷ older) → IsBegun (Starts who p)
+start_so o older who p run =
+    let g = agenda o older in each_first IsBegun g.now g.here g.behind g.parts (Starts who p) served_so (begun_due o older run.0) run.1
+
+mild_run : (o : Options) (who : Who) (log : List Entry) (plan : Plan) → IsRun o log → (view o log).stand who ≡ Some plan → MildPlan plan
+mild_run o who =
+    stands_so o who (IsRun o) (run_older o) (λ log q. MildPlan q) (λ e log q m r s k. k) begun
+    (λ log b u q a r s k e. (subst (StaysSo IsMildTurn) e (told_mild b u k (told_so o log who u r))).0)
+  where
+    begun : (log : List Entry) (p : Procedure) (q : Plan) (a : Action) → IsRun o (Then (Starts who p) ∷ log) → begins p ≡ Stays q a → MildPlan q
+    begun log p q a r e = by (either_way who p (start_so o log who p r))
+      where
+        by : MildBegun p ⊎ (is_direct p ≡ true) → MildPlan q
+        by (inl h) = (subst (StaysSo IsMildTurn) e (begins_mild p h)).0
+        by (inr h) = subst (StaysSo IsMildPlan) e (direct_mild p h)
 
 -- THE LAWS
 
@@ -438,12 +366,9 @@ led_none : (o : Options) (log : List Entry) (who : Who) (l : ℕ) (r : Words) �
 led_none o log who l r run b k =
     let n : IsRun o (Then (Told (notice who k.outcome)) ∷ k.older) = subst (IsRun o) k.is_there run in
     let so : StaysSo IsMildTurn (told k.before k.outcome) =
-    told_mild k.before k.outcome ((are_mild o k.older n.0).stands who k.before k.stood) (told_so o k.older who k.outcome n) in
+    told_mild k.before k.outcome (mild_run o who k.older k.before n.0 k.stood) (told_so o k.older who k.outcome n) in
     let x : StaysSo IsMildTurn (Stays k.plan (Ask l r)) = subst (StaysSo IsMildTurn) k.leads so in
     let f : true ≡ false = sym b ∙ x.1 in cc
-
-start_so : (o : Options) (older : List Entry) (who : Who) (p : Procedure) → IsRun o (Then (Starts who p) ∷ older) → IsBegun (Starts who p)
-start_so o older who p run = first_so o older (Starts who p) (are_mild o older run.0) run.1
 
 -- such a start is that of a call
 call_only : (o : Options) (older : List Entry) (who : Who) (p : Procedure) (l : ℕ) (r : Words) (plan : Plan) → IsRun o (Then (Starts who p) ∷ older) →

@@ -2,35 +2,21 @@
 use Rattle.std.proofs.Common.{◌≡◌, ◌∙◌, sym, ap, subst, ℕ, List, ◌∷◌, ◌++◌, refl, drop, Bool, true, false, cond, ◌==◌, Option, Some, None, inl, inr, []}
 use Rattle.std.proofs.lemmas.Bool.{cases_Bool, eqb-true}
 use Rattle.std.specs.Option.{option_map, option_to_list}
-use Rattle.pulsar_messages.specs.Words.{Words, is_numbered}
+use Rattle.pulsar_laws.proofs.ActWords.{Ask, Bytes, Comes, Dials, Does, Ends, Get, Heard, LinkAct, ToLink, Who}
+use Rattle.pulsar_laws.proofs.RunWords.{Begins, begun_live, calls_of, Chosen, chosen_same, dialed, Entry, is_live, link_got, live_begun, Options, Then, view}
+use Rattle.pulsar_laws.proofs.LinkWords.{closed_by, Fault, got_at, is_numbered, Place, Seat, seat_asked, seat_fed, seat_got, took, took_end, took_some, Words}
 use Rattle.pulsar_frame.specs.Frame.{Front, Whole, front}
 use Rattle.pulsar_requests.specs.Waits.{places}
 use Rattle.pulsar_session.specs.declared.states.Stage.{Stage}
 use Rattle.pulsar_session.specs.declared.states.Stage.TheVariants.{Handshaking, Ready}
 use Rattle.pulsar_session.specs.Answers.{is}
-use Rattle.pulsar_session.specs.Failures.{Fault}
 use Rattle.pulsar_session.specs.Link.{Act as Act', Opens, Feeds, Takes, Asks, Drains, Closes, Seen, Setup, answered_to, greeted, is_open, is_over, moved_up, number_for, settled_by, taken_in, ticked}
 use Rattle.pulsar_session.proofs.Still.{asked_of, moving, opening, unless}
-use Rattle.pulsar_calls.specs.declared.act.Act.TheVariants.{Comes, Does, Dials}
-use Rattle.pulsar_calls.specs.declared.act.Action.TheVariants.{Get, Ask}
-use Rattle.pulsar_calls.specs.declared.act.LinkAct.{LinkAct}
-use Rattle.pulsar_calls.specs.declared.act.LinkAct.TheVariants.{Ends}
-use Rattle.pulsar_calls.specs.declared.act.Part.TheVariants.{ToLink}
-use Rattle.pulsar_calls.specs.declared.act.Who.{Who}
-use Rattle.pulsar_plans.specs.Address.{Place}
-use Rattle.pulsar_calls.specs.Content.{Heard, Bytes}
-use Rattle.pulsar_laws.specs.Laws.{LinksAlone, call_at, calls_of, dialed_with}
-use Rattle.pulsar_tables.specs.Links.{call_of, called, closed_by}
-use Rattle.pulsar_agenda.specs.Run.{Entry, Begins, Then, view}
-use Rattle.pulsar_tables.specs.View.{Chosen, Options, Seat, begun_live, dialed, got_at, is_at, is_live, link_got, live_begun, seat_asked, seat_fed, seat_got, setup, took, took_end, took_some}
+use Rattle.pulsar_laws.proofs.Cases.{none_some, some_is}
+use Rattle.pulsar_laws.specs.Laws.{LinksAlone, call_at, dialed_with}
+use Rattle.pulsar_links.specs.Links.{call_of, called}
+use Rattle.pulsar_acts.specs.View.{is_at, setup}
 use Rattle.pulsar_session.specs.Link as session
-use Rattle.pulsar_agenda.proofs.Acts.{chosen_same}
-
-pub some_is : {A : Type 0} {x y : A} → Some x ≡ Some y → x ≡ y
-some_is {A} {x} {y} h = cc
-
-pub no_some : {A : Type 0} {x : A} → None ≡ Some x → ⊥
-no_some {A} {x} h = cc
 
 -- ONLY A CLOSE ENDS A CONNECTION
 
@@ -57,7 +43,10 @@ over_stays (Takes now) v c = taken_over v.stage (front v.unread) (ticked now v) 
 over_stays (Asks now words) v c = (asked_of (number_for (is_numbered words) v) now words (ticked now v)).over
 over_stays (Drains most now) v c =
     let b : Seen = record (ticked now v) { unwritten = drop most v.unwritten } in
-    elim (is_open v.stage) as (λ o. is_over (cond o (moved_up v.line b) (ticked now v)).stage ≡ is_over v.stage) [ true ↦ (moving v.line b).over | false ↦ refl ]
+    elim (is_open v.stage) as (λ o. is_over (cond o (moved_up v.line b) (ticked now v)).stage ≡ is_over v.stage) [
+      | true ↦ (moving v.line b).over
+      | false ↦ refl
+    ]
 over_stays (Closes cause) v c = absurd cc
 
 -- WHAT SUCH CALLS MADE
@@ -77,16 +66,18 @@ module _ (start : Option Setup) (calls : List Act') (seen : Seen) (k : Made star
   called_more None c = k
   called_more (Some act) c = more act (some_is c)
 
-ended_on : (start : Option Setup) (calls : List Act') (cause : Option Fault) (seat later : Seat) → Made start calls seat.seen → took_end cause seat ≡ Some later →
+ended_on : (start : Option Setup) (calls : List Act') (cause : Option Fault) (seat later : Seat) → Made start calls seat.seen →
+    took_end cause seat ≡ Some later →
     Made start (option_to_list (option_map Closes cause) ++ calls) later.seen
 ended_on start calls None seat later k h = subst (λ (t : Seat). Made start calls t.seen) (some_is h) k
-ended_on start calls (Some cause) seat later k h = absurd (no_some h)
+ended_on start calls (Some cause) seat later k h = absurd (none_some h)
 
 took_on : (start : Option Setup) (calls : List Act') (x : LinkAct) (now : ℕ) (seat later : Seat) → Made start calls seat.seen → took x now seat ≡ Some later →
     Made start (call_at x now (Some seat) ++ calls) later.seen
 took_on start calls (Ends end) now seat later k h = ended_on start calls (closed_by end now seat.seen) seat later k h
 took_on start calls x now seat later k h =
-    subst (λ (t : Seat). Made start (call_at x now (Some seat) ++ calls) t.seen) (some_is h) (called_more start calls seat.seen k (call_of x now seat.seen) refl)
+    subst (λ (t : Seat). Made start (call_at x now (Some seat) ++ calls) t.seen) (some_is h)
+    (called_more start calls seat.seen k (call_of x now seat.seen) refl)
 
 -- so of a row
 abbrev Is : Option Setup → List Act' → Option Seat → Type 0
@@ -94,23 +85,25 @@ Is start calls row = (seat : Seat) → row ≡ Some seat → Made start calls se
 
 some_took : (start : Option Setup) (calls : List Act') (x : LinkAct) (now : ℕ) (row : Option Seat) → Is start calls row →
     Is start (call_at x now row ++ calls) (took_some x now row)
-some_took start calls x now None k seat h = absurd (no_some h)
+some_took start calls x now None k seat h = absurd (none_some h)
 some_took start calls x now (Some r) k seat h = took_on start calls x now r seat (k r refl) h
 
 some_asked : (start : Option Setup) (calls : List Act') (who : Who) (now : ℕ) (request : Words) (row : Option Seat) → Is start calls row →
     Is start (Asks now request ∷ calls) (option_map (seat_asked who now request) row)
-some_asked start calls who now request None k seat h = absurd (no_some h)
+some_asked start calls who now request None k seat h = absurd (none_some h)
 some_asked start calls who now request (Some r) k seat h =
     subst (λ (t : Seat). Made start (Asks now request ∷ calls) t.seen) (some_is h) (more start calls r.seen (k r refl) (Asks now request) refl)
 
-some_fed : (start : Option Setup) (calls : List Act') (piece : List ℕ) (row : Option Seat) → Is start calls row → Is start (Feeds piece ∷ calls) (option_map (seat_fed piece) row)
-some_fed start calls piece None k seat h = absurd (no_some h)
+some_fed : (start : Option Setup) (calls : List Act') (piece : List ℕ) (row : Option Seat) → Is start calls row →
+    Is start (Feeds piece ∷ calls) (option_map (seat_fed piece) row)
+some_fed start calls piece None k seat h = absurd (none_some h)
 some_fed start calls piece (Some r) k seat h =
     subst (λ (t : Seat). Made start (Feeds piece ∷ calls) t.seen) (some_is h) (more start calls r.seen (k r refl) (Feeds piece) refl)
 
 -- a piece that is not fed does nothing to its connection
-not_fed : (start : Option Setup) (calls : List Act') (piece : List ℕ) (row : Option Seat) → is_at is_open row ≡ false → Is start calls row → Is start (Feeds piece ∷ calls) row
-not_fed start calls piece None d k seat h = absurd (no_some h)
+not_fed : (start : Option Setup) (calls : List Act') (piece : List ℕ) (row : Option Seat) → is_at is_open row ≡ false → Is start calls row →
+    Is start (Feeds piece ∷ calls) row
+not_fed start calls piece None d k seat h = absurd (none_some h)
 not_fed start calls piece (Some r) d k seat h =
     let same : r ≡ seat = some_is h in
     let e : session.feeds piece r.seen ≡ r.seen = rw d refl in
@@ -123,10 +116,11 @@ made_fresh o l now p seat h =
 
 -- one who gets it changes nothing of its connection
 some_got : (start : Option Setup) (calls : List Act') (now : ℕ) (row : Option Seat) → Is start calls row → Is start calls (option_map (seat_got now) row)
-some_got start calls now None k seat h = absurd (no_some h)
+some_got start calls now None k seat h = absurd (none_some h)
 some_got start calls now (Some r) k seat h = subst (λ (t : Seat). Made start calls t.seen) (some_is h) (k r refl)
 
-got_on : (start : Option Setup) (calls : List Act') (link : Option ℕ) (now l : ℕ) (row : Option Seat) → Is start calls row → Is start calls (got_at link now l row)
+got_on : (start : Option Setup) (calls : List Act') (link : Option ℕ) (now l : ℕ) (row : Option Seat) → Is start calls row →
+    Is start calls (got_at link now l row)
 got_on start calls None now l row k = k
 got_on start calls (Some m) now l row k = either (l == m)
   where
@@ -195,7 +189,7 @@ module _ (o : Options) where
       got_on (dialed_with o l log) (calls_of o l log) (link_got (view o log).addresses (Does who (Get place))) (view o log).now l ((view o log).links.live l) p
 
   pub alone : (log : List Entry) (l : ℕ) → Alone log l
-  alone [] l = λ seat h. absurd (no_some h)
+  alone [] l = λ seat h. absurd (none_some h)
   alone (Begins (Bytes k piece) ∷ log) l = fed_on log k l piece (alone log l)
   alone (Begins e ∷ log) l = same_on log l e refl refl (alone log l)
   alone (Then (Comes (ToLink k x)) ∷ log) l = took_by log k l x (alone log l)

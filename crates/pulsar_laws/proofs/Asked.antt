@@ -1,42 +1,18 @@
 -- The stop is asked for where nothing else is left to do.
 use Rattle.std.proofs.Common.{◌≡◌, ◌⊎◌, inl, inr, ◌∙◌, sym, ap, subst, ℕ, ◌+◌, List, ◌∷◌, ◌++◌, refl, map, Bool, true, false, cond, Option, Some, None, drop, length, [], ◌^◌, ◌-◌}
-use Rattle.pulsar_run.specs.Order.{arranged, put_all}
-use Rattle.pulsar_run.specs.Run.{first_of, rest, rest_of}
-use Rattle.pulsar_session.specs.Failures.{Exhausted}
-use Rattle.pulsar_calls.specs.declared.act.Act.{Act}
-use Rattle.pulsar_calls.specs.declared.act.Act.TheVariants.{Comes, Starts, Told, Does, Answers}
-use Rattle.pulsar_calls.specs.declared.act.Action.TheVariants.{StopAll, Rest}
-use Rattle.pulsar_calls.specs.declared.act.Notice.{Notice}
-use Rattle.pulsar_calls.specs.declared.act.Outcome.{Outcome}
-use Rattle.pulsar_calls.specs.declared.act.Part.{Part}
-use Rattle.pulsar_calls.specs.declared.act.Part.TheVariants.{Calls}
-use Rattle.pulsar_calls.specs.declared.act.Procedure.{Procedure}
-use Rattle.pulsar_calls.specs.declared.act.Verdict.{Verdict}
-use Rattle.pulsar_calls.specs.declared.act.Who.{Who}
-use Rattle.pulsar_calls.specs.declared.act.Who.TheVariants.{Call, Consumer, Producer}
-use Rattle.pulsar_procedures.specs.declared.plan.Plan.{Plan}
-use Rattle.pulsar_procedures.specs.declared.plan.Turn.{Turn}
-use Rattle.pulsar_procedures.specs.declared.plan.Turn.TheVariants.{Stays, Gives}
-use Rattle.pulsar_plans.specs.declared.turn.Ways.{Ways}
-use Rattle.pulsar_calls.specs.Content.{Asked, lacks_tickets, shares}
-use Rattle.pulsar_procedures.specs.Plan.{fails, told, verdict, begins}
-use Rattle.pulsar_tables.specs.Rules.{share, at_once, below, called, fails_as, causes, follows, follows_some, procedure_for, unless_refused, joins, left_with, sends_by, sends_with, stores_as, shares_of, shares_unless, starts, why_no_sends, unless}
-use Rattle.pulsar_agenda.specs.Run.{Agenda, Entry, Begins, Then, IsRun, agenda, first, rules, view}
-use Rattle.pulsar_tables.specs.View.{Options, View, told_some, ways_of, Chosen, may_call}
-use Rattle.pulsar_producer.specs.declared.sending.Errand.{Errand}
+use Rattle.pulsar_laws.proofs.ActWords.{Act, Answers, Asked, below, Call, Calls, Comes, Consumer, Does, lacks_tickets, Makes, next_advice, Notice, Outcome, Part, Procedure, Producer, Refusal, Rest, Share, shares, Starts, StopAll, Told, Verdict, Who}
+use Rattle.pulsar_laws.proofs.PlanWords.{begins, Errand, fails, Gives, Plan, Stays, told, Turn, verdict, Ways}
+use Rattle.pulsar_laws.proofs.RunWords.{agenda, Agenda, arranged, at_once, Begins, called, causes, Chosen, Each, each_append, each_first, each_map, each_rest, Entry, fails_as, first, first_of, follows, follows_some, is_served, IsRun, joins, left_with, may_call, Options, procedure_for, put_all, rest, rest_of, rules, sends_by, share, shares_of, shares_unless, starts, stores_as, Then, told_some, unless, unless_refused, view, View, ways_of, why_no_sends}
+use Rattle.pulsar_laws.proofs.LinkWords.{Exhausted}
+use Rattle.pulsar_acts.specs.Rules.{sends_with}
 use Rattle.pulsar_messages.specs.Content.{ProducerMessageValues}
 use Rattle.pulsar_producer_table.specs.Producers.{Producers, batches_in, errand_of, why_not, routed}
-use Rattle.pulsar_calls.specs.Content.{next_advice}
-use Rattle.pulsar_calls.specs.declared.act.Refusal.{Refusal}
-use Rattle.pulsar_calls.specs.declared.act.Share.{Share}
-use Rattle.pulsar_calls.specs.declared.act.Makes.{Makes}
 use Rattle.pulsar_frame.specs.Batch.{EntryValues}
-use Rattle.pulsar_producer.specs.Batch.{entry_of}
+use Rattle.pulsar_outgoing.specs.Batch.{entry_of}
 use Rattle.pulsar_calls.specs.declared.act.Procedure.TheVariants as procedure
 use Rattle.pulsar_calls.specs.Content as content
-use Rattle.pulsar_agenda.proofs.Acts.{Each, each_append, each_first, each_map, each_rest, is_served}
 use Rattle.pulsar_laws.proofs.Left.{left_each}
-use Rattle.pulsar_agenda.proofs.Raising.{IsRaised, kind, may, raises, OfBatches, OfDeed, OfPart, OfStart, OfService}
+use Rattle.pulsar_client.proofs.Raising.{IsRaised, kind, may, raises, OfBatches, OfDeed, OfPart, OfStart, OfService}
 use Rattle.pulsar_laws.proofs.Fitting.{fits, Fits, Holds, Keeps, Leaves, Nowhere, Reports, Spot, Stores, Usual, begins_fits, is_stop, spot, told_fits}
 
 abbrev is_stopping : Act → Bool

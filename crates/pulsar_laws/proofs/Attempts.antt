@@ -2,33 +2,18 @@
 use Rattle.std.proofs.Common.{◌≡◌, ◌⊎◌, inl, inr, ◌∙◌, sym, ap, subst, ℕ, ◌+◌, ◌≤◌, nat_lt, List, ◌∷◌, ◌++◌, refl, arith, drop, Bool, true, false, ◌&&◌, ◌==◌, cond, Option, Some, None, []}
 use Rattle.std.proofs.lemmas.Bool.Decides.{nat_tests}
 use Rattle.std.specs.Option.{option_map}
-use Rattle.pulsar_run.specs.Run.{rest, rest_of}
-use Rattle.pulsar_plans.specs.Address.{Place, address_key, is_reachable}
-use Rattle.pulsar_calls.specs.declared.act.Act.{Act}
-use Rattle.pulsar_calls.specs.declared.act.Act.TheVariants.{Comes, Does, Dials}
-use Rattle.pulsar_calls.specs.declared.act.Action.TheVariants.{Get, StopAll}
-use Rattle.pulsar_calls.specs.declared.act.Alarm.{Alarm}
-use Rattle.pulsar_calls.specs.declared.act.Alarm.TheVariants.{Retry}
-use Rattle.pulsar_calls.specs.declared.act.End.{End}
-use Rattle.pulsar_calls.specs.declared.act.LinkAct.{LinkAct}
-use Rattle.pulsar_calls.specs.declared.act.LinkAct.TheVariants.{Ends}
-use Rattle.pulsar_calls.specs.declared.act.Notice.{Notice}
-use Rattle.pulsar_calls.specs.declared.act.Part.{Part}
-use Rattle.pulsar_calls.specs.declared.act.Part.TheVariants.{ToLink, Rings}
-use Rattle.pulsar_calls.specs.declared.act.Who.{Who}
-use Rattle.pulsar_tables.specs.declared.addresses.Pause.{Pause}
-use Rattle.pulsar_tables.specs.declared.addresses.Series.{Series}
-use Rattle.pulsar_tables.specs.declared.addresses.Series.TheVariants.{Nobody, Runs, Pauses, Serves}
-use Rattle.pulsar_tables.specs.Alarms.{rings}
+use Rattle.pulsar_laws.proofs.ActWords.{Act, Alarm, Comes, Dials, Does, End, Ends, Get, LinkAct, Notice, Part, Retry, Rings, StopAll, ToLink, Who}
+use Rattle.pulsar_laws.proofs.RunWords.{agenda, at_once, Begins, begun_same, Chosen, chosen_same, Each, each_append, each_map, Entry, first_case, Options, rest, rest_of, tells, Then, Turned, turned_by, view, View}
+use Rattle.pulsar_laws.proofs.LinkWords.{address_key, Change, is_reachable, IsOver, Nobody, Pause, Pauses, Place, rings, Runs, Seat, Series, Serves}
+use Rattle.pulsar_laws.proofs.Cases.{cond_so}
 use Rattle.pulsar_laws.specs.Laws.{base_of}
 use Rattle.pulsar_laws.specs.AddressLaws.{AttemptsFollow, Begun, Followed}
-use Rattle.pulsar_tables.specs.Links.{Change, IsOver}
-use Rattle.pulsar_tables.specs.Rules.{at_once, gets_from, tells, tries_again}
-use Rattle.pulsar_agenda.specs.Run.{Entry, Begins, Then, agenda, view}
-use Rattle.pulsar_tables.specs.View.{Chosen, Options, Seat, Turned, View, is_retryable, pause_after, pause_for, pause_of, pause_on, pause_put, pause_rung, turned_by}
+use Rattle.pulsar_acts.specs.Rules.{gets_from, tries_again}
+use Rattle.pulsar_acts.specs.View.{pause_after, pause_for, pause_of, pause_on, pause_rung}
+use Rattle.pulsar_links.specs.Seats.{is_retryable, pause_put}
 use Rattle.pulsar_calls.specs.declared.act.Outcome.TheVariants as outcome
-use Rattle.pulsar_agenda.proofs.Acts.{Each, begun_same, chosen_same, each_append, each_drop, each_map, first_case}
-use Rattle.pulsar_agenda.proofs.Raising.{IsRaised, OfAttempt, may, raises}
+use Rattle.pulsar_client.proofs.Acts.{each_drop}
+use Rattle.pulsar_client.proofs.Raising.{IsRaised, OfAttempt, may, raises}
 
 -- WHAT IS NO ATTEMPT
 
@@ -52,10 +37,6 @@ none_raised v a never = each_map (IsRaised a) NoDial (at_once v a) (λ b. no_dia
 abbrev OneDial : List Act → Type 0
 OneDial xs = Each NoDial (drop 1 xs)
 
-one_either : (b : Bool) (xs ys : List Act) → OneDial xs → OneDial ys → OneDial (cond b xs ys)
-one_either true xs ys p q = p
-one_either false xs ys p q = q
-
 from_one : (who : Who) (p : Place) (s : Series) → OneDial (gets_from who p s)
 from_one who p Nobody = tt
 from_one who p (Runs starter retries l) = tt
@@ -67,10 +48,10 @@ tries_one None = tt
 tries_one (Some p) = tt
 
 rings_one : (v : View) (l : ℕ) → OneDial (at_once v (Comes (Rings (Retry l))))
-rings_one v l = one_either (rings v.now (Retry l) v.alarms) (tries_again (v.addresses.pause l)) [] (tries_one (v.addresses.pause l)) tt
+rings_one v l = cond_so OneDial (rings v.now (Retry l) v.alarms) (tries_again (v.addresses.pause l)) [] (tries_one (v.addresses.pause l)) tt
 
 gets_one : (v : View) (who : Who) (p : Place) → OneDial (at_once v (Does who (Get p)))
-gets_one v who p = one_either (is_reachable p) (gets_from who p (base_of v p).series) (tells who outcome.NotFound) (from_one who p (base_of v p).series) tt
+gets_one v who p = cond_so OneDial (is_reachable p) (gets_from who p (base_of v p).series) (tells who outcome.NotFound) (from_one who p (base_of v p).series) tt
 
 by_kind : (v : View) (a : Act) (b : Bool) → may OfAttempt a ≡ b → OneDial (at_once v a)
 by_kind v (Comes (Rings (Retry l))) b h = rings_one v l

@@ -1,59 +1,30 @@
 -- Why the send of a batch fails.
-use Rattle.std.proofs.Common.{◌≡◌, ◌⊎◌, inl, inr, ◌∙◌, sym, ap, subst, ℕ, List, [], ◌∷◌, refl, Bool, true, false, ◌||◌, cond, Option, Some, None, Err}
+use Rattle.std.proofs.Common.{◌≡◌, inl, inr, ◌∙◌, sym, ap, subst, ℕ, List, ◌∷◌, refl, Bool, true, false, ◌||◌, cond, Some, None, Err}
 use Rattle.std.proofs.lemmas.Bool.{cases_Bool}
 use Rattle.std.specs.List.{list_any}
-use Rattle.pulsar_run.specs.Laws.{In}
+use Rattle.pulsar_laws.proofs.ActWords.{Action, Does, Draw, Flush, is_same, Notice, Number, Outcome, PassTurn, Procedure, Producer, Recall, Remake, Rest, Shut, Starts, Store, TakeBatch, TakeTurn, Tell, TellAll, Told, Who}
+use Rattle.pulsar_laws.proofs.PlanWords.{Batches, Batching, begins, Errand, Heard, Member, news_of, Plan, Sending as Send, Stays, told, Ways}
+use Rattle.pulsar_laws.proofs.RunWords.{Begins, Entry, In, IsRun, notice, Options, Then, View, view}
+use Rattle.pulsar_laws.proofs.LinkWords.{Failure}
 use Rattle.pulsar_messages.specs.Content.{ProducerMessageValues}
-use Rattle.pulsar_session.specs.Failures.{Failure}
-use Rattle.pulsar_plans.specs.declared.turn.Outcome.{Outcome as Heard}
-use Rattle.pulsar_plans.specs.declared.turn.Ways.{Ways}
-use Rattle.pulsar_producer.specs.Errors.{in_producer}
+use Rattle.pulsar_outgoing.specs.Errors.{in_producer}
 use Rattle.pulsar_producer.specs.Plans as produce
-use Rattle.pulsar_producer.specs.declared.batch.Member.{Member}
-use Rattle.pulsar_producer.specs.declared.batching.Batching.{Batching as Batches}
 use Rattle.pulsar_producer.specs.declared.batching.Batching.TheVariants as batching
-use Rattle.pulsar_producer.specs.declared.deed.News.TheVariants as news
+use Rattle.pulsar_outgoing.specs.declared.news.News.TheVariants as news
 use Rattle.pulsar_producer.specs.declared.deed.Step.TheVariants as step
-use Rattle.pulsar_producer.specs.declared.sending.Errand.{Errand}
-use Rattle.pulsar_producer.specs.declared.sending.Sending.{Sending as Send}
 use Rattle.pulsar_producer.specs.declared.sending.Sending.TheVariants as send
-use Rattle.pulsar_calls.specs.declared.act.Act.{Act}
-use Rattle.pulsar_calls.specs.declared.act.Act.TheVariants.{Starts, Told, Does}
-use Rattle.pulsar_calls.specs.declared.act.Action.{Action}
-use Rattle.pulsar_calls.specs.declared.act.Action.TheVariants.{Draw, Flush, Number, PassTurn, Recall, Remake, Shut, Store, TakeBatch, TakeTurn, Tell, TellAll}
-use Rattle.pulsar_calls.specs.declared.act.Notice.{Notice}
-use Rattle.pulsar_calls.specs.declared.act.Outcome.{Outcome}
 use Rattle.pulsar_calls.specs.declared.act.Outcome.TheVariants as outcome
-use Rattle.pulsar_calls.specs.declared.act.Procedure.{Procedure}
 use Rattle.pulsar_calls.specs.declared.act.Procedure.TheVariants as procedure
-use Rattle.pulsar_calls.specs.declared.act.Verdict.{Verdict}
-use Rattle.pulsar_calls.specs.declared.act.Who.{Who}
-use Rattle.pulsar_calls.specs.declared.act.Who.TheVariants.{Producer}
-use Rattle.pulsar_procedures.specs.declared.plan.Plan.{Plan}
-use Rattle.pulsar_procedures.specs.declared.plan.Plan.TheVariants.{Batching}
-use Rattle.pulsar_procedures.specs.declared.plan.Turn.{Turn}
-use Rattle.pulsar_procedures.specs.declared.plan.Turn.TheVariants.{Stays, Gives}
-use Rattle.pulsar_calls.specs.Content.{Heard as Event}
-use Rattle.pulsar_procedures.specs.Plan.{begins, news_of, told}
-use Rattle.pulsar_calls.specs.Who.{is_same}
-use Rattle.pulsar_tables.specs.Rules.{notice}
-use Rattle.pulsar_agenda.specs.Run.{Entry, Begins, Then, IsRun, view}
-use Rattle.pulsar_tables.specs.View.{Options, View, stays, stays_some, told_some}
-use Rattle.pulsar_agenda.proofs.Acts.{begun_same}
+use Rattle.pulsar_laws.proofs.Standing.{moves, run_older, stands_so}
+use Rattle.pulsar_laws.proofs.BatchRun.{turn_so, Batched, batched_run, calm_at, is_batch_deed, never_both, self_same}
+use Rattle.pulsar_laws.proofs.Drawing.{every_run, Every, here}
 use Rattle.pulsar_laws.specs.BatchLaws.{told_since}
 use Rattle.pulsar_laws.specs.Laws.{FailsSo, IsAnswered, IsDenied, IsInProducer, IsPartial, IsRefused, IsRefusedShare, IsSettled, IsTold, IsTurned, IsUnexpected, IsUnexpectedInProducer, has_failed, IsInUse, IsOfSeveral, IsClosed}
-use Rattle.pulsar_laws.proofs.Batched.{BatchSo, IsSending, batch_goes}
-use Rattle.pulsar_laws.proofs.BatchRun.{Batched, StandsSo, batched_run, calm_at, is_batch_deed, never_both, row_then, self_same}
-use Rattle.pulsar_laws.proofs.Drawing.{Every, here}
+use Rattle.pulsar_laws.proofs.Batched.{BatchSo, IsSending}
 use Rattle.pulsar_laws.proofs.Failing.{allows_breaks, allows_reply, is_proper, told_same}
-use Rattle.pulsar_laws.proofs.Follow.{same_is}
 use Rattle.pulsar_laws.proofs.Granted.{GivenBy, granted_by, grants_given}
-use Rattle.pulsar_laws.proofs.Natures.{StaysSo}
 use Rattle.pulsar_laws.proofs.Owned.{starts_own}
 use Rattle.pulsar_laws.proofs.Productions.{Ends, SendKeeps, sending_ends}
-
-none_some : {A : Type 0} {x : A} → None ≡ Some x → ⊥
-none_some {A} {x} h = cc
 
 -- what one is granted is no reply
 abbrev pub is_told_news : Outcome → Bool
@@ -179,24 +150,6 @@ module _ (o : Options) (log : List Entry) (n : ℕ) (u : Outcome) (run : IsRun o
   turn_keeps w e b (Batching v x batching.Settling) a k h = tt
   turn_keeps w e b _ a k h = absurd h
 
-  told_keeps : Batched o log → Kept o log → (p : Plan) → (view o next).stand (Producer n) ≡ Some p → KeepsSo n next p
-  told_keeps stands kept p h = by ((view o log).stand (Producer n)) refl
-    where
-      to : (q : Plan) (s : StandsSo o log n q) → (view o log).stand (Producer n) ≡ Some q → (x : Turn Plan Verdict) →
-          StaysSo (BatchSo s.ways s.errand s.state u) x → stays x ≡ Some p → KeepsSo n next p
-      to q s e (Gives verdict) g i = absurd (none_some i)
-      to q s e (Stays r a) g i =
-          let k : KeepsSo n log (Batching s.ways s.errand s.state) = subst (KeepsSo n log) s.is_it (kept n q e) in
-          subst (KeepsSo n next) (let f : Some r ≡ Some p = i in cc) (turn_keeps s.ways s.errand s.state r a k g)
-
-      by : (row : Option Plan) → (view o log).stand (Producer n) ≡ row → KeepsSo n next p
-      by None e = absurd (none_some (sym (row_then o log n u run None e) ∙ h))
-      by (Some q) e =
-          let s = stands n q e in
-          let g : StaysSo (BatchSo s.ways s.errand s.state u) (told q u) =
-          subst (λ x. StaysSo (BatchSo s.ways s.errand s.state u) (told x u)) (sym s.is_it) (batch_goes s.ways s.errand s.state u) in
-          to q s e (told q u) g (sym (row_then o log n u run (Some q) e) ∙ h)
-
 -- OTHER ENTRIES
 
 -- where what it was told since then stays, so does this
@@ -214,78 +167,33 @@ since_same : (log : List Entry) (n : ℕ) (who : Who) (a : Action) → (is_same 
 since_same log n who (TakeBatch m) other = elim (cases_Bool (is_same (Producer n) who)) [ inl e ↦ absurd (other e refl) | inr e ↦ rw e refl ]
 since_same log n who _ other = refl
 
-does_keeps : (o : Options) (log : List Entry) (who : Who) (a : Action) → IsRun o (Then (Does who a) ∷ log) → Every (Batched o) log → Kept o log →
-    Kept o (Then (Does who a) ∷ log)
-does_keeps o log who a run b k n p h =
-    same_keeps log (Then (Does who a)) n p (λ calm. since_same log n who a (never_both o log who a n p run b h calm)) (k n p h)
-
-tells_keeps : (o : Options) (log : List Entry) (m : Notice) → IsRun o (Then (Told m) ∷ log) → Batched o log → Kept o log → Kept o (Then (Told m) ∷ log)
-tells_keeps o log m run b k n p h = elim (cases_Bool (is_same (Producer n) m.who)) [
-  | inl e ↦ own e
-  | inr e ↦ other e
-]
-  where
-    own : is_same (Producer n) m.who ≡ true → KeepsSo n (Then (Told m) ∷ log) p
-    own e =
-        let it : Told (notice (Producer n) m.outcome) ≡ Told m = ap (λ x. Told (notice x m.outcome)) (same_is (Producer n) m.who e) in
-        let r : IsRun o (Then (Told (notice (Producer n) m.outcome)) ∷ log) = subst (λ (x : Act). IsRun o (Then x ∷ log)) (sym it) run in
-        let g : (view o (Then (Told (notice (Producer n) m.outcome)) ∷ log)).stand (Producer n) ≡ Some p =
-        subst (λ (x : Act). (view o (Then x ∷ log)).stand (Producer n) ≡ Some p) (sym it) h in
-        subst (λ (x : Act). KeepsSo n (Then x ∷ log) p) it (told_keeps o log n m.outcome r b k p g)
-
-    other : is_same (Producer n) m.who ≡ false → KeepsSo n (Then (Told m) ∷ log) p
-    other e =
-        let g : (view o log).stand (Producer n) ≡ Some p =
-        sym (ap (λ c. cond c (stays_some (told_some ((view o log).stand (Producer n)) m.outcome)) ((view o log).stand (Producer n))) e) ∙ h in
-        same_keeps log (Then (Told m)) n p (λ calm. ap (λ c. cond c (m.outcome ∷ told_since n log) (told_since n log)) e) (k n p g)
-
-begun_keeps : (o : Options) (log : List Entry) (n : ℕ) (q : Procedure) (p : Plan) → IsRun o (Then (Starts (Producer n) q) ∷ log) → stays (begins q) ≡ Some p →
-    KeepsSo n (Then (Starts (Producer n) q) ∷ log) p
-begun_keeps o log n q p run h =
-    let k = starts_own o log n q run in
-    let e : Errand = record { producer = n; block = k.1 } in
-    let f : Some (Batching k.0 e batching.Resting) ≡ Some p = sym (ap (λ x. stays (begins x)) k.2) ∙ h in
-    subst (KeepsSo n (Then (Starts (Producer n) q) ∷ log)) (let g : Batching k.0 e batching.Resting ≡ p = cc in g) tt
-
-starts_keeps : (o : Options) (log : List Entry) (who : Who) (q : Procedure) → IsRun o (Then (Starts who q) ∷ log) → Kept o log →
-    Kept o (Then (Starts who q) ∷ log)
-starts_keeps o log who q run k n p h = elim (cases_Bool (is_same (Producer n) who)) [
-  | inl e ↦ own e
-  | inr e ↦ other e
-]
-  where
-    own : is_same (Producer n) who ≡ true → KeepsSo n (Then (Starts who q) ∷ log) p
-    own e =
-        let it : Starts (Producer n) q ≡ Starts who q = ap (λ x. Starts x q) (same_is (Producer n) who e) in
-        let r : IsRun o (Then (Starts (Producer n) q) ∷ log) = subst (λ (x : Act). IsRun o (Then x ∷ log)) (sym it) run in
-        let g : stays (begins q) ≡ Some p = sym (ap (λ c. cond c (stays (begins q)) ((view o log).stand (Producer n))) e) ∙ h in
-        subst (λ (x : Act). KeepsSo n (Then x ∷ log) p) it (begun_keeps o log n q p r g)
-
-    other : is_same (Producer n) who ≡ false → KeepsSo n (Then (Starts who q) ∷ log) p
-    other e =
-        let g : (view o log).stand (Producer n) ≡ Some p = sym (ap (λ c. cond c (stays (begins q)) ((view o log).stand (Producer n))) e) ∙ h in
-        same_keeps log (Then (Starts who q)) n p (λ calm. refl) (k n p g)
-
-plain_keeps : (o : Options) (log : List Entry) (a : Act) → Kept o log → ((n : ℕ) → (view o (Then a ∷ log)).stand (Producer n) ≡ (view o log).stand (Producer n)) →
-    ((n : ℕ) → told_since n (Then a ∷ log) ≡ told_since n log) → Kept o (Then a ∷ log)
-plain_keeps o log a k same since n p h = same_keeps log (Then a) n p (λ calm. since n) (k n p (sym (same n) ∙ h))
-
-then_keeps : (o : Options) (log : List Entry) (a : Act) → IsRun o (Then a ∷ log) → Every (Batched o) log → Kept o log → Kept o (Then a ∷ log)
-then_keeps o log (Does who a) run b k = does_keeps o log who a run b k
-then_keeps o log (Told m) run b k = tells_keeps o log m run (here (Batched o) log b) k
-then_keeps o log (Starts who q) run b k = starts_keeps o log who q run k
-then_keeps o log a run b k = plain_keeps o log a k (λ n. refl) (λ n. refl)
-
-begins_keeps : (o : Options) (log : List Entry) (e : Event) → Kept o log → Kept o (Begins e ∷ log)
-begins_keeps o log e k n p h =
-    same_keeps log (Begins e) n p (λ calm. refl) (k n p (sym (begun_same (λ v. v.stand (Producer n)) e (view o log) refl) ∙ h))
-
 -- ALONG A LOG
 
-keeps_along : (o : Options) (log : List Entry) → IsRun o log → Every (Batched o) log → Every (Kept o) log
-keeps_along o [] run b = λ n p h. absurd (none_some h)
-keeps_along o (Begins e ∷ log) run b = let k = keeps_along o log run.0 b.1 in (begins_keeps o log e (here (Kept o) log k), k)
-keeps_along o (Then a ∷ log) run b = let k = keeps_along o log run.0 b.1 in (then_keeps o log a run b.1 (here (Kept o) log k), k)
+keeps_along : (o : Options) (n : ℕ) (log : List Entry) (p : Plan) → IsRun o log → (view o log).stand (Producer n) ≡ Some p → KeepsSo n log p
+keeps_along o n = stands_so o (Producer n) (IsRun o) (run_older o) (λ log p. KeepsSo n log p) more begun goes_on
+  where
+    more : (x : Entry) (log : List Entry) (p : Plan) → moves (Producer n) x ≡ false → IsRun o (x ∷ log) → (view o log).stand (Producer n) ≡ Some p →
+        KeepsSo n log p → KeepsSo n (x ∷ log) p
+    more (Then (Does who a)) log p m run s k =
+        same_keeps log (Then (Does who a)) n p (λ calm. since_same log n who a (never_both o log who a n p run (batched_run o log run.0) s calm)) k
+    more (Then (Told x)) log p m run s k =
+        same_keeps log (Then (Told x)) n p (λ calm. ap (λ c. cond c (x.outcome ∷ told_since n log) (told_since n log)) m) k
+    more (Then a) log p m run s k = same_keeps log (Then a) n p (λ calm. refl) k
+    more (Begins e) log p m run s k = same_keeps log (Begins e) n p (λ calm. refl) k
+
+    begun : (log : List Entry) (q : Procedure) (p : Plan) (a : Action) → IsRun o (Then (Starts (Producer n) q) ∷ log) → begins q ≡ Stays p a →
+        KeepsSo n (Then (Starts (Producer n) q) ∷ log) p
+    begun log q p a run e =
+        let s = starts_own o log n q run in
+        let b : Plan = Batching s.0 (record { producer = n; block = s.1 }) batching.Resting in
+        let f : Stays b Rest ≡ Stays p a = ap begins (sym s.2) ∙ e in
+        subst (KeepsSo n (Then (Starts (Producer n) q) ∷ log)) (let i : b ≡ p = cc in i) tt
+
+    goes_on : (log : List Entry) (b : Plan) (u : Outcome) (p : Plan) (a : Action) → IsRun o (Then (Told (notice (Producer n) u)) ∷ log) →
+        (view o log).stand (Producer n) ≡ Some b → KeepsSo n log b → told b u ≡ Stays p a → KeepsSo n (Then (Told (notice (Producer n) u)) ∷ log) p
+    goes_on log b u p a run s k e =
+        let j = here (Batched o) log (batched_run o log run.0) n b s in
+        turn_keeps o log n u run j.ways j.errand j.state p a (subst (KeepsSo n log) j.is_it k) (turn_so o log n u b p a j e)
 
 pub kept_run : (o : Options) (log : List Entry) → IsRun o log → Every (Kept o) log
-kept_run o log run = keeps_along o log run (batched_run o log run)
+kept_run o log run = every_run o (Kept o) (λ log r n p s. keeps_along o n log p r s) log run

@@ -1,69 +1,37 @@
 -- The frame of a batch, as its topic producer asks for it.
-use Rattle.std.proofs.Common.{◌≡◌, ◌⊎◌, inl, inr, ◌∙◌, sym, ap, subst, ℕ, ◌+◌, ◌==◌, List, [], ◌∷◌, ◌++◌, refl, Bool, true, false, ◌&&◌, cond, Option, Some, None, Ok}
-use Rattle.std.proofs.lemmas.Bool.{cases_Bool}
-use Rattle.pulsar_run.specs.Laws.{In}
+use Rattle.std.proofs.Common.{◌≡◌, inl, inr, ◌∙◌, sym, ap, subst, ℕ, ◌+◌, List, ◌∷◌, refl, Bool, true, false, cond, Option, Some, None, Ok}
+use Rattle.pulsar_laws.proofs.ActWords.{Action, Ask, Does, Draw, Notice, Outcome, Procedure, Producer, Rest, Starts, Told}
+use Rattle.pulsar_laws.proofs.PlanWords.{action_of, Batches, Batching, begins, Deed, Drawn, Errand, Member, News, news_of, Plan, Sending as Send, Stays, told, Ways}
+use Rattle.pulsar_laws.proofs.RunWords.{Begins, draws_on, Entry, In, IsRun, notice, Options, room_of, Then, view}
+use Rattle.pulsar_laws.proofs.LinkWords.{Words}
 use Rattle.pulsar_messages.specs.Content.{ProducerMessageValues}
 use Rattle.pulsar_messages.specs.Words as words
-use Rattle.pulsar_messages.specs.Words.{Words}
-use Rattle.pulsar_plans.specs.declared.turn.Action.TheVariants as wish
-use Rattle.pulsar_plans.specs.declared.turn.Ways.{Ways}
-use Rattle.pulsar_producer.specs.Batch.{batch_of, entries_in}
+use Rattle.pulsar_searches.specs.declared.turn.Action.TheVariants as wish
+use Rattle.pulsar_outgoing.specs.Batch.{batch_of, entries_in}
 use Rattle.pulsar_producer.specs.Plans as produce
-use Rattle.pulsar_producer.specs.Storage.{Item}
+use Rattle.pulsar_outgoing.specs.Storage.{Item}
 use Rattle.pulsar_producer.specs.Topic.{Draws}
-use Rattle.pulsar_producer.specs.declared.batch.Member.{Member}
-use Rattle.pulsar_producer.specs.declared.batching.Batching.{Batching as Batches}
 use Rattle.pulsar_producer.specs.declared.batching.Batching.TheVariants as batching
-use Rattle.pulsar_producer.specs.declared.deed.Deed.{Deed}
 use Rattle.pulsar_producer.specs.declared.deed.Deed.TheVariants as deed
-use Rattle.pulsar_producer.specs.declared.deed.Drawn.{Drawn}
-use Rattle.pulsar_producer.specs.declared.deed.News.{News}
-use Rattle.pulsar_producer.specs.declared.deed.News.TheVariants as news
-use Rattle.pulsar_producer.specs.declared.deed.Send.{Send as Sending}
+use Rattle.pulsar_outgoing.specs.declared.news.News.TheVariants as news
 use Rattle.pulsar_producer.specs.declared.deed.Step.TheVariants as step
-use Rattle.pulsar_producer.specs.declared.sending.Errand.{Errand}
-use Rattle.pulsar_producer.specs.declared.sending.Sending.{Sending as Send}
 use Rattle.pulsar_producer.specs.declared.sending.Sending.TheVariants as send
-use Rattle.pulsar_calls.specs.declared.act.Act.{Act}
-use Rattle.pulsar_calls.specs.declared.act.Act.TheVariants.{Starts, Told, Does}
-use Rattle.pulsar_calls.specs.declared.act.Action.{Action}
-use Rattle.pulsar_calls.specs.declared.act.Action.TheVariants.{Ask, Draw}
-use Rattle.pulsar_calls.specs.declared.act.Notice.{Notice}
-use Rattle.pulsar_calls.specs.declared.act.Outcome.{Outcome}
 use Rattle.pulsar_calls.specs.declared.act.Outcome.TheVariants as outcome
-use Rattle.pulsar_calls.specs.declared.act.Procedure.{Procedure}
-use Rattle.pulsar_calls.specs.declared.act.Verdict.{Verdict}
-use Rattle.pulsar_calls.specs.declared.act.Who.{Who}
-use Rattle.pulsar_calls.specs.declared.act.Who.TheVariants.{Producer}
-use Rattle.pulsar_procedures.specs.declared.plan.Plan.{Plan}
-use Rattle.pulsar_procedures.specs.declared.plan.Plan.TheVariants.{Batching}
-use Rattle.pulsar_procedures.specs.declared.plan.Turn.{Turn}
-use Rattle.pulsar_procedures.specs.declared.plan.Turn.TheVariants.{Stays, Gives}
 use Rattle.pulsar_producer_table.specs.declared.table.Topic.{Topic}
+use Rattle.pulsar_laws.proofs.Standing.{moves, run_older, stands_so}
+use Rattle.pulsar_laws.proofs.BatchRun.{turn_so, AtDeed, Batched, PromptSo, StandsSo, batched_run, calm_at, deed_at, settles_all, some_batch, under_kept, was_done}
 use Rattle.pulsar_laws.specs.BatchLaws.{FramesOfBatches, under_way}
-use Rattle.pulsar_procedures.specs.Plan.{action_of, begins, news_of, told}
 use Rattle.pulsar_producer_table.specs.Producers.{topic_after}
 use Rattle.pulsar_laws.specs.ProducerLaws.{HasTurn}
-use Rattle.pulsar_tables.specs.Rules.{notice}
-use Rattle.pulsar_agenda.specs.Run.{Entry, Begins, Then, IsRun, view}
-use Rattle.pulsar_tables.specs.View.{Options, draws_on, room_of, stays, stays_some, told_some}
-use Rattle.pulsar_calls.specs.Who.{is_same}
-use Rattle.pulsar_agenda.proofs.Acts.{begun_same}
-use Rattle.pulsar_laws.proofs.Batched.{BatchSo, GoesOn, IsSending, StepTo, batch_goes}
-use Rattle.pulsar_laws.proofs.BatchRun.{AtDeed, Batched, PromptSo, StandsSo, batched_run, calm_at, deed_at, row_then, settles_all, some_batch, under_kept, was_done}
-use Rattle.pulsar_laws.proofs.Drawing.{Every, here}
-use Rattle.pulsar_laws.proofs.Follow.{same_is}
+use Rattle.pulsar_laws.proofs.Batched.{BatchSo, GoesOn, IsSending, StepTo}
+use Rattle.pulsar_laws.proofs.Drawing.{here}
 use Rattle.pulsar_laws.proofs.Frames.{IsDrawn, draw_by, is_drawn, message_more, recall_plain}
 use Rattle.pulsar_laws.proofs.Framing.{DeedSo, MessageSo, NewsSo, StepSo, Versioned, drew_told, is_message, step_so}
 use Rattle.pulsar_laws.proofs.Granted.{granted_by, grants_given}
-use Rattle.pulsar_laws.proofs.Natures.{StaysSo}
 use Rattle.pulsar_laws.proofs.Owned.{starts_own}
 use Rattle.pulsar_laws.proofs.Receipts.{Split, run_behind, split_in}
 use Rattle.pulsar_laws.proofs.TurnActs.{changed_at}
 use Rattle.pulsar_laws.proofs.TurnRun.{own_in_turn}
-
-none_some : {A : Type 0} {x : A} → None ≡ Some x → ⊥
-none_some {A} {x} h = cc
 
 -- it was told this version with its turn
 abbrev TurnTold : List Entry → ℕ → Option (List ℕ) → Type 0
@@ -79,9 +47,6 @@ FrameSo o log n e b = Unit {0}
 abbrev PlanSo : Options → List Entry → ℕ → Plan → Type 0
 PlanSo o log n (Batching w e b) = FrameSo o log n e b
 PlanSo o log n p = Unit {0}
-
-abbrev Framed : Options → List Entry → Type 0
-Framed o log = (n : ℕ) (p : Plan) → (view o log).stand (Producer n) ≡ Some p → PlanSo o log n p
 
 -- behind a further entry
 frame_more : (o : Options) (log : List Entry) (x : Entry) (n : ℕ) (w : Ways) (e : Errand) (b : Batches) →
@@ -144,79 +109,31 @@ module _ (o : Options) (log : List Entry) (n : ℕ) (u : Outcome) (run : IsRun o
       subst (λ y. FrameSo o later n y b) (sym g.1) (frame_to s.ways s.errand s.state b a s.prompt f g.2)
   plan_to p _ a s k g = absurd g
 
-  told_frame : Batched o log → Framed o log → (p : Plan) → (view o later).stand (Producer n) ≡ Some p → PlanSo o later n p
-  told_frame j k p h = by ((view o log).stand (Producer n)) refl
-    where
-      to : (q : Plan) (s : StandsSo o log n q) → PlanSo o log n q → (x : Turn Plan Verdict) → StaysSo (BatchSo s.ways s.errand s.state u) x →
-          stays x ≡ Some p → PlanSo o later n p
-      to q s f (Gives verdict) g i = absurd (none_some i)
-      to q s f (Stays r a) g i = subst (PlanSo o later n) (let e : Some r ≡ Some p = i in cc) (plan_to q r a s f g)
-
-      by : (row : Option Plan) → (view o log).stand (Producer n) ≡ row → PlanSo o later n p
-      by None e = absurd (none_some (sym (row_then o log n u run None e) ∙ h))
-      by (Some q) e =
-          let s = j n q e in
-          let g : StaysSo (BatchSo s.ways s.errand s.state u) (told q u) =
-          subst (λ x. StaysSo (BatchSo s.ways s.errand s.state u) (told x u)) (sym s.is_it) (batch_goes s.ways s.errand s.state u) in
-          to q s (k n q e) (told q u) g (sym (row_then o log n u run (Some q) e) ∙ h)
-
 -- ALONG A LOG
 
-told_then : (o : Options) (log : List Entry) (m : Notice) → IsRun o (Then (Told m) ∷ log) → Batched o log → Framed o log → Framed o (Then (Told m) ∷ log)
-told_then o log m run j k n p h = elim (cases_Bool (is_same (Producer n) m.who)) [
-  | inl e ↦ own e
-  | inr e ↦
-      (let g : (view o log).stand (Producer n) ≡ Some p =
-      sym (ap (λ c. cond c (stays_some (told_some ((view o log).stand (Producer n)) m.outcome)) ((view o log).stand (Producer n))) e) ∙ h in
-      plan_more o log (Then (Told m)) n p (λ calm. refl) (k n p g))
-]
+framed : (o : Options) (n : ℕ) (log : List Entry) (p : Plan) → IsRun o log → (view o log).stand (Producer n) ≡ Some p → PlanSo o log n p
+framed o n = stands_so o (Producer n) (IsRun o) (run_older o) (λ log p. PlanSo o log n p) more begun goes_on
   where
-    own : is_same (Producer n) m.who ≡ true → PlanSo o (Then (Told m) ∷ log) n p
-    own e =
-        let it : Told (notice (Producer n) m.outcome) ≡ Told m = ap (λ x. Told (notice x m.outcome)) (same_is (Producer n) m.who e) in
-        let r : IsRun o (Then (Told (notice (Producer n) m.outcome)) ∷ log) = subst (λ (x : Act). IsRun o (Then x ∷ log)) (sym it) run in
-        let g : (view o (Then (Told (notice (Producer n) m.outcome)) ∷ log)).stand (Producer n) ≡ Some p =
-        subst (λ (x : Act). (view o (Then x ∷ log)).stand (Producer n) ≡ Some p) (sym it) h in
-        subst (λ (x : Act). PlanSo o (Then x ∷ log) n p) it (told_frame o log n m.outcome r j k p g)
+    more : (x : Entry) (log : List Entry) (p : Plan) → moves (Producer n) x ≡ false → IsRun o (x ∷ log) → (view o log).stand (Producer n) ≡ Some p →
+        PlanSo o log n p → PlanSo o (x ∷ log) n p
+    more (Then (Does who a)) log p m run s k =
+        plan_more o log (Then (Does who a)) n p (λ calm. under_kept o log who a n p run (batched_run o log run.0) s calm) k
+    more (Then (Starts who q)) log p m run s k = plan_more o log (Then (Starts who q)) n p (λ calm. ap (λ c. cond c None (under_way o n log)) m) k
+    more (Then a) log p m run s k = plan_more o log (Then a) n p (λ calm. refl) k
+    more (Begins e) log p m run s k = plan_more o log (Begins e) n p (λ calm. refl) k
 
-starts_then : (o : Options) (log : List Entry) (who : Who) (q : Procedure) → IsRun o (Then (Starts who q) ∷ log) → Framed o log →
-    Framed o (Then (Starts who q) ∷ log)
-starts_then o log who q run k n p h = elim (cases_Bool (is_same (Producer n) who)) [
-  | inl e ↦ own e
-  | inr e ↦
-      (let g : (view o log).stand (Producer n) ≡ Some p = sym (ap (λ c. cond c (stays (begins q)) ((view o log).stand (Producer n))) e) ∙ h in
-      plan_more o log (Then (Starts who q)) n p (λ calm. ap (λ c. cond c None (under_way o n log)) e) (k n p g))
-]
-  where
-    own : is_same (Producer n) who ≡ true → PlanSo o (Then (Starts who q) ∷ log) n p
-    own e =
-        let it : Starts (Producer n) q ≡ Starts who q = ap (λ x. Starts x q) (same_is (Producer n) who e) in
-        let r : IsRun o (Then (Starts (Producer n) q) ∷ log) = subst (λ (x : Act). IsRun o (Then x ∷ log)) (sym it) run in
-        let s = starts_own o log n q r in
-        let g : stays (begins q) ≡ Some p = sym (ap (λ c. cond c (stays (begins q)) ((view o log).stand (Producer n))) e) ∙ h in
-        let f : Some (Batching s.0 (record { producer = n; block = s.1 }) batching.Resting) ≡ Some p = sym (ap (λ x. stays (begins x)) s.2) ∙ g in
-        let i : Batching s.0 (record { producer = n; block = s.1 }) batching.Resting ≡ p = cc in
-        subst (PlanSo o (Then (Starts who q) ∷ log) n) i tt
+    begun : (log : List Entry) (q : Procedure) (p : Plan) (a : Action) → IsRun o (Then (Starts (Producer n) q) ∷ log) → begins q ≡ Stays p a →
+        PlanSo o (Then (Starts (Producer n) q) ∷ log) n p
+    begun log q p a run e =
+        let s = starts_own o log n q run in
+        let b : Plan = Batching s.0 (record { producer = n; block = s.1 }) batching.Resting in
+        let f : Stays b Rest ≡ Stays p a = ap begins (sym s.2) ∙ e in
+        subst (PlanSo o (Then (Starts (Producer n) q) ∷ log) n) (let i : b ≡ p = cc in i) tt
 
-does_then : (o : Options) (log : List Entry) (who : Who) (a : Action) → IsRun o (Then (Does who a) ∷ log) → Every (Batched o) log → Framed o log →
-    Framed o (Then (Does who a) ∷ log)
-does_then o log who a run j k n p h = plan_more o log (Then (Does who a)) n p (λ calm. under_kept o log who a n p run j h calm) (k n p h)
-
-then_framed : (o : Options) (log : List Entry) (a : Act) → IsRun o (Then a ∷ log) → Every (Framed o) log → Framed o (Then a ∷ log)
-then_framed o log (Does who a) run k = does_then o log who a run (batched_run o log run.0) (here (Framed o) log k)
-then_framed o log (Told m) run k = told_then o log m run (here (Batched o) log (batched_run o log run.0)) (here (Framed o) log k)
-then_framed o log (Starts who q) run k = starts_then o log who q run (here (Framed o) log k)
-then_framed o log a run k = λ n p h. plan_more o log (Then a) n p (λ calm. refl) (here (Framed o) log k n p h)
-
-framed_run : (o : Options) (log : List Entry) → IsRun o log → Every (Framed o) log
-framed_run o [] run = λ n p h. absurd (none_some h)
-framed_run o (Begins e ∷ log) run =
-    let k = framed_run o log run.0 in (
-      λ n p h. plan_more o log (Begins e) n p (λ calm. refl)
-          (here (Framed o) log k n p (sym (begun_same (λ v. v.stand (Producer n)) e (view o log) refl) ∙ h)),
-      k,
-    )
-framed_run o (Then a ∷ log) run = let k = framed_run o log run.0 in (then_framed o log a run k, k)
+    goes_on : (log : List Entry) (b : Plan) (u : Outcome) (p : Plan) (a : Action) → IsRun o (Then (Told (notice (Producer n) u)) ∷ log) →
+        (view o log).stand (Producer n) ≡ Some b → PlanSo o log n b → told b u ≡ Stays p a → PlanSo o (Then (Told (notice (Producer n) u)) ∷ log) n p
+    goes_on log b u p a run s k e =
+        let j = here (Batched o) log (batched_run o log run.0) n b s in plan_to o log n u run b p a j k (turn_so o log n u b p a j e)
 
 -- AS IT DOES SOMETHING within a send
 
@@ -255,7 +172,7 @@ in_send o log n a inner run = elim (deed_at o log n a run (batched_run o log run
     at d = by d.was.state d.state frame d.step d.stands
       where
         frame : FrameSo o d.older n d.was.errand d.was.state
-        frame = subst (PlanSo o d.older n) d.was.is_it (here (Framed o) d.older (framed_run o d.older d.run.0) n d.before d.stood)
+        frame = subst (PlanSo o d.older n) d.was.is_it (framed o n d.older d.before d.run.0 d.stood)
 
         sends : (ns : List Member) (j : ℕ) (old : Send) (ms : List Member) (c : ℕ) (s : Send) → FrameSo o d.older n d.was.errand (batching.Sending ns j old) →
             GoesOn d.was.ways d.was.errand old s a d.outcome →

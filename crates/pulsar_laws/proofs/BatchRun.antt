@@ -1,54 +1,28 @@
 -- The batches of a topic producer along a log.
-use Rattle.std.proofs.Common.{◌≡◌, ◌⊎◌, inl, inr, ◌∙◌, sym, ap, subst, ℕ, ◌==◌, ◌+◌, ◌≤◌, arith, List, [], ◌∷◌, ◌++◌, refl, length, map, Bool, true, false, ◌&&◌, cond, Option, Some, None, Ok}
+use Rattle.std.proofs.Common.{◌≡◌, ◌⊎◌, inl, inr, ◌∙◌, sym, ap, subst, ℕ, ◌+◌, List, [], ◌∷◌, ◌++◌, refl, length, map, Bool, true, false, cond, Option, Some, None, Ok}
 use Rattle.std.proofs.lemmas.Bool.{cases_Bool}
-use Rattle.std.proofs.lemmas.Bool.Decides.{nat_tests}
-use Rattle.pulsar_run.specs.Run.{rest}
+use Rattle.pulsar_laws.proofs.ProducerArcs.{SendArc, draws}
+use Rattle.pulsar_laws.proofs.Arcs.{Arc, BatchArc, batch_cuts, batch_sends, batch_settles, batch_takes, batches_go, settled_takes, taken_settles, told_arc, StaysSo}
+use Rattle.pulsar_laws.proofs.Batchers.{batcher_stands, is_batcher}
+use Rattle.pulsar_laws.proofs.Standing.{moves, run_older, stands_so}
+use Rattle.pulsar_laws.proofs.Drawing.{every_run, Every, here}
+use Rattle.pulsar_laws.proofs.ActWords.{Act, Action, Does, Heard, is_same, Notice, Outcome, Part, Procedure, Producer, Rest, Starts, TakeBatch, TellAll, Told, Verdict, Who}
+use Rattle.pulsar_laws.proofs.PlanWords.{action_of, Batches, Batching, begins, Deed, Errand, Gives, Member, News, overrides, Plan, Sending as Send, Stays, told, told_to, Turn, Ways}
+use Rattle.pulsar_laws.proofs.RunWords.{agenda, at_once, Begins, does, Entry, first, follows, follows_some, IsRun, notice, Options, performs, rest, stays, stays_some, Then, told_some, view, View}
 use Rattle.pulsar_messages.specs.Content.{ProducerMessageValues}
-use Rattle.pulsar_plans.specs.declared.turn.Ways.{Ways}
-use Rattle.pulsar_producer.specs.Batch.{batch_of, cut_report, entries_in, member_of, reports}
-use Rattle.pulsar_producer.specs.Storage.{Item}
-use Rattle.pulsar_producer.specs.declared.batch.Member.{Member}
-use Rattle.pulsar_producer.specs.declared.batching.Batching.{Batching as Batches}
+use Rattle.pulsar_outgoing.specs.Batch.{batch_of, cut_report, entries_in, member_of, reports}
+use Rattle.pulsar_outgoing.specs.Storage.{Item}
 use Rattle.pulsar_producer.specs.declared.batching.Batching.TheVariants as batching
-use Rattle.pulsar_producer.specs.declared.deed.News.TheVariants as news
-use Rattle.pulsar_producer.specs.declared.sending.Errand.{Errand}
-use Rattle.pulsar_producer.specs.declared.sending.Sending.{Sending as Send}
-use Rattle.pulsar_calls.specs.declared.act.Act.{Act}
-use Rattle.pulsar_calls.specs.declared.act.Act.TheVariants.{Starts, Told, Does}
-use Rattle.pulsar_calls.specs.declared.act.Action.{Action}
-use Rattle.pulsar_calls.specs.declared.act.Action.TheVariants.{TakeBatch, TellAll, Rest}
-use Rattle.pulsar_calls.specs.declared.act.Notice.{Notice}
-use Rattle.pulsar_calls.specs.declared.act.Outcome.{Outcome}
+use Rattle.pulsar_outgoing.specs.declared.news.News.TheVariants as news
 use Rattle.pulsar_calls.specs.declared.act.Outcome.TheVariants as outcome
-use Rattle.pulsar_calls.specs.declared.act.Part.{Part}
-use Rattle.pulsar_calls.specs.declared.act.Procedure.{Procedure}
-use Rattle.pulsar_calls.specs.declared.act.Procedure.TheVariants as procedure
-use Rattle.pulsar_calls.specs.declared.act.Verdict.{Verdict}
-use Rattle.pulsar_calls.specs.declared.act.Who.{Who}
-use Rattle.pulsar_calls.specs.declared.act.Who.TheVariants.{Producer}
-use Rattle.pulsar_procedures.specs.declared.plan.Plan.{Plan}
-use Rattle.pulsar_procedures.specs.declared.plan.Plan.TheVariants.{Batching}
-use Rattle.pulsar_procedures.specs.declared.plan.Turn.{Turn}
-use Rattle.pulsar_procedures.specs.declared.plan.Turn.TheVariants.{Stays, Gives}
 use Rattle.pulsar_laws.specs.BatchLaws.{BatchesOneByOne, MayTake, under_way}
-use Rattle.pulsar_calls.specs.Content.{Heard}
-use Rattle.pulsar_procedures.specs.Plan.{begins, overrides, told, told_to}
 use Rattle.pulsar_producer_table.specs.Producers.{next_batch_at}
-use Rattle.pulsar_tables.specs.Rules.{at_once, does, follows, follows_some, notice, performs}
-use Rattle.pulsar_agenda.specs.Run.{Entry, Begins, Then, IsRun, agenda, first, first_of, view}
-use Rattle.pulsar_tables.specs.View.{Options, View, stays, stays_some, told_some}
-use Rattle.pulsar_calls.specs.Who.{is_same}
-use Rattle.pulsar_agenda.proofs.Acts.{begun_same}
-use Rattle.pulsar_laws.proofs.Batched.{BatchSo, IsRested, IsSending, IsSettling, IsTaking, StepTo, batch_goes, is_batch, takes_where, tells_where}
-use Rattle.pulsar_laws.proofs.Drawing.{Every, here}
+use Rattle.pulsar_agenda.specs.Agenda.{first_of}
+use Rattle.pulsar_laws.proofs.Batched.{BatchSo, IsRested, IsSending, IsSettling, IsTaking, StepTo, batch_goes, is_batch, takes_where}
 use Rattle.pulsar_laws.proofs.Follow.{same_is}
 use Rattle.pulsar_laws.proofs.Granted.{BeginsSo, IsLedSo, does_from}
-use Rattle.pulsar_laws.proofs.Natures.{StaysSo}
 use Rattle.pulsar_laws.proofs.Owned.{starts_own}
 use Rattle.pulsar_laws.proofs.Same.{same_self}
-
-none_some : {A : Type 0} {x : A} → None ≡ Some x → ⊥
-none_some {A} {x} h = cc
 
 -- WHAT IS DONE AT ONCE
 
@@ -159,7 +133,8 @@ pub record WasDone (o : Options) (log : List Entry) (n : ℕ) (b : Batches) (u :
 pub was_done : (o : Options) (log : List Entry) (n : ℕ) (b : Batches) (u : Outcome) → IsPrompt o log n b →
     first (agenda o log) ≡ Some (Told (notice (Producer n) u)) → WasDone o log n b u
 was_done o log n b u (inl due) fits =
-    let e : Does (Producer n) due.0 ≡ Told (notice (Producer n) u) = fits_first o log (Does (Producer n) due.0) (Told (notice (Producer n) u)) due.2 due.3 fits in
+    let e : Does (Producer n) due.0 ≡ Told (notice (Producer n) u) = fits_first o log (Does (Producer n) due.0) (Told (notice (Producer n) u)) due.2 due.3 fits
+    in
     let f : false ≡ true = ap is_told e in
     absurd cc
 was_done o log n b u (inr d) fits =
@@ -168,7 +143,8 @@ was_done o log n b u (inr d) fits =
     record { action = d.0; deed = d.1; older = d.2; there = d.3; said = sym (ap (outcome_in u) e) }
 
 -- the batch that was there is under way
-took_now : (o : Options) (log : List Entry) (n : ℕ) (u : Outcome) (k : WasDone o log n batching.Taking u) → u ≡ outcome.Granted (news.HasBatch (under_way o n log))
+took_now : (o : Options) (log : List Entry) (n : ℕ) (u : Outcome) (k : WasDone o log n batching.Taking u) →
+    u ≡ outcome.Granted (news.HasBatch (under_way o n log))
 took_now o log n u k =
     let a : k.action ≡ TakeBatch n = k.deed in
     let row = next_batch_at ((view o k.older).producers.topics n) in
@@ -208,6 +184,12 @@ none_now o log n u k =
     )
 
 -- IT IS TOLD SOMETHING
+
+-- what one that stands so does then
+pub turn_so : (o : Options) (log : List Entry) (n : ℕ) (u : Outcome) (p q : Plan) (a : Action) (s : StandsSo o log n p) → told p u ≡ Stays q a →
+    BatchSo s.ways s.errand s.state u q a
+turn_so o log n u p q a s e =
+    subst (StaysSo (BatchSo s.ways s.errand s.state u)) (ap (λ x. told x u) (sym s.is_it) ∙ e) (batch_goes s.ways s.errand s.state u)
 
 pub settles_all : (w : Ways) (e : Errand) (a : Action) (b : Batches) (u : Outcome) → IsSettling w e a b u → (ns : List Notice) × (a ≡ TellAll ns)
 settles_all w e a batching.Resting u k = absurd k
@@ -280,22 +262,6 @@ module _ (o : Options) (log : List Entry) (n : ℕ) (u : Outcome) (run : IsRun o
       }
   turn_then p _ a s e t g = absurd g
 
-  told_stands : Batched o log → (p : Plan) → (view o later).stand (Producer n) ≡ Some p → StandsSo o later n p
-  told_stands k p h = by ((view o log).stand (Producer n)) refl
-    where
-      to : (q : Plan) (s : StandsSo o log n q) → (view o log).stand (Producer n) ≡ Some q → (x : Turn Plan Verdict) → told q u ≡ x →
-          StaysSo (BatchSo s.ways s.errand s.state u) x → stays x ≡ Some p → StandsSo o later n p
-      to q s e (Gives verdict) t g i = absurd (none_some i)
-      to q s e (Stays r a) t g i = subst (StandsSo o later n) (let f : Some r ≡ Some p = i in cc) (turn_then q r a s e t g)
-
-      by : (row : Option Plan) → (view o log).stand (Producer n) ≡ row → StandsSo o later n p
-      by None e = absurd (none_some (sym (row_then None e) ∙ h))
-      by (Some q) e =
-          let s = k n q e in
-          let g : StaysSo (BatchSo s.ways s.errand s.state u) (told q u) =
-          subst (λ x. StaysSo (BatchSo s.ways s.errand s.state u) (told x u)) (sym s.is_it) (batch_goes s.ways s.errand s.state u) in
-          to q s e (told q u) refl g (sym (row_then (Some q) e) ∙ h)
-
 -- IT BEGINS
 
 starts_stands : (o : Options) (log : List Entry) (n : ℕ) (p : Procedure) (q : Plan) → IsRun o (Then (Starts (Producer n) p) ∷ log) → stays (begins p) ≡ Some q →
@@ -362,9 +328,7 @@ deed_at o log n a run k = elim (does_from o log (Producer n) a run) [ inl b ↦ 
         let r : IsRun o (Then (Told (notice (Producer n) l.outcome)) ∷ l.older) = subst (IsRun o) l.is_there run.0 in
         let every : Every (Batched o) (Then (Told (notice (Producer n) l.outcome)) ∷ l.older) = subst (Every (Batched o)) l.is_there k in
         let s = here (Batched o) l.older every.1 n l.before l.stood in
-        let g : StaysSo (BatchSo s.ways s.errand s.state l.outcome) (told l.before l.outcome) =
-        subst (λ x. StaysSo (BatchSo s.ways s.errand s.state l.outcome) (told x l.outcome)) (sym s.is_it) (batch_goes s.ways s.errand s.state l.outcome) in
-        let b : BatchSo s.ways s.errand s.state l.outcome l.plan a = subst (StaysSo (BatchSo s.ways s.errand s.state l.outcome)) l.leads g in
+        let b : BatchSo s.ways s.errand s.state l.outcome l.plan a = turn_so o l.older n l.outcome l.before l.plan a s l.leads in
         let now : (view o log).stand (Producer n) ≡ Some l.plan =
         ap (λ x. (view o x).stand (Producer n)) l.is_there ∙ row_then o l.older n l.outcome r (Some l.before) l.stood ∙ ap stays l.leads in
         from l s r l.plan b now
@@ -387,20 +351,42 @@ abbrev pub calm_at : Plan → Bool
 calm_at (Batching w e b) = is_calm b
 calm_at _ = false
 
-not_calm : (o : Options) (log : List Entry) (n : ℕ) (a : Action) → is_batch_deed a ≡ true → AtDeed o log n a → (p : Plan) →
-    (view o log).stand (Producer n) ≡ Some p → calm_at p ≡ false
-not_calm o log n a b d p h = by a b d.step
-  where
-    same : (q : Batches) → d.state ≡ q → is_calm q ≡ false → calm_at p ≡ false
-    same q e f =
-        let g : Some p ≡ Some (Batching d.was.ways d.was.errand d.state) = sym h ∙ d.stands in
-        let i : p ≡ Batching d.was.ways d.was.errand d.state = cc in
-        ap calm_at i ∙ ap is_calm e ∙ f
+-- where it does so, it is not calm
+send_deed : {w : Ways} {e : Errand} {s q : Send} {y : News} {d : Deed} → SendArc w e s y q d → is_batch_deed (action_of d) ≡ false
+send_deed draws = refl
+send_deed _ = refl
 
-    by : (x : Action) → is_batch_deed x ≡ true → StepTo d.was.ways d.was.errand d.was.state d.outcome d.state x → calm_at p ≡ false
-    by (TakeBatch m) b k = same batching.Taking (takes_where d.was.ways d.was.errand d.was.state d.outcome d.state m k).1 refl
-    by (TellAll ns) b k = same batching.Settling (tells_where d.was.ways d.was.errand d.was.state d.outcome d.state ns k).0 refl
-    by _ b k = absurd cc
+batch_deed : {w : Ways} {e : Errand} {b q : Batches} {y : News} {d : Deed} → BatchArc w e b y q d → is_batch_deed (action_of d) ≡ true → is_calm q ≡ false
+batch_deed batch_takes h = refl
+batch_deed (taken_settles c f) h = refl
+batch_deed (batch_settles f) h = refl
+batch_deed settled_takes h = refl
+batch_deed (batch_sends k) h = (let f : true ≡ false = sym h ∙ send_deed k in absurd cc)
+batch_deed _ h = absurd cc
+
+arc_deed : {p q : Plan} {u : Outcome} {a : Action} → Arc p u q a → is_batcher p ≡ true → is_batch_deed a ≡ true → calm_at q ≡ false
+arc_deed (batches_go d k) is h = batch_deed k h
+arc_deed (batch_cuts rs i k) is h = refl
+arc_deed _ is h = absurd cc
+
+not_calm : (o : Options) (log : List Entry) (n : ℕ) (a : Action) (p : Plan) → IsRun o (Then (Does (Producer n) a) ∷ log) →
+    (view o log).stand (Producer n) ≡ Some p → is_batch_deed a ≡ true → calm_at p ≡ false
+not_calm o log n a p run h b = elim (does_from o log (Producer n) a run) [ inl k ↦ absurd (begun k) | inr l ↦ led l ]
+  where
+    begun : BeginsSo o log (Producer n) a → ⊥
+    begun k =
+        let s = starts_own o k.older n k.procedure (subst (IsRun o) k.is_there run.0) in
+        let f : Stays (Batching s.0 (record { producer = n; block = s.1 }) batching.Resting) Rest ≡ Stays k.plan a = sym (ap begins s.2) ∙ k.leads in
+        let g : true ≡ false = sym b ∙ ap is_batch_deed (sym (ap (turn_action a) f)) in
+        cc
+
+    led : IsLedSo o log (Producer n) a → calm_at p ≡ false
+    led l =
+        let r : IsRun o (Then (Told (notice (Producer n) l.outcome)) ∷ l.older) = subst (IsRun o) l.is_there run.0 in
+        let now : Some p ≡ Some l.plan =
+        sym h ∙ ap (λ x. (view o x).stand (Producer n)) l.is_there ∙ row_then o l.older n l.outcome r (Some l.before) l.stood ∙ ap stays l.leads in
+        let same : p ≡ l.plan = cc in
+        ap calm_at same ∙ arc_deed (told_arc l.leads) (batcher_stands o l.older n l.before r.0 l.stood) b
 
 under_same : (o : Options) (log : List Entry) (n : ℕ) (who : Who) (a : Action) → (is_same (Producer n) who ≡ true → is_batch_deed a ≡ true → ⊥) →
     under_way o n (Then (Does who a) ∷ log) ≡ under_way o n log
@@ -409,20 +395,22 @@ under_same o log n who (TellAll ns) other = elim (cases_Bool (is_same (Producer 
 under_same o log n who _ other = refl
 
 -- where a topic producer rests or sends it neither takes a batch nor settles one
-pub never_both : (o : Options) (log : List Entry) (who : Who) (a : Action) (n : ℕ) (p : Plan) → IsRun o (Then (Does who a) ∷ log) → Every (Batched o) log →
+never_calm : (o : Options) (log : List Entry) (who : Who) (a : Action) (n : ℕ) (p : Plan) → IsRun o (Then (Does who a) ∷ log) →
     (view o log).stand (Producer n) ≡ Some p → calm_at p ≡ true → is_same (Producer n) who ≡ true → is_batch_deed a ≡ true → ⊥
-never_both o log who a n p run k h calm same b =
+never_calm o log who a n p run h calm same b =
     let r : IsRun o (Then (Does (Producer n) a) ∷ log) =
     subst (λ (w : Who). IsRun o (Then (Does w a) ∷ log)) (sym (same_is (Producer n) who same)) run in
-    elim (deed_at o log n a r k) [
-      | inl d ↦ (let f : true ≡ false = sym calm ∙ not_calm o log n a b d p h in cc)
-      | inr rests ↦ (let f : true ≡ false = sym b ∙ ap is_batch_deed rests in cc)
-    ]
+    let f : true ≡ false = sym calm ∙ not_calm o log n a p r h b in
+    cc
+
+pub never_both : (o : Options) (log : List Entry) (who : Who) (a : Action) (n : ℕ) (p : Plan) → IsRun o (Then (Does who a) ∷ log) → Every (Batched o) log →
+    (view o log).stand (Producer n) ≡ Some p → calm_at p ≡ true → is_same (Producer n) who ≡ true → is_batch_deed a ≡ true → ⊥
+never_both o log who a n p run k h calm same b = never_calm o log who a n p run h calm same b
 
 -- what one does leaves the batch under way then
 pub under_kept : (o : Options) (log : List Entry) (who : Who) (a : Action) (n : ℕ) (p : Plan) → IsRun o (Then (Does who a) ∷ log) → Every (Batched o) log →
     (view o log).stand (Producer n) ≡ Some p → calm_at p ≡ true → under_way o n (Then (Does who a) ∷ log) ≡ under_way o n log
-under_kept o log who a n p run k h calm = under_same o log n who a (never_both o log who a n p run k h calm)
+under_kept o log who a n p run k h calm = under_same o log n who a (never_calm o log who a n p run h calm)
 
 -- what is seen of the batch under way stays
 state_kept : (o : Options) (log : List Entry) (e : Entry) (n : ℕ) (b : Batches) → (is_calm b ≡ true → under_way o n (e ∷ log) ≡ under_way o n log) →
@@ -443,7 +431,8 @@ module _ (o : Options) (log : List Entry) (n : ℕ) where
       ap (λ y. at_once (view o log) y ++ left) (sym e) ∙ ap (λ ys. ys ++ left) (performs_so (view o log) n b due.0 due.1) in
       (due.0, due.1, log, ap (λ y. y ∷ log) x, left, h)
 
-  does_prompt : (who : Who) (a : Action) → first (agenda o log) ≡ Some (Does who a) → (b : Batches) → PromptSo o log n b → PromptSo o (Then (Does who a) ∷ log) n b
+  does_prompt : (who : Who) (a : Action) → first (agenda o log) ≡ Some (Does who a) → (b : Batches) → PromptSo o log n b →
+      PromptSo o (Then (Does who a) ∷ log) n b
   does_prompt who a fits batching.Resting p = tt
   does_prompt who a fits (batching.Sending ms c s) p = tt
   does_prompt who a fits batching.Taking p = elim p [
@@ -482,131 +471,64 @@ module _ (o : Options) (log : List Entry) (n : ℕ) where
 
 -- ALONG A LOG
 
-does_then : (o : Options) (log : List Entry) (who : Who) (a : Action) → IsRun o (Then (Does who a) ∷ log) → Every (Batched o) log →
-    Batched o (Then (Does who a) ∷ log)
-does_then o log who a run k n p h =
-    let s = here (Batched o) log k n p h in
-    record {
-      ways = s.ways;
-      errand = s.errand;
-      state = s.state;
-      is_it = s.is_it;
-      own = s.own;
-      prompt = does_prompt o log n who a run.1 s.state s.prompt;
-      so = state_kept o log (Then (Does who a)) n s.state (λ calm. under_kept o log who a n p run k h (ap calm_at s.is_it ∙ calm)) s.so;
-    }
+-- one that stands as before
+stands_on : (o : Options) (log : List Entry) (x : Entry) (n : ℕ) (p : Plan) (s : StandsSo o log n p) → PromptSo o (x ∷ log) n s.state →
+    (is_calm s.state ≡ true → under_way o n (x ∷ log) ≡ under_way o n log) → StandsSo o (x ∷ log) n p
+stands_on o log x n p s prompt same = record {
+  ways = s.ways;
+  errand = s.errand;
+  state = s.state;
+  is_it = s.is_it;
+  own = s.own;
+  prompt = prompt;
+  so = state_kept o log x n s.state same s.so;
+}
 
-told_then : (o : Options) (log : List Entry) (m : Notice) → IsRun o (Then (Told m) ∷ log) → Batched o log → Batched o (Then (Told m) ∷ log)
-told_then o log m run k n p h = elim (cases_Bool (is_same (Producer n) m.who)) [
-  | inl e ↦ own e
-  | inr e ↦ other e
-]
-  where
-    own : is_same (Producer n) m.who ≡ true → StandsSo o (Then (Told m) ∷ log) n p
-    own e =
-        let it : Told (notice (Producer n) m.outcome) ≡ Told m = ap (λ x. Told (notice x m.outcome)) (same_is (Producer n) m.who e) in
-        let r : IsRun o (Then (Told (notice (Producer n) m.outcome)) ∷ log) = subst (λ (x : Act). IsRun o (Then x ∷ log)) (sym it) run in
-        let g : (view o (Then (Told (notice (Producer n) m.outcome)) ∷ log)).stand (Producer n) ≡ Some p =
-        subst (λ (x : Act). (view o (Then x ∷ log)).stand (Producer n) ≡ Some p) (sym it) h in
-        subst (λ (x : Act). StandsSo o (Then x ∷ log) n p) it (told_stands o log n m.outcome r k p g)
+module _ (o : Options) (n : ℕ) where
+  abbrev At : List Entry → Plan → Type 0
+  At log p = StandsSo o log n p
 
-    not_told : is_same (Producer n) m.who ≡ false → (u : Outcome) → Told m ≡ Told (notice (Producer n) u) → ⊥
-    not_told e u q =
-        let f : m.who ≡ Producer n = ap (told_who (Producer n)) q in
-        let g : true ≡ false = sym (self_same n) ∙ ap (is_same (Producer n)) (sym f) ∙ e in
-        cc
+  quiet : (log : List Entry) (e : Heard) → first (agenda o log) ≡ None → (b : Batches) → PromptSo o log n b → PromptSo o (Begins e ∷ log) n b
+  quiet log e rests b = by b
+    where
+      never : (b : Batches) → IsPrompt o log n b → ⊥
+      never b (inl due) = none_first o log (Does (Producer n) due.0) due.2 due.3 rests
+      never b (inr d) = none_first o log (Told (notice (Producer n) (says (view o d.2) d.0))) d.4 d.5 rests
 
-    other : is_same (Producer n) m.who ≡ false → StandsSo o (Then (Told m) ∷ log) n p
-    other e =
-        let g : (view o log).stand (Producer n) ≡ Some p =
-        sym (ap (λ c. cond c (stays_some (told_some ((view o log).stand (Producer n)) m.outcome)) ((view o log).stand (Producer n))) e) ∙ h in
-        let s = k n p g in
-        record {
-          ways = s.ways;
-          errand = s.errand;
-          state = s.state;
-          is_it = s.is_it;
-          own = s.own;
-          prompt = other_prompt o log n (Told m) run.1 refl (not_told e) s.state s.prompt;
-          so = state_kept o log (Then (Told m)) n s.state (λ calm. refl) s.so;
-        }
+      by : (b : Batches) → PromptSo o log n b → PromptSo o (Begins e ∷ log) n b
+      by batching.Resting q = tt
+      by (batching.Sending ms c x) q = tt
+      by batching.Taking q = absurd (never batching.Taking q)
+      by batching.Settling q = absurd (never batching.Settling q)
 
-starts_then : (o : Options) (log : List Entry) (who : Who) (q : Procedure) → IsRun o (Then (Starts who q) ∷ log) → Batched o log →
-    Batched o (Then (Starts who q) ∷ log)
-starts_then o log who q run k n p h = elim (cases_Bool (is_same (Producer n) who)) [
-  | inl e ↦ own e
-  | inr e ↦ other e
-]
-  where
-    own : is_same (Producer n) who ≡ true → StandsSo o (Then (Starts who q) ∷ log) n p
-    own e =
-        let it : Starts (Producer n) q ≡ Starts who q = ap (λ x. Starts x q) (same_is (Producer n) who e) in
-        let r : IsRun o (Then (Starts (Producer n) q) ∷ log) = subst (λ (x : Act). IsRun o (Then x ∷ log)) (sym it) run in
-        let g : stays (begins q) ≡ Some p = sym (ap (λ c. cond c (stays (begins q)) ((view o log).stand (Producer n))) e) ∙ h in
-        subst (λ (x : Act). StandsSo o (Then x ∷ log) n p) it (starts_stands o log n q p r g)
+  not_told : (m : Notice) → is_same (Producer n) m.who ≡ false → (u : Outcome) → Told m ≡ Told (notice (Producer n) u) → ⊥
+  not_told m e u q =
+      let f : m.who ≡ Producer n = ap (told_who (Producer n)) q in
+      let g : true ≡ false = sym (self_same n) ∙ ap (is_same (Producer n)) (sym f) ∙ e in
+      cc
 
-    other : is_same (Producer n) who ≡ false → StandsSo o (Then (Starts who q) ∷ log) n p
-    other e =
-        let g : (view o log).stand (Producer n) ≡ Some p = sym (ap (λ c. cond c (stays (begins q)) ((view o log).stand (Producer n))) e) ∙ h in
-        let s = k n p g in
-        record {
-          ways = s.ways;
-          errand = s.errand;
-          state = s.state;
-          is_it = s.is_it;
-          own = s.own;
-          prompt = other_prompt o log n (Starts who q) run.1 refl (λ u x. (let f : false ≡ true = ap is_told x in cc)) s.state s.prompt;
-          so = state_kept o log (Then (Starts who q)) n s.state (λ calm. ap (λ c. cond c None (under_way o n log)) e) s.so;
-        }
+  more : (x : Entry) (log : List Entry) (p : Plan) → moves (Producer n) x ≡ false → IsRun o (x ∷ log) → (view o log).stand (Producer n) ≡ Some p →
+      At log p → At (x ∷ log) p
+  more (Begins e) log p m run h s = stands_on o log (Begins e) n p s (quiet log e run.1 s.state s.prompt) (λ calm. refl)
+  more (Then (Does who a)) log p m run h s =
+      stands_on o log (Then (Does who a)) n p s (does_prompt o log n who a run.1 s.state s.prompt)
+      (λ calm. under_same o log n who a (never_calm o log who a n p run h (ap calm_at s.is_it ∙ calm)))
+  more (Then (Told x)) log p m run h s =
+      stands_on o log (Then (Told x)) n p s (other_prompt o log n (Told x) run.1 refl (not_told x m) s.state s.prompt) (λ calm. refl)
+  more (Then (Starts who q)) log p m run h s =
+      stands_on o log (Then (Starts who q)) n p s
+      (other_prompt o log n (Starts who q) run.1 refl (λ u x. (let f : false ≡ true = ap is_told x in cc)) s.state s.prompt)
+      (λ calm. ap (λ c. cond c None (under_way o n log)) m)
+  more (Then a) log p m run h s =
+      stands_on o log (Then a) n p s (other_prompt o log n a run.1 refl (λ u x. (let f : false ≡ true = ap is_told x in cc)) s.state s.prompt) (λ calm. refl)
 
-plain_then : (o : Options) (log : List Entry) (a : Act) → IsRun o (Then a ∷ log) → Batched o log →
-    ((n : ℕ) → (view o (Then a ∷ log)).stand (Producer n) ≡ (view o log).stand (Producer n)) → is_does a ≡ false → is_told a ≡ false →
-    ((n : ℕ) → under_way o n (Then a ∷ log) ≡ under_way o n log) → Batched o (Then a ∷ log)
-plain_then o log a run k same d t way n p h =
-    let s = k n p (sym (same n) ∙ h) in
-    record {
-      ways = s.ways;
-      errand = s.errand;
-      state = s.state;
-      is_it = s.is_it;
-      own = s.own;
-      prompt = other_prompt o log n a run.1 d (λ u x. (let f : false ≡ true = sym t ∙ ap is_told x in cc)) s.state s.prompt;
-      so = state_kept o log (Then a) n s.state (λ calm. way n) s.so;
-    }
-
-begins_then : (o : Options) (log : List Entry) (e : Heard) → IsRun o (Begins e ∷ log) → Batched o log → Batched o (Begins e ∷ log)
-begins_then o log e run k n p h =
-    let s = k n p (sym (begun_same (λ v. v.stand (Producer n)) e (view o log) refl) ∙ h) in
-    record {
-      ways = s.ways;
-      errand = s.errand;
-      state = s.state;
-      is_it = s.is_it;
-      own = s.own;
-      prompt = quiet s.state s.prompt;
-      so = state_kept o log (Begins e) n s.state (λ calm. refl) s.so;
-    }
-  where
-    never : (b : Batches) → IsPrompt o log n b → ⊥
-    never b (inl due) = none_first o log (Does (Producer n) due.0) due.2 due.3 run.1
-    never b (inr d) = none_first o log (Told (notice (Producer n) (says (view o d.2) d.0))) d.4 d.5 run.1
-
-    quiet : (b : Batches) → PromptSo o log n b → PromptSo o (Begins e ∷ log) n b
-    quiet batching.Resting q = tt
-    quiet (batching.Sending ms c x) q = tt
-    quiet batching.Taking q = absurd (never batching.Taking q)
-    quiet batching.Settling q = absurd (never batching.Settling q)
-
-then_batched : (o : Options) (log : List Entry) (a : Act) → IsRun o (Then a ∷ log) → Every (Batched o) log → Batched o (Then a ∷ log)
-then_batched o log (Does who a) run k = does_then o log who a run k
-then_batched o log (Told m) run k = told_then o log m run (here (Batched o) log k)
-then_batched o log (Starts who q) run k = starts_then o log who q run (here (Batched o) log k)
-then_batched o log a run k = plain_then o log a run (here (Batched o) log k) (λ n. refl) refl refl (λ n. refl)
+  stands : (log : List Entry) (p : Plan) → IsRun o log → (view o log).stand (Producer n) ≡ Some p → At log p
+  stands =
+      stands_so o (Producer n) (IsRun o) (run_older o) At more (λ log q p a run e. starts_stands o log n q p run (ap stays e))
+      (λ log b u p a run h s e. turn_then o log n u run b p a s h e (turn_so o log n u b p a s e))
 
 pub batched_run : (o : Options) (log : List Entry) → IsRun o log → Every (Batched o) log
-batched_run o [] run = λ n p h. absurd (none_some h)
-batched_run o (Begins e ∷ log) run = let k = batched_run o log run.0 in (begins_then o log e run (here (Batched o) log k), k)
-batched_run o (Then a ∷ log) run = let k = batched_run o log run.0 in (then_batched o log a run k, k)
+batched_run o log run = every_run o (Batched o) (λ log r n p h. stands o n log p r h) log run
 
 -- ONE AFTER THE OTHER
 

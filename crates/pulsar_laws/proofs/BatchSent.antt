@@ -1,54 +1,27 @@
 -- The frame of a batch is queued at most once.
-use Rattle.std.proofs.Common.{◌≡◌, ◌⊎◌, inl, inr, ◌∙◌, sym, ap, subst, ℕ, ◌+◌, ◌≤◌, ◌==◌, arith, List, [], ◌∷◌, ◌++◌, refl, Bool, true, false, ◌&&◌, cond, Option, Some, None, Result, Ok, Err}
+use Rattle.std.proofs.Common.{◌≡◌, ◌⊎◌, inl, inr, ◌∙◌, sym, ap, subst, ℕ, ◌+◌, ◌≤◌, arith, List, [], ◌∷◌, refl, Bool, true, false, ◌&&◌, cond, Option, Some, None, Result, Ok, Err}
 use Rattle.std.proofs.lemmas.Bool.{cases_Bool}
-use Rattle.pulsar_session.specs.Failures.{Fault}
-use Rattle.pulsar_session.specs.Reply.{Reply as Content}
-use Rattle.pulsar_plans.specs.Plans as search
-use Rattle.pulsar_plans.specs.declared.turn.Ways.{Ways}
+use Rattle.pulsar_laws.proofs.ActWords.{Act, Action, Does, is_same, Notice, Outcome, Procedure, Producer, Starts, TakeBatch, Told, Verdict, Who}
+use Rattle.pulsar_laws.proofs.PlanWords.{Batches, Batching, begins, Deed, Errand, Gives, Member, News, news_of, Plan, Sending as Send, Stays, told, Turn, Ways}
+use Rattle.pulsar_laws.proofs.RunWords.{Begins, begun_same, Entry, IsRun, notice, Options, stays, stays_some, Then, told_some, view}
+use Rattle.pulsar_laws.proofs.LinkWords.{Fault}
+use Rattle.pulsar_frame.specs.Reply.{Reply as Content}
+use Rattle.pulsar_searches.specs.Plans as search
 use Rattle.pulsar_producer.specs.Plans as produce
 use Rattle.pulsar_producer.specs.Plans.{Sent, receipt}
-use Rattle.pulsar_producer.specs.declared.batch.Member.{Member}
-use Rattle.pulsar_producer.specs.declared.batching.Batching.{Batching as Batches}
 use Rattle.pulsar_producer.specs.declared.batching.Batching.TheVariants as batching
-use Rattle.pulsar_producer.specs.declared.deed.Deed.{Deed}
-use Rattle.pulsar_producer.specs.declared.deed.News.{News}
-use Rattle.pulsar_producer.specs.declared.deed.News.TheVariants as news
+use Rattle.pulsar_outgoing.specs.declared.news.News.TheVariants as news
 use Rattle.pulsar_producer.specs.declared.deed.Step.TheVariants as step
-use Rattle.pulsar_producer.specs.declared.sending.Errand.{Errand}
-use Rattle.pulsar_producer.specs.declared.sending.Sending.{Sending as Send}
 use Rattle.pulsar_producer.specs.declared.sending.Sending.TheVariants as send
-use Rattle.pulsar_calls.specs.declared.act.Act.{Act}
-use Rattle.pulsar_calls.specs.declared.act.Act.TheVariants.{Starts, Told, Does}
-use Rattle.pulsar_calls.specs.declared.act.Action.{Action}
-use Rattle.pulsar_calls.specs.declared.act.Action.TheVariants.{TakeBatch}
-use Rattle.pulsar_calls.specs.declared.act.Notice.{Notice}
-use Rattle.pulsar_calls.specs.declared.act.Outcome.{Outcome}
 use Rattle.pulsar_calls.specs.declared.act.Outcome.TheVariants as outcome
-use Rattle.pulsar_calls.specs.declared.act.Procedure.{Procedure}
-use Rattle.pulsar_calls.specs.declared.act.Verdict.{Verdict}
-use Rattle.pulsar_calls.specs.declared.act.Who.{Who}
-use Rattle.pulsar_calls.specs.declared.act.Who.TheVariants.{Producer}
-use Rattle.pulsar_procedures.specs.declared.plan.Plan.{Plan}
-use Rattle.pulsar_procedures.specs.declared.plan.Plan.TheVariants.{Batching}
-use Rattle.pulsar_procedures.specs.declared.plan.Turn.{Turn}
-use Rattle.pulsar_procedures.specs.declared.plan.Turn.TheVariants.{Stays, Gives}
 use Rattle.pulsar_laws.specs.BatchLaws.{BatchSentOnce, asks_batch, frames_queued}
-use Rattle.pulsar_procedures.specs.Plan.{begins, news_of, told}
 use Rattle.pulsar_laws.specs.ProducerLaws.{asks_in, is_queued}
-use Rattle.pulsar_tables.specs.Rules.{notice}
-use Rattle.pulsar_agenda.specs.Run.{Entry, Begins, Then, IsRun, view}
-use Rattle.pulsar_tables.specs.View.{Options, stays, stays_some, told_some}
-use Rattle.pulsar_calls.specs.Who.{is_same}
-use Rattle.pulsar_agenda.proofs.Acts.{begun_same}
 use Rattle.pulsar_laws.proofs.Batched.{BatchSo, IsSending, StepTo, batch_goes}
 use Rattle.pulsar_laws.proofs.BatchRun.{Batched, PromptSo, StandsSo, batched_run, row_then, self_same, was_done}
 use Rattle.pulsar_laws.proofs.Drawing.{here}
 use Rattle.pulsar_laws.proofs.Follow.{same_is}
-use Rattle.pulsar_laws.proofs.Natures.{StaysSo}
+use Rattle.pulsar_laws.proofs.Arcs.{StaysSo}
 use Rattle.pulsar_laws.proofs.Owned.{starts_own}
-
-none_some : {A : Type 0} {x : A} → None ≡ Some x → ⊥
-none_some {A} {x} h = cc
 
 -- how often it may be told so still
 abbrev left_in : Send → ℕ
@@ -99,7 +72,8 @@ sent_step w e (news.Told x) = received (search.verdict 7 x)
     received (Err f) = refl
 sent_step w e _ = refl
 
-queued_step : (w : Ways) (e : Errand) (s : Send) (u : Outcome) → (is_queued u && asks_in s) ≡ true → (left_step (produce.send_told w e s (news_of u)) ≡ 0) × (left_in s ≡ 1)
+queued_step : (w : Ways) (e : Errand) (s : Send) (u : Outcome) → (is_queued u && asks_in s) ≡ true →
+    (left_step (produce.send_told w e s (news_of u)) ≡ 0) × (left_in s ≡ 1)
 queued_step w e (send.Asked k) outcome.Queued h = (refl, refl)
 queued_step w e s outcome.Queued h = absurd cc
 queued_step w e s u h = absurd cc

@@ -1,52 +1,29 @@
 -- What those of a batch are told.
-use Rattle.std.proofs.Common.{◌≡◌, ◌⊎◌, inl, inr, ◌∙◌, sym, ap, subst, ℕ, ◌==◌, List, [], ◌∷◌, ◌++◌, refl, length, map, Bool, true, false, cond, Option, Some, None, Result, Ok, Err}
+use Rattle.std.proofs.Common.{◌≡◌, ◌⊎◌, inl, inr, ◌∙◌, sym, ap, subst, ℕ, List, ◌∷◌, refl, length, map, Bool, true, false, cond, Option, Some, None, Result, Ok, Err}
 use Rattle.std.proofs.lemmas.Bool.{cases_Bool}
-use Rattle.pulsar_run.specs.Laws.{In}
+use Rattle.pulsar_laws.proofs.ActWords.{Action, Ask, Does, Notice, Outcome, Producer, Rest, TellAll, Told}
+use Rattle.pulsar_laws.proofs.PlanWords.{Batches, Batching, Command, Errand, Fate, Heard, Looking, Making, News, news_in, news_of, overrides, SearchTurn, Sending as Send, Served, told_to, Ways}
+use Rattle.pulsar_laws.proofs.RunWords.{Cause, Entry, In, IsRun, notice, Options, Then}
+use Rattle.pulsar_laws.proofs.LinkWords.{Failure, Fault, Place, Reply}
 use Rattle.pulsar_messages.specs.Words as words
 use Rattle.pulsar_messages.specs.Content.{ProducerMessageValues}
-use Rattle.pulsar_session.specs.Failures.{Failure, Fault}
-use Rattle.pulsar_session.specs.Reply.{Reply as Content, is_body}
+use Rattle.pulsar_frame.specs.Reply.{Reply as Content, is_body}
 use Rattle.pulsar_wire.specs.declared.key.RequestKey.TheVariants as keys
-use Rattle.pulsar_link.specs.Messages.{Reply}
-use Rattle.pulsar_plans.specs.Address.{Place}
-use Rattle.pulsar_plans.specs.Plans as search
-use Rattle.pulsar_plans.specs.Replies.{unexpected}
-use Rattle.pulsar_plans.specs.declared.look.Looking.{Looking}
-use Rattle.pulsar_plans.specs.declared.making.Command.{Command}
-use Rattle.pulsar_plans.specs.declared.making.Making.{Making}
-use Rattle.pulsar_plans.specs.declared.making.Served.{Served}
-use Rattle.pulsar_plans.specs.declared.turn.Outcome.{Outcome as Heard}
-use Rattle.pulsar_plans.specs.declared.turn.Outcome.TheVariants as heard
-use Rattle.pulsar_plans.specs.declared.turn.Turn.{Turn as SearchTurn}
-use Rattle.pulsar_plans.specs.declared.turn.Turn.TheVariants as search_turn
-use Rattle.pulsar_plans.specs.declared.turn.Ways.{Ways}
-use Rattle.pulsar_producer.specs.Batch.{batch_of, cut_report, entries_in, member_of, receipt_fate, reports}
+use Rattle.pulsar_searches.specs.Plans as search
+use Rattle.pulsar_searches.specs.Replies.{unexpected}
+use Rattle.pulsar_searches.specs.declared.turn.Outcome.TheVariants as heard
+use Rattle.pulsar_searches.specs.declared.turn.Turn.TheVariants as search_turn
+use Rattle.pulsar_outgoing.specs.Batch.{batch_of, cut_report, entries_in, member_of, receipt_fate, reports}
 use Rattle.pulsar_producer.specs.Plans as produce
 use Rattle.pulsar_producer.specs.Plans.{Sent, fault_told, not_drawn, not_queued, receipt, send_looks, send_makes}
-use Rattle.pulsar_producer.specs.Storage.{Item}
-use Rattle.pulsar_producer.specs.declared.batch.Fate.{Fate}
-use Rattle.pulsar_producer.specs.declared.batching.Batching.{Batching as Batches}
+use Rattle.pulsar_outgoing.specs.Storage.{Item}
 use Rattle.pulsar_producer.specs.declared.batching.Batching.TheVariants as batching
-use Rattle.pulsar_producer.specs.declared.deed.News.{News}
-use Rattle.pulsar_producer.specs.declared.deed.News.TheVariants as news
+use Rattle.pulsar_outgoing.specs.declared.news.News.TheVariants as news
 use Rattle.pulsar_producer.specs.declared.deed.Step.TheVariants as step
-use Rattle.pulsar_producer.specs.declared.sending.Errand.{Errand}
-use Rattle.pulsar_producer.specs.declared.sending.Sending.{Sending as Send}
 use Rattle.pulsar_producer.specs.declared.sending.Sending.TheVariants as send
-use Rattle.pulsar_calls.specs.declared.act.Act.TheVariants.{Does, Told}
-use Rattle.pulsar_calls.specs.declared.act.Action.{Action}
-use Rattle.pulsar_calls.specs.declared.act.Action.TheVariants.{Ask, Rest, TellAll}
-use Rattle.pulsar_calls.specs.declared.act.Notice.{Notice}
-use Rattle.pulsar_calls.specs.declared.act.Outcome.{Outcome}
 use Rattle.pulsar_calls.specs.declared.act.Outcome.TheVariants as outcome
-use Rattle.pulsar_calls.specs.declared.act.Who.TheVariants.{Producer}
-use Rattle.pulsar_procedures.specs.declared.plan.Plan.TheVariants.{Batching}
+use Rattle.pulsar_laws.proofs.Cases.{cond_so}
 use Rattle.pulsar_laws.specs.BatchLaws.{AskedAs, IsFateOf, MembersAreTold, under_way}
-use Rattle.pulsar_laws.specs.Laws.{Cause}
-use Rattle.pulsar_procedures.specs.Plan.{news_in, news_of, overrides, told_to}
-use Rattle.pulsar_tables.specs.Rules.{notice}
-use Rattle.pulsar_agenda.specs.Run.{Entry, Then, IsRun}
-use Rattle.pulsar_tables.specs.View.{Options}
 use Rattle.pulsar_laws.proofs.Batched.{Comes, IsSettling, Unsent, tells_where}
 use Rattle.pulsar_laws.proofs.BatchFailing.{Kept, KeepsSo, Why, fails_so, is_told_news, kept_run, never_told}
 use Rattle.pulsar_laws.proofs.BatchFrames.{asked_own}
@@ -56,9 +33,6 @@ use Rattle.pulsar_laws.proofs.Drawing.{here}
 use Rattle.pulsar_laws.proofs.Productions.{SendKeeps}
 use Rattle.pulsar_laws.proofs.Receipts.{IsSentFor, in_step, receipt_for}
 
-none_some : {A : Type 0} {x : A} → None ≡ Some x → ⊥
-none_some {A} {x} h = cc
-
 -- A SEND THAT GIVES A RECEIPT was told its reply
 
 abbrev gives_ok : Sent → Bool
@@ -66,12 +40,8 @@ gives_ok (step.Stays s d) = false
 gives_ok (step.Gives (Ok r)) = true
 gives_ok (step.Gives (Err f)) = false
 
-either_gives : (b : Bool) (x y : Sent) → gives_ok x ≡ false → gives_ok y ≡ false → gives_ok (cond b x y) ≡ false
-either_gives true x y p q = p
-either_gives false x y p q = q
-
 not_drawn_gives : (e : Errand) (m : ProducerMessageValues) (f : Fault) → gives_ok (not_drawn e m f) ≡ false
-not_drawn_gives e m f = either_gives (search.is_lost f) _ _ refl refl
+not_drawn_gives e m f = cond_so (λ z. gives_ok z ≡ false) (search.is_lost f) _ _ refl refl
 
 not_queued_gives : (e : Errand) (m : Option ProducerMessageValues) (f : Fault) → gives_ok (not_queued e m f) ≡ false
 not_queued_gives e None f = refl
@@ -109,11 +79,6 @@ unsent_gives w e (send.Making m c k) _ h = refl
 unsent_gives w e (send.Remaking m) news.Done h = refl
 unsent_gives w e (send.Remaking m) y h = refl
 unsent_gives w e (send.Ending f) y h = refl
-
--- it is the reply, by its body
-abbrev ok_in : Content → Result Content Fault → Content
-ok_in r (Ok x) = x
-ok_in r (Err f) = r
 
 abbrev sent_in : Content → Sent → Content
 sent_in r (step.Gives (Ok x)) = x

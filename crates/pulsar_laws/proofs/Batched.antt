@@ -1,107 +1,28 @@
 -- What one step makes of the plan that sends the batches of a topic producer.
-use Rattle.std.proofs.Common.{◌≡◌, ◌⊎◌, inl, inr, ◌∙◌, sym, ap, subst, ℕ, List, [], ◌∷◌, refl, length, map, Bool, true, false, cond, Option, Some, None, Result, Ok, Err}
+use Rattle.std.proofs.Common.{◌≡◌, ◌⊎◌, inl, inr, sym, ap, subst, ℕ, List, [], ◌∷◌, refl, length, map, Bool, true, false, Some, None, Result, Ok, Err}
+use Rattle.pulsar_laws.proofs.ActWords.{Action, Notice, Outcome, Rest, TakeBatch, TakeTurn, TellAll}
+use Rattle.pulsar_laws.proofs.PlanWords.{action_of, Batches, batches_on, Batching, Deed, Errand, Fate, Member, News, news_of, overrides, Plan, Sending as Send, told_to, Ways}
+use Rattle.pulsar_laws.proofs.LinkWords.{Failure}
 use Rattle.pulsar_frame.specs.Batch.{EntryValues}
 use Rattle.pulsar_messages.specs.Content.{ProducerMessageValues}
-use Rattle.pulsar_session.specs.Failures.{Failure, Fault}
-use Rattle.pulsar_session.specs.Reply.{Reply as Content}
+use Rattle.pulsar_frame.specs.Reply.{Reply as Content}
 use Rattle.pulsar_wire.specs.declared.error.Reason.{Reason}
-use Rattle.pulsar_plans.specs.Address.{Place}
-use Rattle.pulsar_plans.specs.Plans as search
-use Rattle.pulsar_plans.specs.Plans.{is_lost}
-use Rattle.pulsar_plans.specs.declared.look.Looking.{Looking}
-use Rattle.pulsar_plans.specs.declared.making.Command.{Command}
-use Rattle.pulsar_plans.specs.declared.making.Making.{Making}
-use Rattle.pulsar_plans.specs.declared.making.Served.{Served}
-use Rattle.pulsar_plans.specs.declared.turn.Action.TheVariants as wish
-use Rattle.pulsar_plans.specs.declared.turn.Turn.{Turn as SearchTurn}
-use Rattle.pulsar_plans.specs.declared.turn.Turn.TheVariants as search_turn
-use Rattle.pulsar_plans.specs.declared.turn.Ways.{Ways}
-use Rattle.pulsar_producer.specs.Batch.{batch_of, cut_report, entries_in, failed, member_of, not_written, receipt_fate, reports}
+use Rattle.pulsar_outgoing.specs.Batch.{batch_of, cut_report, entries_in, failed, member_of, not_written, receipt_fate, reports}
 use Rattle.pulsar_producer.specs.Batching as batches
 use Rattle.pulsar_producer.specs.Plans as produce
-use Rattle.pulsar_producer.specs.Plans.{Sent, fault_told, not_drawn, not_queued, receipt, send_looks, send_makes}
-use Rattle.pulsar_producer.specs.Storage.{Item}
-use Rattle.pulsar_producer.specs.declared.batch.Fate.{Fate}
-use Rattle.pulsar_producer.specs.declared.batch.Fate.TheVariants as fate
-use Rattle.pulsar_producer.specs.declared.batch.Member.{Member}
-use Rattle.pulsar_producer.specs.declared.batching.Batching.{Batching as Batches}
+use Rattle.pulsar_producer.specs.Plans.{Sent}
+use Rattle.pulsar_outgoing.specs.Storage.{Item}
+use Rattle.pulsar_outgoing.specs.declared.batch.Fate.TheVariants as fate
 use Rattle.pulsar_producer.specs.declared.batching.Batching.TheVariants as batching
 use Rattle.pulsar_producer.specs.declared.batching.Goes.{Goes}
-use Rattle.pulsar_producer.specs.declared.deed.Deed.{Deed}
-use Rattle.pulsar_producer.specs.declared.deed.Deed.TheVariants as deed
-use Rattle.pulsar_producer.specs.declared.deed.News.{News}
-use Rattle.pulsar_producer.specs.declared.deed.News.TheVariants as news
+use Rattle.pulsar_outgoing.specs.declared.news.News.TheVariants as news
 use Rattle.pulsar_producer.specs.declared.deed.Step.TheVariants as step
-use Rattle.pulsar_producer.specs.declared.sending.Errand.{Errand}
-use Rattle.pulsar_producer.specs.declared.sending.Sending.{Sending as Send}
 use Rattle.pulsar_producer.specs.declared.sending.Sending.TheVariants as send
-use Rattle.pulsar_calls.specs.declared.act.Action.{Action}
-use Rattle.pulsar_calls.specs.declared.act.Action.TheVariants.{TakeTurn, TakeBatch, TellAll, Rest}
-use Rattle.pulsar_calls.specs.declared.act.Notice.{Notice}
-use Rattle.pulsar_calls.specs.declared.act.Outcome.{Outcome}
 use Rattle.pulsar_calls.specs.declared.act.Outcome.TheVariants as outcome
-use Rattle.pulsar_calls.specs.declared.act.Verdict.{Verdict}
-use Rattle.pulsar_procedures.specs.declared.plan.Plan.{Plan}
-use Rattle.pulsar_procedures.specs.declared.plan.Plan.TheVariants.{Batching}
-use Rattle.pulsar_procedures.specs.declared.plan.Turn.{Turn}
-use Rattle.pulsar_procedures.specs.Plan.{action_of, batches_on, news_of, overrides, told_batch, told_to}
-use Rattle.pulsar_laws.proofs.Natures.{StaysSo}
-
--- A SEND within it takes no batch, and settles none
-
-abbrev pub is_outer : Deed → Bool
-is_outer (deed.TakesBatch n) = true
-is_outer (deed.Settles rs) = true
-is_outer _ = false
-
-abbrev pub StepWithin : Sent → Type 0
-StepWithin (step.Stays s d) = is_outer d ≡ false
-StepWithin (step.Gives a) = Unit {0}
-
-either_within : (b : Bool) (x y : Sent) → StepWithin x → StepWithin y → StepWithin (cond b x y)
-either_within true x y p q = p
-either_within false x y p q = q
-
-not_drawn_within : (e : Errand) (m : ProducerMessageValues) (f : Fault) → StepWithin (not_drawn e m f)
-not_drawn_within e m f = either_within (is_lost f) _ _ refl refl
-
-not_queued_within : (e : Errand) (m : Option ProducerMessageValues) (f : Fault) → StepWithin (not_queued e m f)
-not_queued_within e None f = refl
-not_queued_within e (Some m) f = not_drawn_within e m f
-
-makes_within : (e : Errand) (m : ProducerMessageValues) (c : Command) (x : SearchTurn Making (Result Served Failure)) → StepWithin (send_makes e m c x)
-makes_within e m c (search_turn.Stays s a) = refl
-makes_within e m c (search_turn.Gives (Ok s)) = refl
-makes_within e m c (search_turn.Gives (Err f)) = refl
-
-looks_within : (e : Errand) (m : ProducerMessageValues) (c : Command) (x : SearchTurn Looking (Result Place Failure)) → StepWithin (send_looks e m c x)
-looks_within e m c (search_turn.Stays s a) = refl
-looks_within e m c (search_turn.Gives (Ok place)) = makes_within e m c (search.made_gets 0 place)
-looks_within e m c (search_turn.Gives (Err f)) = refl
-
-receipt_within : (r : Result Content Fault) → StepWithin (receipt r)
-receipt_within (Ok r) = tt
-receipt_within (Err f) = tt
-
-pub step_within : (w : Ways) (e : Errand) (s : Send) (y : News) → StepWithin (produce.send_told w e s y)
-step_within w e (send.Waiting m) (news.HasTurn version) = refl
-step_within w e (send.Waiting m) _ = tt
-step_within w e (send.Drawing m) (news.Drew d) = refl
-step_within w e (send.Drawing m) y = not_drawn_within e m (fault_told y)
-step_within w e (send.Asked kept) news.Queued = refl
-step_within w e (send.Asked kept) news.InLine = refl
-step_within w e (send.Asked kept) y = not_queued_within e kept (fault_told y)
-step_within w e send.Sent (news.Told x) = receipt_within (search.verdict 7 x)
-step_within w e send.Sent _ = refl
-step_within w e (send.Recalling m) (news.Recalled c) = looks_within e m c (search.look_begins w)
-step_within w e (send.Recalling m) y = refl
-step_within w e (send.Looking m c l) (news.Told x) = looks_within e m c (search.look_told w c.topic l x)
-step_within w e (send.Looking m c l) _ = refl
-step_within w e (send.Making m c k) (news.Told x) = makes_within e m c (search.made_told w c k x)
-step_within w e (send.Making m c k) _ = refl
-step_within w e (send.Remaking m) news.Done = refl
-step_within w e (send.Remaking m) y = refl
-step_within w e (send.Ending f) y = tt
+use Rattle.pulsar_plans.specs.Plan.{told_batch}
+use Rattle.pulsar_laws.proofs.ProducerArcs.{SendArc, draws, send_arc}
+use Rattle.pulsar_laws.proofs.Cases.{cond_when}
+use Rattle.pulsar_laws.proofs.Arcs.{StaysSo}
 
 -- HOW IT COMES TO A STATE, and what it does there
 
@@ -172,10 +93,6 @@ not_batch : (u : Outcome) → overrides u ≡ true → is_batch u ≡ false
 not_batch (outcome.Granted n) h = absurd cc
 not_batch _ h = refl
 
-either_when : (P : Plan → Action → Type 0) (b : Bool) (t u : Turn Plan Verdict) → (b ≡ true → StaysSo P t) → (b ≡ false → StaysSo P u) → StaysSo P (cond b t u)
-either_when P true t u p q = p refl
-either_when P false t u p q = q refl
-
 module _ (w : Ways) (e : Errand) where
   abbrev GoesTo : Batches → Outcome → Goes → Type 0
   GoesTo b u g = StepTo w e b u g.state (action_of g.deed)
@@ -238,7 +155,7 @@ module _ (w : Ways) (e : Errand) where
 
   pub batch_goes : (b : Batches) (u : Outcome) → StaysSo (BatchSo w e b u) (told_batch w e b u)
   batch_goes b u =
-      either_when (BatchSo w e b u) (overrides u) (batches_on w e (batches.halted b)) (batches_on w e (batches.told w e b (news_of u)))
+      cond_when (StaysSo (BatchSo w e b u)) (overrides u) (batches_on w e (batches.halted b)) (batches_on w e (batches.told w e b (news_of u)))
       (λ h. (refl, refl, halted_goes b u h)) (λ h. (refl, refl, told_goes b u))
 
 -- WHAT IT DOES NOT
@@ -252,18 +169,14 @@ abbrev is_tell : Action → Bool
 is_tell (TellAll ns) = true
 is_tell _ = false
 
-within_plain : (d : Deed) → is_outer d ≡ false → (is_take (action_of d) ≡ false) × (is_tell (action_of d) ≡ false)
-within_plain (deed.TakesBatch n) h = absurd cc
-within_plain (deed.Settles rs) h = absurd cc
-within_plain (deed.Does (wish.Get p)) h = (refl, refl)
-within_plain (deed.Does (wish.Ask l request)) h = (refl, refl)
-within_plain (deed.Does (wish.Wait delay)) h = (refl, refl)
-within_plain _ h = (refl, refl)
+send_plain : {w : Ways} {e : Errand} {s q : Send} {y : News} {d : Deed} → SendArc w e s y q d →
+    (is_take (action_of d) ≡ false) × (is_tell (action_of d) ≡ false)
+send_plain draws = (refl, refl)
+send_plain _ = (refl, refl)
 
 goes_plain : (w : Ways) (e : Errand) (old s : Send) (a : Action) (u : Outcome) → GoesOn w e old s a u → (is_take a ≡ false) × (is_tell a ≡ false)
 goes_plain w e old s a u k =
-    let h : StepWithin (step.Stays s k.0) = subst StepWithin k.1 (step_within w e old (news_of u)) in
-    subst (λ x. (is_take x ≡ false) × (is_tell x ≡ false)) (sym k.2) (within_plain k.0 h)
+    subst (λ x. (is_take x ≡ false) × (is_tell x ≡ false)) (sym k.2) (send_plain {w = w} {e = e} {s = old} {y = news_of u} (send_arc k.1))
 
 pub takes_where : (w : Ways) (e : Errand) (b : Batches) (u : Outcome) (q : Batches) (m : ℕ) → StepTo w e b u q (TakeBatch m) →
     (m ≡ e.producer) × (q ≡ batching.Taking) × IsTaking b u

@@ -1,15 +1,10 @@
 -- Who has started has a ticket that is never the greatest.
-use Rattle.std.proofs.Common.{◌≡◌, ◌∙◌, ℕ, ◌+◌, ◌<◌, List, [], ◌∷◌, ◌++◌, ◌==◌, Some, inl, inr}
+use Rattle.std.proofs.Common.{◌≡◌, List, [], ◌∷◌, Some, inl, inr}
 use Rattle.std.proofs.lemmas.Bool.{cases_Bool}
-use Rattle.pulsar_calls.specs.declared.act.Act.TheVariants.{Starts}
-use Rattle.pulsar_calls.specs.declared.act.Procedure.{Procedure}
-use Rattle.pulsar_calls.specs.declared.act.Who.{Who}
-use Rattle.pulsar_laws.specs.Laws.{started}
-use Rattle.pulsar_agenda.specs.Run.{Entry, Begins, Then, IsRun, agenda, view}
-use Rattle.pulsar_tables.specs.View.{Options}
-use Rattle.pulsar_calls.specs.Who.{is_same}
-use Rattle.pulsar_agenda.proofs.Acts.{each_first}
-use Rattle.pulsar_laws.proofs.Ticketed.{Began, IsDue, is_ticketed, none_some, same_began, served_due}
+use Rattle.pulsar_laws.proofs.ActWords.{is_same, Procedure, Starts, Who}
+use Rattle.pulsar_laws.proofs.RunWords.{agenda, Begins, each_first, Entry, IsRun, Options, started, Then, view}
+use Rattle.pulsar_laws.proofs.Cases.{none_some}
+use Rattle.pulsar_laws.proofs.Ticketed.{Began, IsDue, is_ticketed, same_began, served_due}
 
 -- who starts, and who has started
 start_began : (o : Options) (log : List Entry) (who : Who) (p : Procedure) → IsRun o (Then (Starts who p) ∷ log) → Began who

@@ -1,11 +1,9 @@
 -- What is seen of the calls is what the log's entries say.
 use Rattle.std.proofs.Common.{◌∙◌, ap, [], ◌∷◌, refl}
-use Rattle.pulsar_calls.specs.declared.act.Act.TheVariants.{Does, Answers}
-use Rattle.pulsar_calls.specs.declared.act.Action.TheVariants.{StopAll}
+use Rattle.pulsar_laws.proofs.ActWords.{Answers, Does, StopAll}
+use Rattle.pulsar_laws.proofs.RunWords.{Begins, begun_same, Then, view}
 use Rattle.pulsar_laws.specs.Laws.{BuiltIs, StoppedIs}
-use Rattle.pulsar_agenda.specs.Run.{Begins, Then, view}
-use Rattle.pulsar_tables.specs.View.{builds}
-use Rattle.pulsar_agenda.proofs.Acts.{begun_same}
+use Rattle.pulsar_acts.specs.View.{builds}
 
 pub built_is_lem : BuiltIs
 built_is_lem o [] = refl

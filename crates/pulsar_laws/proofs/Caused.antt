@@ -2,69 +2,43 @@
 use Rattle.std.proofs.Common.{◌≡◌, ◌⊎◌, inl, inr, ◌∙◌, sym, ap, subst, ℕ, List, ◌∷◌, ◌++◌, refl, map, Bool, true, false, cond, Option, Some, None, Result, Ok, Err, []}
 use Rattle.std.specs.List.{filter_map, flat_map}
 use Rattle.std.specs.Option.{option_map, option_to_list}
-use Rattle.pulsar_run.specs.Laws.{Arises, In, InOne}
+use Rattle.pulsar_laws.proofs.ActWords.{Act, Action, Alarm, Answers, Arrival, Ask, Batch, CheckIdle, Comes, Consumer, Does, Drains, Draw, End, Ends, FailConsumer, Find, FindConsumer, Flush, Get, Idles, is_same, KeepAlive, Makes, Notice, Number, opens, Outcome, Overdue, Part, PassTurn, Polls, Reads, Recall, RecallConsumer, Remake, Rest, Retry, Revive, Rings, Shut, StopAll, Stops, Store, TakeBatch, TakeFlow, TakeNumber, TakeTurn, Tell, TellAll, ticket_of, Told, ToLink, turn_of, Verdict, Wait, Wake, Who, Word}
+use Rattle.pulsar_laws.proofs.PlanWords.{closed_notice, Command, Drawn}
+use Rattle.pulsar_laws.proofs.RunWords.{Arises, at_once, Begins, Cause, causes, chosen_same, Each, Entry, further, In, InOne, IsRun, joins, lost_on, member_on, notice, Options, over_each, parts, readied, ready_notice, room_of, rules, setup_of, stopped_on, tells, Then, turn_notice, turned_by, view, View}
+use Rattle.pulsar_laws.proofs.LinkWords.{address_key, Addresses, answer_at, arrival_at, closed_by, closed_consumer, closing, ConnectionError, Exhausted, Failure, Fault, is_asked, is_reachable, Nobody, over_links, Pause, Pauses, Place, rings, Runs, Seat, Series, Serves, stop_act, tells_asker, told_at, url_at, Words}
 use Rattle.pulsar_run.proofs.Arising.{acts_arise_lem}
-use Rattle.pulsar_wire.specs.declared.error.ConnectionError.{ConnectionError}
 use Rattle.pulsar_wire.specs.declared.error.IoKind.{IoKind}
-use Rattle.pulsar_messages.specs.Words.{Words}
 use Rattle.pulsar_session.specs.declared.states.Asked.{Asked as Placed}
-use Rattle.pulsar_session.specs.Failures.{Fault, Disconnected, Exhausted, OfProducer, ProducerClosed, Failure}
+use Rattle.pulsar_wire.specs.Failures.{Disconnected, OfProducer, ProducerClosed}
 use Rattle.pulsar_session.specs.Link.{Came, came, ends}
-use Rattle.pulsar_link.specs.Messages.{read}
-use Rattle.pulsar_calls.specs.declared.act.Act.{Act}
-use Rattle.pulsar_calls.specs.declared.act.Act.TheVariants.{Comes, Told, Does, Answers}
-use Rattle.pulsar_calls.specs.declared.act.Action.{Action}
-use Rattle.pulsar_calls.specs.declared.act.Action.TheVariants.{Get, Ask, StopAll, Rest, Draw, Find, Flush, Number, PassTurn, Recall, Store, TakeBatch, TakeTurn, Tell, TellAll, Wait, Remake, Shut, TakeNumber, FindConsumer, TakeFlow, RecallConsumer, Revive, FailConsumer}
-use Rattle.pulsar_calls.specs.declared.act.Alarm.{Alarm}
-use Rattle.pulsar_calls.specs.declared.act.Alarm.TheVariants.{Retry, Wake, Batch, KeepAlive, CheckIdle}
-use Rattle.pulsar_calls.specs.declared.act.Arrival.{Arrival}
+use Rattle.pulsar_exchange.specs.Messages.{read}
 use Rattle.pulsar_calls.specs.declared.act.Arrival.TheVariants.{Readied}
-use Rattle.pulsar_calls.specs.declared.act.End.{End}
-use Rattle.pulsar_calls.specs.declared.act.End.TheVariants.{Unopened, Lost, Overdue, Broken, Idles, Stops}
-use Rattle.pulsar_calls.specs.declared.act.LinkAct.TheVariants.{Reads, Drains, Ends}
-use Rattle.pulsar_calls.specs.declared.act.Notice.{Notice}
-use Rattle.pulsar_calls.specs.declared.act.Outcome.{Outcome}
-use Rattle.pulsar_calls.specs.declared.act.Part.{Part}
-use Rattle.pulsar_calls.specs.declared.act.Part.TheVariants.{ToLink, Rings, Polls}
-use Rattle.pulsar_calls.specs.declared.act.Who.{Who}
-use Rattle.pulsar_tables.specs.declared.addresses.Pause.{Pause}
-use Rattle.pulsar_tables.specs.declared.addresses.Series.{Series}
-use Rattle.pulsar_tables.specs.declared.addresses.Series.TheVariants.{Nobody, Runs, Pauses, Serves}
-use Rattle.pulsar_plans.specs.Address.{Place, address_key, is_reachable}
-use Rattle.pulsar_tables.specs.Alarms.{rings}
-use Rattle.pulsar_laws.specs.Laws.{AttemptEnds, Cause, CutsSo, OutcomesAreCaused, LineEnds, RequestEnds, base_of, IsToldBy, GrantsSo, BuiltDue, PolledDue, RevivedDue, SaysSo}
-use Rattle.pulsar_tables.specs.Links.{arrival, change_at, change_in, closed_by, line_places, new_places, times_out}
-use Rattle.pulsar_procedures.specs.Plan.{closed_notice}
-use Rattle.pulsar_tables.specs.Rules.{answered_by, answered_on, at_once, caused, causes, dropped, ended_by, ended_on, failed, failed_by, failed_on, failed_over, failed_so, fails_so, further, gets_from, lost, lost_so, lost_with, moved_on, notice, opens, over_links, parts, served_by, served_on, stop_act, stopped_at, stopped_with, tells, tells_asker, told_at, waiters_of, woken, draw_outcome, draw_said, finds, grants, joins, number_said, readied, ready_notice, recalls, stopped_one, takes_turn, turn_notice}
+use Rattle.pulsar_calls.specs.declared.act.End.TheVariants.{Unopened, Lost, Broken}
+use Rattle.pulsar_laws.proofs.Lists.{in_append, in_each, in_map}
+use Rattle.pulsar_laws.specs.Laws.{AttemptEnds, CutsSo, OutcomesAreCaused, LineEnds, RequestEnds, base_of, IsToldBy, GrantsSo, BuiltDue, PolledDue, RevivedDue, SaysSo}
+use Rattle.pulsar_links.specs.Links.{arrival, change_at, change_in, line_places, new_places, times_out}
+use Rattle.pulsar_acts.specs.Rules.{caused, failed_by, failed_on, gets_from, served_on, stopped_with, waiters_of, woken, draw_outcome, draw_said, finds, grants, number_said, recalls, stopped_one, takes_turn}
+use Rattle.pulsar_links.specs.LinkRules.{answered_by, answered_on, dropped, ended_by, ended_on, failed, failed_over, failed_so, fails_so, lost, lost_so, lost_with, moved_on, served_by, stopped_at}
 use Rattle.pulsar_producer_table.specs.Notices.{stopped_call}
-use Rattle.pulsar_agenda.specs.Run.{Entry, Begins, Then, rules, view, IsRun}
-use Rattle.pulsar_tables.specs.View.{Addresses, Options, Seat, View, answer_at, pause_for, pause_of, turned_by, room_of, arrival_at, closing, is_asked, member_on, setup_of, url_at}
-use Rattle.pulsar_calls.specs.Who.{in_turn, is_same, turn_of, ticket_of}
+use Rattle.pulsar_acts.specs.View.{pause_for, pause_of}
+use Rattle.pulsar_calls.specs.Who.{in_turn}
 use Rattle.pulsar_producer.specs.Topic as topic
-use Rattle.pulsar_plans.specs.declared.making.Command.{Command}
-use Rattle.pulsar_producer.specs.declared.deed.Drawn.{Drawn}
 use Rattle.pulsar_producer_table.specs.declared.table.Topic.{Topic}
 use Rattle.pulsar_producer_table.specs.Producers.{drawn, is_settled_at, is_woken, link_at, next_batch_at, number_drawn, numbers_at, recalled, stored_at, stored_by, turn_passed, turn_taken, unsent, unsent_at, waiting, waiting_at}
 use Rattle.pulsar_wire.specs.declared.error.IoKind.TheVariants as io_kind
 use Rattle.pulsar_session.specs.declared.states.Asked.TheVariants as placed
 use Rattle.pulsar_session.specs.Link as session
 use Rattle.pulsar_calls.specs.declared.act.Outcome.TheVariants as outcome
-use Rattle.pulsar_tables.specs.Links as links
-use Rattle.pulsar_producer.specs.declared.deed.News.TheVariants as news
-use Rattle.pulsar_agenda.proofs.Acts.{Each, chosen_same, over_each}
-use Rattle.pulsar_agenda.proofs.Raising.{IsRaised, may, raises, OfNotice}
+use Rattle.pulsar_links.specs.Links as links
+use Rattle.pulsar_outgoing.specs.declared.news.News.TheVariants as news
+use Rattle.pulsar_client.proofs.Raising.{IsRaised, may, raises, OfNotice}
 use Rattle.pulsar_laws.proofs.Fitting.{is_said, is_settling}
 use Rattle.pulsar_laws.proofs.Granted.{tell_said, tell_settling}
-use Rattle.pulsar_calls.specs.declared.act.Word.{Word}
-use Rattle.pulsar_calls.specs.declared.act.Makes.{Makes}
-use Rattle.pulsar_calls.specs.declared.act.Verdict.{Verdict}
-use Rattle.pulsar_calls.specs.declared.act.Who.TheVariants.{Consumer}
 use Rattle.url.specs.Parts.{Parts}
 use Rattle.pulsar_consumer.specs.Commands.{command_of}
-use Rattle.pulsar_link.specs.Request.{closed_consumer}
 use Rattle.pulsar_consumer_table.specs.Consumers.{Member, over_rows}
 use Rattle.pulsar_consumer_table.specs.Notices.{again, again_at, due_at, due_to, heard_at, lost_at, stopped_seekers, word_to}
-use Rattle.pulsar_tables.specs.Reading.{closed_at, flow_said, heard_on, lost_on, made_due, numbering_said, recalled_said, revived_said, sought_said, stopped_on, tells_word}
+use Rattle.pulsar_acts.specs.Reading.{closed_at, flow_said, heard_on, made_due, numbering_said, recalled_said, revived_said, sought_said, tells_word}
 use Rattle.pulsar_consumer_table.specs.declared.numbers.Numbering.{Numbering}
 use Rattle.pulsar_consumer_table.specs.declared.numbers.Numbering.TheVariants.{Has, InUse, Spent}
 use Rattle.pulsar_consumer_table.specs.declared.row.Sought.{Sought}
@@ -74,7 +48,7 @@ use Rattle.pulsar_calls.specs.declared.act.Word.TheVariants as word
 use Rattle.pulsar_calls.specs.declared.act.Makes.TheVariants as makes
 use Rattle.pulsar_consumer_table.specs.Consumers as consumer
 use Rattle.pulsar_consumer.specs.Topic as reader
-use Rattle.pulsar_laws.proofs.CausedLists.{IsAsker, in_alone, in_append, in_askers, in_each, in_flat, in_map, in_opened, in_told, step_map}
+use Rattle.pulsar_laws.proofs.CausedLists.{IsAsker, in_alone, in_askers, in_flat, in_opened, in_told, step_map}
 
 -- WHO IS TOLD AT ONCE
 

@@ -1,15 +1,11 @@
 -- Whatever one is told has its cause before, in the same step.
-use Rattle.std.proofs.Common.{◌≡◌, ◌⊎◌, inl, inr, ◌∙◌, sym, ap, subst, ℕ, List, ◌∷◌, ◌++◌, refl, map, Option, Some, None, []}
+use Rattle.std.proofs.Common.{◌≡◌, inl, inr, ◌∙◌, sym, ap, ℕ, List, ◌∷◌, refl, map, Option, Some, None, []}
 use Rattle.std.specs.List.{filter_map, flat_map}
-use Rattle.pulsar_run.specs.Laws.{In, InOne, InThisStep}
-use Rattle.pulsar_calls.specs.declared.act.Act.TheVariants.{Told}
-use Rattle.pulsar_calls.specs.declared.act.Notice.{Notice}
-use Rattle.pulsar_calls.specs.declared.act.Outcome.{Outcome}
-use Rattle.pulsar_calls.specs.declared.act.Who.{Who}
-use Rattle.pulsar_tables.specs.Rules.{alone, notice, opens, tells_asker}
-use Rattle.pulsar_agenda.specs.Run.{Entry, Begins, Then, IsRun}
-use Rattle.pulsar_tables.specs.View.{Options}
-use Rattle.pulsar_agenda.proofs.Acts.{Each}
+use Rattle.pulsar_laws.proofs.ActWords.{Notice, opens, Outcome, Told, Who}
+use Rattle.pulsar_laws.proofs.RunWords.{Begins, Entry, In, InOne, InThisStep, IsRun, notice, Options, Then}
+use Rattle.pulsar_laws.proofs.LinkWords.{tells_asker}
+use Rattle.pulsar_calls.specs.Order.{alone}
+use Rattle.pulsar_laws.proofs.Lists.{in_append}
 
 -- LISTS
 
@@ -20,11 +16,6 @@ step_map o P Q f (Begins e ∷ log) run h = f (Begins e) log run h
 step_map o P Q f (Then a ∷ log) run (inl h) = inl (f (Then a) log run h)
 step_map o P Q f (Then a ∷ log) run (inr h) = inr (step_map o P Q f log run.0 h)
 
-pub in_append : {A : Type 0} (x : A) (xs ys : List A) → In x (xs ++ ys) → In x xs ⊎ In x ys
-in_append x [] ys h = inr h
-in_append x (y ∷ xs) ys (inl e) = inl (inl e)
-in_append x (y ∷ xs) ys (inr h) = elim (in_append x xs ys h) [ inl i ↦ inl (inr i) | inr i ↦ inr i ]
-
 -- what is in a list of lists is in one of them
 pub in_flat : {A B : Type 0} (f : A → List B) (y : B) (xs : List A) → In y (flat_map f xs) → (x : A) × In x xs × In y (f x)
 in_flat f y [] h = absurd h
@@ -32,16 +23,6 @@ in_flat f y (x ∷ xs) h = elim (in_append y (f x) (flat_map f xs) h) [
   | inl i ↦ (x, inl refl, i)
   | inr i ↦ let k = in_flat f y xs i in (k.0, inr k.1, k.2)
 ]
-
-pub in_each : {A : Type 0} (P : A → Type 0) (x : A) (xs : List A) → In x xs → Each P xs → P x
-in_each P x [] i k = absurd i
-in_each P x (y ∷ xs) (inl e) k = subst P (sym e) k.0
-in_each P x (y ∷ xs) (inr i) k = in_each P x xs i k.1
-
-pub in_map : {A : Type 0} (f : A → Notice) (n : Notice) (xs : List A) → In n (map f xs) → (x : A) × In x xs × (n ≡ f x)
-in_map f n [] h = absurd h
-in_map f n (x ∷ xs) (inl e) = (x, inl refl, e)
-in_map f n (x ∷ xs) (inr h) = let k = in_map f n xs h in (k.0, inr k.1, k.2)
 
 -- what is told is a notice of the list
 pub in_told : (n : Notice) (ns : List Notice) → In (Told n) (map Told ns) → In n ns

@@ -1,32 +1,31 @@
 -- Who asked for what waits on a link. `A` is what is known of one who is the asker of a request.
-use Rattle.std.proofs.Common.{◌≡◌, ◌⊎◌, inl, inr, ◌∙◌, sym, ap, subst, ℕ, ◌+◌, ◌<◌, ◌≤◌, ◌==◌, arith, List, [], ◌∷◌, ◌++◌, refl, length, filter, drop, Bool, true, false, ◌&&◌, nat_lt, cond, Option, Some, None, Result, Ok, Err}
+use Rattle.std.proofs.Common.{◌≡◌, inl, inr, ◌∙◌, sym, ap, subst, ℕ, ◌+◌, ◌<◌, ◌≤◌, ◌==◌, arith, List, [], ◌∷◌, ◌++◌, refl, length, filter, drop, Bool, true, false, nat_lt, cond, Option, Some, None, Result, Ok, Err}
 use Rattle.std.proofs.lemmas.Bool.{cases_Bool}
 use Rattle.std.proofs.lemmas.Bool.Decides.{nat_tests}
 use Rattle.std.specs.List.{list_any}
 use Rattle.std.specs.Prelude.{not}
-use Rattle.pulsar_wire.specs.declared.error.ConnectionError.{ConnectionError}
+use Rattle.pulsar_laws.proofs.ActWords.{Who}
+use Rattle.pulsar_laws.proofs.RunWords.{Each, each_append, each_map}
+use Rattle.pulsar_laws.proofs.LinkWords.{ConnectionError, is_numbered, place_of, SendPing, Words}
 use Rattle.pulsar_frame.specs.Frame.{Front, Short, Refused, Whole, front}
 use Rattle.pulsar_frame.specs.Message.{MessageValues}
 use Rattle.pulsar_messages.specs.Content.{AuthenticationValues}
-use Rattle.pulsar_messages.specs.Words.{Words, SendPing, is_numbered, when_full}
-use Rattle.pulsar_requests.specs.declared.awaited.Awaited.{Awaited}
-use Rattle.pulsar_requests.specs.declared.awaited.Awaited.TheVariants.{Reply}
-use Rattle.pulsar_requests.specs.declared.awaited.Claim.{Claim}
-use Rattle.pulsar_requests.specs.Awaited.{is_same}
+use Rattle.pulsar_messages.specs.Words.{when_full}
+use Rattle.pulsar_wire.specs.declared.awaited.Awaited.{Awaited}
+use Rattle.pulsar_wire.specs.declared.awaited.Awaited.TheVariants.{Reply}
+use Rattle.pulsar_wire.specs.declared.awaited.Claim.{Claim}
+use Rattle.pulsar_wire.specs.Awaited.{is_same}
 use Rattle.pulsar_requests.specs.Waits.{Pending, Waits, places, waits_for}
 use Rattle.pulsar_session.specs.declared.states.Stage.{Stage}
 use Rattle.pulsar_session.specs.declared.states.Stage.TheVariants.{Dialing, Handshaking, Ready, Over}
 use Rattle.pulsar_session.specs.Answers.{answers, is}
 use Rattle.pulsar_session.specs.Laws.{IsInLine}
-use Rattle.pulsar_session.specs.Link.{Asks, Drains, Feeds, Opens, Request, Seen, Standing, Takes, after, after_of, answer_of, answered, asked, asks_for, can_wait, challenged, claim, drawn, feeds, frame_for, greeted, greeting, greets_with, has_room, is_open, is_ready, moved_up, named_by, number_for, opens_in, place_in, pongs, put_frame, put_in, queue, reacts, reacts_unless, request, responds, settled_by, taken_in, ticked, unready_in}
+use Rattle.pulsar_session.specs.Link.{Asks, Drains, Feeds, Opens, Request, Seen, Standing, Takes, after, after_of, answer_of, answered, asked, asks_for, can_wait, challenged, drawn, feeds, frame_for, greeted, greeting, greets_with, has_room, is_open, is_ready, moved_up, named_by, number_for, opens_in, place_in, pongs, put_frame, put_in, queue, reacts, reacts_unless, request, responds, settled_by, taken_in, ticked, unready_in}
+use Rattle.pulsar_messages.specs.Claims.{claim}
 use Rattle.pulsar_session.specs.Link as session
-use Rattle.pulsar_link.specs.Request.{is_awaited}
-use Rattle.pulsar_calls.specs.declared.act.Who.{Who}
-use Rattle.pulsar_tables.specs.View.{asker_at, place_of}
-use Rattle.pulsar_agenda.proofs.Acts.{Each, each_append, each_map}
-
-none_some : {A : Type 0} {x : A} → None ≡ Some x → ⊥
-none_some {A} {x} h = cc
+use Rattle.pulsar_exchange.specs.Request.{is_awaited}
+use Rattle.pulsar_links.specs.Seats.{asker_at}
+use Rattle.pulsar_laws.proofs.Cases.{none_some}
 
 -- each who asks for a place is such
 abbrev pub AsksOf : (Who → Awaited → Type 0) → (ℕ → Option Who) → ℕ → Awaited → Type 0
@@ -295,9 +294,6 @@ module _ (A : Who → Awaited → Type 0) where
       of None e = tt
       of (Some c) e = s c e
 
-  with_pong : (x : Bool) (place : Option ℕ) (who : Who) (f : ℕ → Option Who) → place ≡ None → (p : ℕ) → asker_at x who place f p ≡ f p
-  with_pong x place who f e p = ap (λ y. asker_at x who y f p) e
-
   -- the asker of what is asked for, at the end of the line or nowhere
   abbrev Added : Bool → Option ℕ → Who → (ℕ → Option Who) → (ℕ → Option Who)
   Added x place who f = asker_at x who place f
@@ -332,9 +328,6 @@ module _ (A : Who → Awaited → Type 0) where
 
   more_below : (v : Seen) (f : ℕ → Option Who) (b c : ℕ) → b ≤ c → Claimed A v f b → Claimed A v f c
   more_below v f b c le k = record { waiting = k.waiting; low = k.low; line = k.line; few = λ p w e. (let lt : p < b = k.few p w e in omega (arith, lt, le)) }
-
-  abbrev Grows : Seen → Seen → Type 0
-  Grows v w = end_of_line v ≤ end_of_line w
 
   -- with the frame the line is longer, where it has a place
   module _ (words : Words) (who : Who) (f : ℕ → Option Who) (so : (id : ℕ) (c : Claim) → claim id words ≡ Some c → A who c.awaits) where

@@ -1,26 +1,19 @@
 -- What a producer stores as it is closed.
-use Rattle.std.proofs.Common.{◌≡◌, ◌⊎◌, inl, inr, ◌∙◌, ap, subst, ℕ, ◌==◌, arith, List, [], ◌∷◌, ◌++◌, refl, map, Bool, true, false, cond, Option, Some, None}
+use Rattle.std.proofs.Common.{◌≡◌, inl, inr, ◌∙◌, ap, subst, ℕ, ◌==◌, arith, List, [], ◌∷◌, refl, map, true, cond, Option, Some, None}
 use Rattle.std.proofs.lemmas.Bool.Decides.{nat_tests}
-use Rattle.std.specs.List.{flat_map}
 use Rattle.std.specs.Option.{option_map}
-use Rattle.pulsar_run.specs.Laws.{In}
+use Rattle.pulsar_laws.proofs.ActWords.{Does, Shut, Told}
+use Rattle.pulsar_laws.proofs.PlanWords.{closed_notice}
+use Rattle.pulsar_laws.proofs.RunWords.{In, joins, Then, view, View}
 use Rattle.pulsar_producer.specs.Topic.{Closes}
-use Rattle.pulsar_calls.specs.declared.act.Act.TheVariants.{Does, Told}
-use Rattle.pulsar_calls.specs.declared.act.Action.TheVariants.{Shut}
 use Rattle.pulsar_producer_table.specs.declared.table.Topic.{Topic}
+use Rattle.pulsar_laws.proofs.Lists.{into_flat}
+use Rattle.pulsar_laws.proofs.Cases.{cond_so}
 use Rattle.pulsar_laws.specs.BatchLaws.{ClosedWithTheProducer}
-use Rattle.pulsar_procedures.specs.Plan.{closed_notice}
 use Rattle.pulsar_producer_table.specs.Producers.{Producers, changed, is_bare, numbers_at, shut_all, stored_at, stored_by, topic_after}
-use Rattle.pulsar_tables.specs.Rules.{joins}
-use Rattle.pulsar_agenda.specs.Run.{Then, view}
-use Rattle.pulsar_tables.specs.View.{View}
 use Rattle.pulsar_laws.proofs.Done.{all_is_done_lem}
 
 -- WHAT IS STORED is emptied, and stays so
-
-either_bare : (b : Bool) (x y : Option Topic) → is_bare x ≡ true → is_bare y ≡ true → is_bare (cond b x y) ≡ true
-either_bare true x y p q = p
-either_bare false x y p q = q
 
 closed_bare : (row : Option Topic) → is_bare (option_map (topic_after Closes) row) ≡ true
 closed_bare None = refl
@@ -30,7 +23,7 @@ stays_bare : (ns : List ℕ) (ps : Producers) (n : ℕ) → is_bare (ps.topics n
 stays_bare [] ps n h = h
 stays_bare (m ∷ ns) ps n h =
     stays_bare ns (changed m Closes ps) n
-    (either_bare (n == m) (option_map (topic_after Closes) (ps.topics n)) (ps.topics n) (closed_bare (ps.topics n)) h)
+    (cond_so (λ z. is_bare z ≡ true) (n == m) (option_map (topic_after Closes) (ps.topics n)) (ps.topics n) (closed_bare (ps.topics n)) h)
 
 equal_self : (n : ℕ) → (n == n) ≡ true
 equal_self n = grind (arith, nat_tests)
@@ -50,25 +43,11 @@ map_in f x [] h = absurd h
 map_in f x (y ∷ xs) (inl e) = inl (ap f e)
 map_in f x (y ∷ xs) (inr h) = inr (map_in f x xs h)
 
-pub append_left : {A : Type 0} (x : A) (xs ys : List A) → In x xs → In x (xs ++ ys)
-append_left x [] ys h = absurd h
-append_left x (y ∷ xs) ys (inl e) = inl e
-append_left x (y ∷ xs) ys (inr h) = inr (append_left x xs ys h)
-
-pub append_right : {A : Type 0} (x : A) (xs ys : List A) → In x ys → In x (xs ++ ys)
-append_right x [] ys h = h
-append_right x (y ∷ xs) ys h = inr (append_right x xs ys h)
-
-flat_in : {A B : Type 0} (f : A → List B) (x : A) (y : B) (xs : List A) → In x xs → In y (f x) → In y (flat_map f xs)
-flat_in f x y [] h i = absurd h
-flat_in f x y (z ∷ xs) (inl e) i = append_left y (f z) (flat_map f xs) (subst (λ w. In y (f w)) e i)
-flat_in f x y (z ∷ xs) (inr h) i = append_right y (f z) (flat_map f xs) (flat_in f x y xs h i)
-
 pub closed_with_the_producer_lem : ClosedWithTheProducer
 closed_with_the_producer_lem o newer older who t n ticket run rests acts listed =
     let v : View = view o older in
     let ns : List ℕ = numbers_at (v.producers.built t) in (
-      λ stored. (let i : In ticket (stored_by v.producers ns) = flat_in (λ m. stored_at (v.producers.topics m)) n ticket ns listed stored in
+      λ stored. (let i : In ticket (stored_by v.producers ns) = into_flat (λ m. stored_at (v.producers.topics m)) n ticket ns listed stored in
           let j : In (closed_notice ticket) (joins v (Does who (Shut t))) = map_in closed_notice ticket (stored_by v.producers ns) i in
           all_is_done_lem o newer older (Then (Does who (Shut t))) (Told (closed_notice ticket)) run rests acts
           (inr (inl (map_in Told (closed_notice ticket) (joins v (Does who (Shut t))) j)))),

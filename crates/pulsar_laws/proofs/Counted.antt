@@ -1,29 +1,24 @@
 -- Where a topic has several partitions, a reply has said so.
-use Rattle.std.proofs.Common.{arith, ◌≡◌, ◌⊎◌, inl, inr, ◌∙◌, sym, ap, subst, ℕ, zero, suc, ◌+◌, ◌-◌, ◌≤◌, ◌==◌, List, [], ◌∷◌, ◌++◌, length, refl, Bool, true, false, ◌&&◌, cond, Option, Some, None, Result, Ok, Err}
+use Rattle.std.proofs.Common.{arith, ◌≡◌, ◌⊎◌, inl, inr, sym, subst, ℕ, zero, suc, ◌+◌, ◌-◌, ◌≤◌, ◌==◌, List, [], ◌∷◌, ◌++◌, length, refl, true, false, ◌&&◌, None, Result, Ok, Err}
 use Rattle.std.proofs.lemmas.Bool.{cases_Bool, eqb-true}
-use Rattle.pulsar_run.specs.Laws.{In}
-use Rattle.pulsar_session.specs.Failures.{Failure}
-use Rattle.pulsar_session.specs.Reply.{Reply as Content}
-use Rattle.pulsar_link.specs.Messages.{Reply}
-use Rattle.pulsar_plans.specs.Address.{Named, Place}
-use Rattle.pulsar_plans.specs.Plans as search
-use Rattle.pulsar_plans.specs.Plans.{is_lost, is_partition}
-use Rattle.pulsar_plans.specs.Replies.{count_in}
-use Rattle.pulsar_plans.specs.declared.count.Counting.{Counting}
-use Rattle.pulsar_plans.specs.declared.count.Counting.TheVariants as count
-use Rattle.pulsar_plans.specs.declared.look.Looking.{Looking}
-use Rattle.pulsar_plans.specs.declared.names.Naming.{Naming}
-use Rattle.pulsar_plans.specs.declared.names.Naming.TheVariants as name
-use Rattle.pulsar_plans.specs.declared.replies.Heard.{Heard}
-use Rattle.pulsar_plans.specs.declared.replies.Heard.TheVariants.{Says, Later, Denies}
-use Rattle.pulsar_plans.specs.declared.turn.Outcome.{Outcome as News}
-use Rattle.pulsar_plans.specs.declared.turn.Outcome.TheVariants as news
-use Rattle.pulsar_plans.specs.declared.turn.Turn.{Turn as SearchTurn}
-use Rattle.pulsar_plans.specs.declared.turn.Turn.TheVariants as search_turn
-use Rattle.pulsar_plans.specs.declared.turn.Ways.{Ways}
+use Rattle.pulsar_laws.proofs.ActWords.{Outcome}
+use Rattle.pulsar_laws.proofs.PlanWords.{Denies, Later, Looking, Naming, Heard as News, Says, SearchTurn, Ways}
+use Rattle.pulsar_laws.proofs.RunWords.{In}
+use Rattle.pulsar_laws.proofs.LinkWords.{Failure, Named, Place, Reply}
+use Rattle.pulsar_frame.specs.Reply.{Reply as Content}
+use Rattle.pulsar_searches.specs.Plans as search
+use Rattle.pulsar_addresses.specs.Address as search_low
+use Rattle.pulsar_searches.specs.Plans.{is_lost, is_partition}
+use Rattle.pulsar_searches.specs.Replies.{count_in}
+use Rattle.pulsar_searches.specs.declared.count.Counting.{Counting}
+use Rattle.pulsar_searches.specs.declared.count.Counting.TheVariants as count
+use Rattle.pulsar_searches.specs.declared.names.Naming.TheVariants as name
+use Rattle.pulsar_searches.specs.declared.replies.Heard.{Heard}
+use Rattle.pulsar_searches.specs.declared.turn.Outcome.TheVariants as news
+use Rattle.pulsar_searches.specs.declared.turn.Turn.TheVariants as search_turn
 use Rattle.pulsar_consumer.specs.Plans as consume
-use Rattle.pulsar_calls.specs.declared.act.Outcome.{Outcome}
 use Rattle.pulsar_calls.specs.declared.act.Outcome.TheVariants as outcome
+use Rattle.pulsar_laws.proofs.Cases.{cond_so}
 
 not_zero : (n : ℕ) → (n == 0) ≡ false → 1 ≤ n
 not_zero zero h = absurd cc
@@ -66,10 +61,6 @@ module _ (w : Ways) (all : List Outcome) where
   NamesKept (search_turn.Gives (Ok names)) = consume.only names ≡ None → Several
   NamesKept (search_turn.Gives (Err f)) = Unit {0}
 
-  either_count : (b : Bool) (x y : SearchTurn Counting (Result ℕ Failure)) → CountKept x → CountKept y → CountKept (cond b x y)
-  either_count true x y p q = p
-  either_count false x y p q = q
-
   count_kept : (t : List ℕ) (c : Counting) (x : News) → Heeds x → CountKept (search.count_told w t c x)
   count_kept t (count.Getting again n) (news.GotLink l) h = tt
   count_kept t (count.Getting again n) _ h = tt
@@ -80,7 +71,7 @@ module _ (w : Ways) (all : List Outcome) where
       heard Later e = tt
       heard (Denies f) e = tt
   count_kept t (count.Asked again n l) x h =
-      either_count (again && is_lost (search.fault_of x)) (search.count_gets w false n) (search.fails (_)) tt tt
+      cond_so CountKept (again && is_lost (search.fault_of x)) (search.count_gets w false n) (search.fails (_)) tt tt
   count_kept t (count.Resting n l) news.Woken h = tt
   count_kept t (count.Resting n l) _ h = tt
 
@@ -117,21 +108,21 @@ module _ (w : Ways) (all : List Outcome) where
   look_then (search_turn.Gives (Ok p)) within on k m = m p
   look_then (search_turn.Gives (Err f)) within on k m = tt
 
-  only_one : (t : List ℕ) (p : Place) → consume.only (search.name_found [] t p) ≡ None → Several
+  only_one : (t : List ℕ) (p : Place) → consume.only (search_low.name_found [] t p) ≡ None → Several
   only_one t p h = absurd cc
 
   pub names_kept : (t : List ℕ) (n : Naming) (x : News) → Heeds x → NamedIn n → NamesKept (search.names_told w t n x)
   names_kept t (name.Counting c) x h k = count_then t (search.count_told w t c x) (count_kept t c x h)
   names_kept t (name.Whole l) x h k =
-      look_then (search.look_told w t l x) name.Whole (λ p. search_turn.Gives (Ok (search.name_found [] t p))) (λ l. tt) (λ p. only_one t p)
+      look_then (search.look_told w t l x) name.Whole (λ p. search_turn.Gives (Ok (search_low.name_found [] t p))) (λ l. tt) (λ p. only_one t p)
   names_kept t (name.Part l p) x h k =
-      look_then (search.look_told w p.name l x) (λ l. name.Part l p) (λ y. search.names_left w t p.count p.left (search.name_found p.found p.name y))
-      (λ l. k) (λ y. left_kept t p.count p.left (search.name_found p.found p.name y) (so_many y) some k.1)
+      look_then (search.look_told w p.name l x) (λ l. name.Part l p) (λ y. search.names_left w t p.count p.left (search_low.name_found p.found p.name y))
+      (λ l. k) (λ y. left_kept t p.count p.left (search_low.name_found p.found p.name y) (so_many y) some k.1)
     where
       some : 1 ≤ p.count
       some = let e = k.0 in omega (arith, e)
 
-      so_many : (y : Place) → length (search.name_found p.found p.name y) + p.left ≡ p.count
+      so_many : (y : Place) → length (search_low.name_found p.found p.name y) + p.left ≡ p.count
       so_many y = let e = k.0 in let m = one_more p.found (record { name = p.name; place = y }) in omega (arith, e, m)
 
   pub names_begin_kept : (t : List ℕ) → NamesKept (search.names_begins w t)

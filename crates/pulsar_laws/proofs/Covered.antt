@@ -3,43 +3,25 @@ use Rattle.std.proofs.Common.{◌≡◌, ◌⊎◌, inl, inr, ◌∙◌, sym, ap
 use Rattle.std.proofs.lemmas.Bool.{cases_Bool, eqb-true}
 use Rattle.std.proofs.lemmas.List.Sums.{sum_by-cons}
 use Rattle.std.specs.Option.{is_some, option_map}
-use Rattle.pulsar_link.specs.Messages.{Reply, is_body}
-use Rattle.pulsar_link.specs.Request.{closed_consumer}
+use Rattle.pulsar_laws.proofs.ActWords.{Act, Answers, Arrival, Ask, Comes, Consumer, Does, Ends, FailConsumer, Notice, Polls, Reads, Revive, StopAll, TakeFlow, ticket_of, Told, ToLink}
+use Rattle.pulsar_laws.proofs.RunWords.{Begins, EndsOnce, Entry, IsRun, notice, Options, Then, view, View}
+use Rattle.pulsar_laws.proofs.LinkWords.{answer_at, arrival_at, closed_consumer, closing, Fault, is_asked, is_body, place_of, Reply, Seat, url_at}
 use Rattle.pulsar_messages.specs.Words as words
-use Rattle.pulsar_session.specs.Failures.{Fault}
 use Rattle.pulsar_consumer.specs.Laws.{asked_since}
 use Rattle.pulsar_consumer.specs.Topic.{Act as Done, Lives, Hears, Loses, Fails, Ends as Over, Polls as Polled, Asks, Seen, Live, Setup, first_due, link_of, lives_on, seen}
-use Rattle.pulsar_consumer.specs.declared.polled.Ending.TheVariants.{TopicEnded}
-use Rattle.pulsar_calls.specs.declared.act.Act.{Act}
-use Rattle.pulsar_calls.specs.declared.act.Act.TheVariants.{Comes, Told, Does, Answers}
-use Rattle.pulsar_calls.specs.declared.act.Action.TheVariants.{Ask, TakeFlow, Revive, FailConsumer, StopAll}
-use Rattle.pulsar_calls.specs.declared.act.Arrival.{Arrival}
+use Rattle.pulsar_incoming.specs.declared.polled.Ending.TheVariants.{TopicEnded}
 use Rattle.pulsar_calls.specs.declared.act.Arrival.TheVariants as arrivals
-use Rattle.pulsar_calls.specs.declared.act.LinkAct.TheVariants.{Reads, Ends}
-use Rattle.pulsar_calls.specs.declared.act.Notice.{Notice}
 use Rattle.pulsar_calls.specs.declared.act.Outcome.TheVariants as outcome
-use Rattle.pulsar_calls.specs.declared.act.Part.TheVariants.{ToLink, Polls}
-use Rattle.pulsar_calls.specs.declared.act.Who.TheVariants.{Consumer}
 use Rattle.pulsar_calls.specs.declared.act.Word.TheVariants as word
-use Rattle.pulsar_calls.specs.Who.{ticket_of}
 use Rattle.pulsar_consumer_table.specs.Consumers.{Member, is_closed_by}
-use Rattle.pulsar_tables.specs.Rules.{notice}
-use Rattle.pulsar_tables.specs.View.{Options, Seat, View, answer_at, arrival_at, closing, is_asked, place_of, url_at}
-use Rattle.pulsar_agenda.specs.Run.{Entry, Begins, Then, IsRun, view}
+use Rattle.pulsar_laws.proofs.Cases.{none_some, some_is}
 use Rattle.pulsar_laws.proofs.Ticketed.{consumer_ticket}
 use Rattle.pulsar_laws.specs.ConsumerLaws.{Flow, arrival_does, does_to, done_since, done_to, flows_after, flows_since, frame_does, loss_does, made_with, permits_of, subscription_does}
-use Rattle.pulsar_laws.specs.Laws.{EndsOnce}
 use Rattle.pulsar_laws.proofs.Drawing.{Every, here}
 use Rattle.pulsar_laws.proofs.Lone.{IsKept, IsMade, IsNone, RowFrom, begun_rows, consumers_alone_lem, row_from}
 use Rattle.pulsar_laws.proofs.Placed.{IsPlaced, asked_there, is_placed}
 use Rattle.pulsar_laws.proofs.Queueing.{flows_run, fresh_below, fresh_none}
 use Rattle.pulsar_laws.proofs.Riding.{LinkFrom, link_from}
-
-none_some : {A : Type 0} {x : A} → None ≡ Some x → ⊥
-none_some {A} {x} h = cc
-
-some_is : {A : Type 0} {x y : A} → Some x ≡ Some y → x ≡ y
-some_is {A} {x} {y} h = cc
 
 -- BUT FOR A NEW SUBSCRIPTION none that was taken is forgotten
 
@@ -197,7 +179,8 @@ module _ (once : EndsOnce) (o : Options) (log : List Entry) (t : ℕ) (k : Every
     where
       ask_new : (m : Member) (n u j m' p : ℕ) → makes_new (does_to v t m (Does (Consumer n u) (Ask j (words.SendFlow m' p)))) ≡ false
       ask_new m n u j m' p =
-          either_new (is_asked (answer_at v.now (words.SendFlow m' p) (v.links.live j)) && is_closed_by (closed_consumer (words.SendFlow m' p)) j m) _ _ refl refl
+          either_new (is_asked (answer_at v.now (words.SendFlow m' p) (v.links.live j)) && is_closed_by (closed_consumer (words.SendFlow m' p)) j m) _ _ refl
+          refl
   kept_covered (Does who (Revive j)) l s m run from is made = elim (cases_Bool (t == ticket_of who && is_some (v.links.live j))) [
     | inl d ↦ none_covered (flows_after v t (Does who (Revive j)) fs) _ (ap (λ b. cond b [] fs) d)
     | inr d ↦ plain_covered (Does who (Revive j)) l s m run from is made (ap (λ b. cond b [] fs) d)
@@ -205,7 +188,8 @@ module _ (once : EndsOnce) (o : Options) (log : List Entry) (t : ℕ) (k : Every
   kept_covered a l s m run from is made = plain_covered a l s m run from is made refl
 
   row_covered : (a : Act) → IsRun o (Then a ∷ log) → (m : Member) (l : ℕ) (s : Setup) → (view o (Then a ∷ log)).consumers.rows t ≡ Some m →
-      made_with t (Then a ∷ log) ≡ Some s → LinkFrom o log a t l → RowFrom o log a t → permits_of (flows_after v t a fs) ≤ asked_since s (done_to o t (Then a ∷ log))
+      made_with t (Then a ∷ log) ≡ Some s → LinkFrom o log a t l → RowFrom o log a t →
+      permits_of (flows_after v t a fs) ≤ asked_since s (done_to o t (Then a ∷ log))
   row_covered a run m l s is made from (IsNone e f) = absurd (none_some (sym f ∙ is))
   row_covered a run m l s is made from (IsMade s2 l2 e f how did) =
       none_covered (flows_after v t a fs) _ (fresh_none once o log t (flows_run once o log t run.0) a run e)

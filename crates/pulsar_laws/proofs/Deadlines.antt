@@ -2,27 +2,20 @@
 -- an end for want of use come only where their alarm rings.
 use Rattle.std.proofs.Common.{◌≡◌, ◌⊎◌, inl, inr, ◌∙◌, sym, ap, subst, ℕ, List, ◌∷◌, refl, map, Bool, true, false, cond, Option, Some, None, []}
 use Rattle.std.specs.Option.{is_none}
-use Rattle.pulsar_run.specs.Laws.{Arises, In, InOne}
+use Rattle.pulsar_laws.proofs.ActWords.{Act, Alarm, CheckIdle, Comes, Ends, Heard, Idles, KeepAlive, Notice, Overdue, Part, Pings, Rings, Told, ToLink}
+use Rattle.pulsar_laws.proofs.RunWords.{Arises, Begins, Entry, In, InOne, is_live, Options, rules, Then, view, View}
+use Rattle.pulsar_laws.proofs.LinkWords.{over_links, rings, Seat}
 use Rattle.pulsar_run.proofs.Arising.{acts_arise_lem}
 use Rattle.pulsar_session.specs.Link.{due}
-use Rattle.pulsar_calls.specs.declared.act.Act.{Act}
-use Rattle.pulsar_calls.specs.declared.act.Act.TheVariants.{Comes, Told}
-use Rattle.pulsar_calls.specs.declared.act.Alarm.{Alarm}
-use Rattle.pulsar_calls.specs.declared.act.Alarm.TheVariants.{KeepAlive, CheckIdle}
-use Rattle.pulsar_calls.specs.declared.act.End.TheVariants.{Overdue, Idles}
-use Rattle.pulsar_calls.specs.declared.act.LinkAct.TheVariants.{Ends, Pings}
-use Rattle.pulsar_calls.specs.declared.act.Notice.{Notice}
-use Rattle.pulsar_calls.specs.declared.act.Part.{Part}
-use Rattle.pulsar_calls.specs.declared.act.Part.TheVariants.{ToLink, Rings}
 use Rattle.pulsar_producer.specs.Routing.{Policy}
-use Rattle.pulsar_tables.specs.Alarms.{ringing, rings}
-use Rattle.pulsar_calls.specs.Content.{Heard, Ticked}
+use Rattle.pulsar_links.specs.Alarms.{ringing}
+use Rattle.pulsar_calls.specs.Content.{Ticked}
+use Rattle.pulsar_laws.proofs.Lists.{in_append, in_map}
 use Rattle.pulsar_laws.specs.Laws.{AlarmsAreTicked, DeadlinesAreTicked, IsDueAt, RingsAt}
 use Rattle.pulsar_laws.specs.AddressLaws.{IdleEnds, IsIdleAt, IsQuietAt, SignsOfLife}
-use Rattle.pulsar_tables.specs.Rules.{brings, due_part, idle_act, is_idle, keeps_alive, may_ping, over_links, rung}
-use Rattle.pulsar_agenda.specs.Run.{Entry, Begins, Then, rules, view}
-use Rattle.pulsar_tables.specs.View.{Options, Seat, View, is_live}
-use Rattle.pulsar_laws.proofs.Sources.{Any, Check, Fits, Keeping, Source, Tick, arises_fits, gives, in_append, in_links, in_map, in_one, source, step_more}
+use Rattle.pulsar_acts.specs.Rules.{brings, idle_act, is_idle, keeps_alive, rung}
+use Rattle.pulsar_links.specs.LinkRules.{due_part, may_ping}
+use Rattle.pulsar_laws.proofs.Sources.{Any, Check, Fits, Keeping, Source, Tick, arises_fits, gives, in_links, in_one, source, step_more}
 
 -- WHAT COMES FROM ELSEWHERE
 

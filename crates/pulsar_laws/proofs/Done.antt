@@ -1,25 +1,11 @@
 -- Whatever arises is done before the next event begins.
-use Rattle.std.proofs.Common.{◌≡◌, ◌⊎◌, inl, inr, ◌∙◌, ap, List, [], ◌∷◌, ◌++◌, map, Bool, true, false, cond, Some, None}
-use Rattle.pulsar_run.specs.Laws.{Arises, In, InOne}
-use Rattle.pulsar_run.specs.Order.{arranged, put, put_all}
-use Rattle.pulsar_run.specs.Run.{first_of, rest, rest_of}
-use Rattle.pulsar_calls.specs.declared.act.Act.{Act}
-use Rattle.pulsar_calls.specs.declared.act.Act.TheVariants.{Comes, Told}
-use Rattle.pulsar_calls.specs.declared.act.Notice.{Notice}
-use Rattle.pulsar_calls.specs.declared.act.Part.{Part}
+use Rattle.std.proofs.Common.{◌≡◌, ◌⊎◌, inl, inr, ◌∙◌, ap, List, [], ◌∷◌, ◌++◌, map, Some, None}
+use Rattle.pulsar_laws.proofs.ActWords.{Act, below, Comes, Notice, Part, Told}
+use Rattle.pulsar_laws.proofs.RunWords.{agenda, Arises, arranged, at_once, Begins, causes, Entry, first_of, further, In, InOne, IsRun, joins, Options, put_all, rest, rest_of, rules, Then, view}
+use Rattle.pulsar_run.specs.Order.{put}
+use Rattle.pulsar_laws.proofs.Lists.{in_left, in_right}
+use Rattle.pulsar_laws.proofs.Cases.{cond_so}
 use Rattle.pulsar_laws.specs.Laws.{AllIsDone, AreActs}
-use Rattle.pulsar_tables.specs.Rules.{at_once, below, causes, further, joins}
-use Rattle.pulsar_agenda.specs.Run.{Entry, Begins, Then, IsRun, agenda, rules, view}
-use Rattle.pulsar_tables.specs.View.{Options}
-
-in_left : {A : Type 0} (x : A) (xs ys : List A) → In x xs → In x (xs ++ ys)
-in_left x [] ys h = absurd h
-in_left x (y ∷ xs) ys (inl e) = inl e
-in_left x (y ∷ xs) ys (inr h) = inr (in_left x xs ys h)
-
-in_right : {A : Type 0} (x : A) (xs ys : List A) → In x ys → In x (xs ++ ys)
-in_right x [] ys h = h
-in_right x (y ∷ xs) ys h = inr (in_right x xs ys h)
 
 module _ (a : Act) where
   -- WHERE IT WAITS
@@ -42,19 +28,15 @@ module _ (a : Act) where
   one_right [] ys h = h
   one_right (x ∷ xs) ys h = inr (one_right xs ys h)
 
-  in_either : (b : Bool) (xs ys : List Notice) → In a (map Told xs) → In a (map Told ys) → In a (map Told (cond b xs ys))
-  in_either true xs ys p q = p
-  in_either false xs ys p q = q
-
   -- a list in order holds the same
   put_this : (n : Notice) (ys : List Notice) → a ≡ Told n → In a (map Told (put below n ys))
   put_this n [] e = inl e
-  put_this n (y ∷ ys) e = in_either (below n y) (n ∷ y ∷ ys) (y ∷ put below n ys) (inl e) (inr (put_this n ys e))
+  put_this n (y ∷ ys) e = cond_so (λ z. In a (map Told z)) (below n y) (n ∷ y ∷ ys) (y ∷ put below n ys) (inl e) (inr (put_this n ys e))
 
   put_other : (n : Notice) (ys : List Notice) → In a (map Told ys) → In a (map Told (put below n ys))
   put_other n [] h = absurd h
-  put_other n (y ∷ ys) (inl e) = in_either (below n y) (n ∷ y ∷ ys) (y ∷ put below n ys) (inr (inl e)) (inl e)
-  put_other n (y ∷ ys) (inr h) = in_either (below n y) (n ∷ y ∷ ys) (y ∷ put below n ys) (inr (inr h)) (inr (put_other n ys h))
+  put_other n (y ∷ ys) (inl e) = cond_so (λ z. In a (map Told z)) (below n y) (n ∷ y ∷ ys) (y ∷ put below n ys) (inr (inl e)) (inl e)
+  put_other n (y ∷ ys) (inr h) = cond_so (λ z. In a (map Told z)) (below n y) (n ∷ y ∷ ys) (y ∷ put below n ys) (inr (inr h)) (inr (put_other n ys h))
 
   all_others : (ns ys : List Notice) → In a (map Told ys) → In a (map Told (put_all below ns ys))
   all_others [] ys h = h

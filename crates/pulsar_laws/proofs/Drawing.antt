@@ -1,55 +1,32 @@
 -- Each number of a topic producer was drawn by the call that built it, and by no other; and that call has ended.
-use Rattle.std.proofs.Common.{◌≡◌, ◌⊎◌, inl, inr, ◌∙◌, sym, ap, subst, ℕ, ◌+◌, ◌-◌, ◌^◌, ◌<◌, ◌≤◌, ◌==◌, arith, List, [], ◌∷◌, ◌++◌, refl, map, Bool, true, false, ◌&&◌, nat_lt, cond, Option, Some, None}
+use Rattle.std.proofs.Common.{◌≡◌, ◌⊎◌, inl, inr, ◌∙◌, sym, ap, subst, ℕ, ◌+◌, ◌-◌, ◌^◌, ◌<◌, ◌≤◌, ◌==◌, arith, List, [], ◌∷◌, refl, map, Bool, true, false, ◌&&◌, nat_lt, cond, Option, Some, None}
 use Rattle.std.proofs.lemmas.Bool.{cases_Bool, eqb-true}
 use Rattle.std.proofs.lemmas.Bool.Decides.{nat_tests}
 use Rattle.std.specs.Option.{is_some, option_map}
+use Rattle.pulsar_laws.proofs.ActWords.{Act, Action, Alarm, Answers, Asked, Batch, Call, Calls, Comes, Does, Draw, Flush, Heard, is_same, lacks_tickets, Makes, Nothing, Notice, Number, Outcome, PassTurn, Procedure, Remake, Rings, shares, Shut, Starts, StopAll, Store, TakeBatch, TakeTurn, Told, turn_of, Verdict, Who}
+use Rattle.pulsar_laws.proofs.PlanWords.{Asking, Awaiting, begins, Built, fails, Gives, Plan, Producing, Stays, told, Turn}
+use Rattle.pulsar_laws.proofs.RunWords.{Answered, Begins, begun_same, counted, draws_on, each_map, Entry, In, IsRun, may_call, notice, Options, producers_made, producers_rung, room_of, started, stays, stays_some, Then, told_some, view, View}
+use Rattle.pulsar_laws.proofs.LinkWords.{Exhausted, rings}
 use Rattle.pulsar_messages.specs.Content.{ProducerMessageValues}
-use Rattle.pulsar_run.specs.Laws.{In}
-use Rattle.pulsar_session.specs.Failures.{Exhausted}
-use Rattle.pulsar_session.specs.Link.{is_spent}
-use Rattle.pulsar_link.specs.Request.{named_producer}
+use Rattle.pulsar_messages.specs.Claims.{is_spent}
+use Rattle.pulsar_exchange.specs.Request.{named_producer}
 use Rattle.pulsar_producer.specs.Producer as producer
 use Rattle.pulsar_producer.specs.Topic as topic
-use Rattle.pulsar_producer.specs.Storage.{limits_of}
+use Rattle.pulsar_outgoing.specs.Storage.{limits_of}
 use Rattle.pulsar_producer.specs.Topic.{Act as Deed, Closes, Halts, fresh}
-use Rattle.pulsar_producer.specs.declared.content.Built.{Built}
-use Rattle.pulsar_producer.specs.declared.storage.Limits.{Limits}
-use Rattle.pulsar_producer.specs.declared.deed.News.TheVariants as news
-use Rattle.pulsar_calls.specs.declared.act.Act.{Act}
-use Rattle.pulsar_calls.specs.declared.act.Act.TheVariants.{Comes, Starts, Told, Does, Answers}
-use Rattle.pulsar_calls.specs.declared.act.Action.{Action}
-use Rattle.pulsar_calls.specs.declared.act.Action.TheVariants.{TakeTurn, PassTurn, Draw, Remake, Number, Shut, Store, Flush, TakeBatch, StopAll}
-use Rattle.pulsar_calls.specs.declared.act.Alarm.{Alarm}
-use Rattle.pulsar_calls.specs.declared.act.Alarm.TheVariants.{Batch}
-use Rattle.pulsar_calls.specs.declared.act.Makes.{Makes}
-use Rattle.pulsar_calls.specs.declared.act.Makes.TheVariants.{Producer, Nothing}
-use Rattle.pulsar_calls.specs.declared.act.Notice.{Notice}
-use Rattle.pulsar_calls.specs.declared.act.Outcome.{Outcome}
+use Rattle.pulsar_outgoing.specs.declared.storage.Limits.{Limits}
+use Rattle.pulsar_outgoing.specs.declared.news.News.TheVariants as news
+use Rattle.pulsar_calls.specs.declared.act.Makes.TheVariants.{Producer}
 use Rattle.pulsar_calls.specs.declared.act.Outcome.TheVariants as outcome
-use Rattle.pulsar_calls.specs.declared.act.Part.TheVariants.{Calls, Rings}
-use Rattle.pulsar_calls.specs.declared.act.Procedure.{Procedure}
-use Rattle.pulsar_calls.specs.declared.act.Verdict.{Verdict}
-use Rattle.pulsar_calls.specs.declared.act.Who.{Who}
 use Rattle.pulsar_calls.specs.declared.act.Who.TheVariants as one
-use Rattle.pulsar_calls.specs.declared.act.Who.TheVariants.{Call}
 use Rattle.pulsar_calls.specs.declared.content.Building.{Building}
-use Rattle.pulsar_procedures.specs.declared.plan.Plan.{Plan}
-use Rattle.pulsar_procedures.specs.declared.plan.Plan.TheVariants.{Asking, Awaiting, Producing}
-use Rattle.pulsar_procedures.specs.declared.plan.Turn.{Turn}
-use Rattle.pulsar_procedures.specs.declared.plan.Turn.TheVariants.{Stays, Gives}
 use Rattle.pulsar_producer_table.specs.declared.table.Topic.{Topic}
 use Rattle.pulsar_calls.specs.Content as content
-use Rattle.pulsar_calls.specs.Content.{Asked, Heard, lacks_tickets, shares}
-use Rattle.pulsar_laws.specs.Laws.{Answered, counted, end_of, started}
-use Rattle.pulsar_procedures.specs.Plan.{begins, fails, told}
+pub use Rattle.pulsar_laws.proofs.Standing.{began_on}
+use Rattle.pulsar_laws.specs.Laws.{end_of}
 use Rattle.pulsar_producer_table.specs.Producers.{Producers, all_routed, called_on, changed, free_from, made_of, names_in, next_free, number_drawn, numbered, numbers_at, opened_on, routed, sent_on, shut_all, topic_after, why_not, with_built, with_topic, with_topics}
-use Rattle.pulsar_tables.specs.Rules.{notice}
-use Rattle.pulsar_tables.specs.Alarms.{rings}
-use Rattle.pulsar_agenda.specs.Run.{Entry, Begins, Then, IsRun, view}
-use Rattle.pulsar_tables.specs.View.{Options, View, draws_on, may_call, producers_made, producers_rung, room_of, stays, stays_some, told_some}
-use Rattle.pulsar_tables.specs.View as seen
-use Rattle.pulsar_calls.specs.Who.{is_same, rank, turn_of}
-use Rattle.pulsar_agenda.proofs.Acts.{Each, begun_same, each_map}
+use Rattle.pulsar_acts.specs.View as seen
+use Rattle.pulsar_calls.specs.Who.{rank}
 use Rattle.pulsar_laws.proofs.Batchers.{batcher_stands}
 use Rattle.pulsar_laws.proofs.Follow.{same_is}
 use Rattle.pulsar_laws.proofs.Granted.{GivenBy, granted_by, grants_given, in_each, is_grant}
@@ -71,6 +48,11 @@ Every P (e ∷ log) = P (e ∷ log) × Every P log
 pub here : (P : List Entry → Type 0) (log : List Entry) → Every P log → P log
 here P [] k = k
 here P (e ∷ log) k = k.0
+
+pub every_run : (o : Options) (P : List Entry → Type 0) → ((log : List Entry) → IsRun o log → P log) → (log : List Entry) → IsRun o log → Every P log
+every_run o P f [] run = f [] run
+every_run o P f (Begins e ∷ log) run = (f (Begins e ∷ log) run, every_run o P f log run.0)
+every_run o P f (Then a ∷ log) run = (f (Then a ∷ log) run, every_run o P f log run.0)
 
 -- ROWS
 
@@ -464,25 +446,6 @@ who_call o log (one.Producer m) verdict b makes run = absurd (no_producer o log 
 
 end_self : (w : Who) (verdict : Verdict) (t : ℕ) → w ≡ Call t → end_of t (Answers w verdict) ≡ 1
 end_self w verdict t e = ap (λ x. end_of t (Answers x verdict)) e ∙ ap (λ b. cond b 1 0) (self_same t)
-
--- one that ends had begun
-pub began_on : (o : Options) (log : List Entry) (w : Who) (p : Plan) → (view o log).stand w ≡ Some p → (q : Procedure) × (started w log ≡ Some q)
-began_on o [] w p h = absurd cc
-began_on o (Begins e ∷ log) w p h = began_on o log w p (sym (begun_same (λ v. v.stand w) e (view o log) refl) ∙ h)
-began_on o (Then (Starts who q) ∷ log) w p h = elim (cases_Bool (is_same w who)) [
-  | inl e ↦ (q, rw e refl)
-  | inr e ↦ (let k = began_on o log w p (rw e at h) in (k.0, rw e k.1))
-]
-began_on o (Then (Told n) ∷ log) w p h = elim (cases_Bool (is_same w n.who)) [
-  | inl e ↦ was ((view o log).stand w) (λ q f. began_on o log w q f) refl (rw e at h)
-  | inr e ↦ began_on o log w p (rw e at h)
-]
-  where
-    was : (row : Option Plan) → ((q : Plan) → (view o log).stand w ≡ Some q → (r : Procedure) × (started w log ≡ Some r)) → (view o log).stand w ≡ row →
-        stays_some (told_some row n.outcome) ≡ Some p → (r : Procedure) × (started w log ≡ Some r)
-    was None more e f = absurd cc
-    was (Some q) more e f = more q e
-began_on o (Then a ∷ log) w p h = began_on o log w p h
 
 unspent : (t : ℕ) → Began (Call t) → is_spent t ≡ false
 unspent t k = k

@@ -1,12 +1,14 @@
 -- A run, computed from its events: behind each event, the acts that are first, one after the other.
 use Rattle.std.proofs.Common.{◌≡◌, ◌∙◌, sym, ap, ℕ, zero, suc, List, ◌∷◌, refl, map, Option, Some, None, []}
+use Rattle.pulsar_laws.proofs.ActWords.{Act, Heard}
+use Rattle.pulsar_laws.proofs.RunWords.{after, agenda, Agenda, Begins, begun, Entry, first, IsRun, Options, parts, rules, Then, view, View}
 use Rattle.pulsar_run.specs.Run.{events, in_order, only, steps_done, with_effects}
-use Rattle.pulsar_calls.specs.declared.act.Act.{Act}
-use Rattle.pulsar_calls.specs.Content.{Heard}
-use Rattle.pulsar_tables.specs.Effects.{effect_below, effects}
-use Rattle.pulsar_tables.specs.Rules.{parts}
-use Rattle.pulsar_agenda.specs.Run.{Agenda, Entry, Begins, Then, Good, IsRun, Step, agenda, first, goes_on, rest, rules, view}
-use Rattle.pulsar_tables.specs.View.{Options, View, after, begun, new}
+use Rattle.pulsar_acts.specs.Effects.{effects}
+use Rattle.pulsar_calls.specs.Order.{effect_below}
+use Rattle.pulsar_acts.specs.Run.{Good, goes_on}
+use Rattle.pulsar_calls.specs.Steps.{Step}
+use Rattle.pulsar_agenda.specs.Agenda.{rest}
+use Rattle.pulsar_acts.specs.View.{new}
 
 -- what is seen, what is left to do, and the steps so far
 pub record State : Type 0 where

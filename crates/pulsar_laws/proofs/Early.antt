@@ -1,16 +1,17 @@
 -- Nothing stands in the line of a connection before it is ready.
 use Rattle.std.proofs.Common.{◌≡◌, ◌∙◌, sym, ap, refl, ℕ, ◌&&◌, ◌++◌, Bool, true, false, cond, List, [], ◌∷◌, drop, Option, Some, None, Result, Ok, Err}
-use Rattle.pulsar_wire.specs.declared.error.ConnectionError.{ConnectionError}
+use Rattle.pulsar_laws.proofs.LinkWords.{ConnectionError, is_numbered, Words}
 use Rattle.pulsar_wire.specs.declared.error.ConnectionError.TheVariants as error
 use Rattle.pulsar_frame.specs.Frame.{Front, Short, Refused, Whole, front}
 use Rattle.pulsar_messages.specs.Messages.{connect_command}
-use Rattle.pulsar_messages.specs.Words.{Words, is_numbered}
 use Rattle.pulsar_requests.specs.Waits.{ended, places}
 use Rattle.pulsar_session.specs.declared.states.Stage.{Stage}
 use Rattle.pulsar_session.specs.declared.states.Stage.TheVariants.{Dialing, Handshaking, Ready, Over}
 use Rattle.pulsar_session.specs.Answers.{is}
-use Rattle.pulsar_session.specs.Link.{Act, Asks, Closes, Drains, Feeds, Opens, Seen, Setup, Standing, Takes, after, after_of, answered_to, bare, drawn, frame_for, greeted, greets_with, has_room, is_open, is_over, is_ready, is_spent, moved_up, number_for, opens_in, queue, request, seen, settled_by, taken_in, ticked}
+use Rattle.pulsar_session.specs.Link.{Act, Asks, Closes, Drains, Feeds, Opens, Seen, Setup, Standing, Takes, after, after_of, answered_to, bare, drawn, frame_for, greeted, greets_with, has_room, is_open, is_over, is_ready, moved_up, number_for, opens_in, queue, request, seen, settled_by, taken_in, ticked}
+use Rattle.pulsar_messages.specs.Claims.{is_spent}
 use Rattle.pulsar_session.proofs.Pieces.{asks_for_apart, unless_stage}
+use Rattle.pulsar_laws.proofs.Cases.{cond_so}
 
 abbrev pub Early : Seen → Type 0
 Early v = is_ready v.stage ≡ false → v.line ≡ []
@@ -73,18 +74,14 @@ after_of_early (Ok id) now words v g h = λ r.
     absurd (let no = sym (ap is_ready ((asks_for_apart (request id now words)).stage (drawn (is_numbered words) v) ∙ drawn_stage (is_numbered words) v)
     ∙ g id refl) ∙ r in cc)
 
-cond_early : (b : Bool) (x y : Seen) → Early x → Early y → Early (cond b x y)
-cond_early true x y h g = h
-cond_early false x y h g = g
-
 act_early : (act : Act) (v : Seen) → Early v → Early (after act v)
 act_early (Opens now) v h = opens_early v.stage (ticked now v) refl h
-act_early (Feeds piece) v h = cond_early (is_open v.stage) (record v { unread = v.unread ++ piece }) v h h
+act_early (Feeds piece) v h = cond_so Early (is_open v.stage) (record v { unread = v.unread ++ piece }) v h h
 act_early (Takes now) v h = taken_early v.stage (front v.unread) (ticked now v) refl h
 act_early (Asks now words) v h = after_of_early (number_for (is_numbered words) v) now words (ticked now v) (λ id e. ready_of (is_numbered words) v id e) h
-act_early (Drains most now) v h = let b = record (ticked now v) { unwritten = drop most v.unwritten } in cond_early (is_open v.stage) (moved_up v.line b)
+act_early (Drains most now) v h = let b = record (ticked now v) { unwritten = drop most v.unwritten } in cond_so Early (is_open v.stage) (moved_up v.line b)
     (ticked now v) (moved_early b h) h
-act_early (Closes cause) v h = cond_early (is_over v.stage) v
+act_early (Closes cause) v h = cond_so Early (is_over v.stage) v
     (record v { stage = Over; error = Some cause; unwritten = []; line = []; waits = ended v.waits; unread = [] }) h (λ r. refl)
 
 pub early : (s : Setup) (h : List Act) → Early (seen s h)

@@ -1,41 +1,27 @@
 -- A consumer ends at one of the acts that end it, and stays so; and its permits are in bounds.
-use Rattle.std.proofs.Common.{◌≡◌, ◌≤◌, ℕ, ◌+◌, ◌-◌, ◌∙◌, sym, ap, subst, List, [], ◌∷◌, ◌++◌, refl, arith, Bool, true, false, ◌&&◌, ◌||◌, cond, Option, Some, None, inl, inr, ◌==◌, append_assoc}
-use Rattle.std.proofs.lemmas.Bool.{cases_Bool}
-use Rattle.std.specs.Option.{is_some, option_map, option_or}
+use Rattle.std.proofs.Common.{◌≡◌, ◌≤◌, ℕ, ◌+◌, ◌-◌, ◌∙◌, sym, ap, subst, List, [], ◌∷◌, ◌++◌, refl, arith, Bool, true, false, ◌&&◌, ◌||◌, cond, Option, Some, None, ◌==◌, append_assoc}
+use Rattle.std.specs.Option.{is_some, option_or}
+use Rattle.pulsar_laws.proofs.ActWords.{Act, Arrival, Ask, Comes, Does, Ends, FailConsumer, Polls, Reads, Revive, StopAll, TakeFlow, ticket_of, ToLink}
+use Rattle.pulsar_laws.proofs.RunWords.{Begins, EndsOnce, Entry, IsRun, Options, Then, view, View}
+use Rattle.pulsar_laws.proofs.LinkWords.{answer_at, arrival_at, closed_consumer, closing, Fault, is_asked, is_body, Reply, url_at}
 use Rattle.url.specs.Parts.{Parts}
-use Rattle.pulsar_link.specs.Items.{Item}
-use Rattle.pulsar_link.specs.Messages.{Reply, is_body}
-use Rattle.pulsar_link.specs.Request.{closed_consumer}
-use Rattle.pulsar_session.specs.Failures.{Fault}
-use Rattle.pulsar_session.specs.Link.{is_spent}
+use Rattle.pulsar_frame.specs.Items.{Item, is_message}
+use Rattle.pulsar_messages.specs.Claims.{is_spent}
 use Rattle.pulsar_wire.specs.Sink.{capped}
-use Rattle.pulsar_consumer.specs.Content.{ConfigValues}
 use Rattle.pulsar_consumer.specs.Frames.{frame_in, failed}
 use Rattle.pulsar_consumer.specs.Topic as reader
-use Rattle.pulsar_consumer.specs.Topic.{Act as Done, Lives, Hears, Loses, Fails, Ends as Over, Polls as Polled, Asks, Live, Seen, Setup, after, batch_size, counts_first, first_of, fresh, half, is_ended, is_message, link_of, lives_on, loses, seen}
-use Rattle.pulsar_consumer.specs.Laws.{IsFinished, arrivals as arrivals_in, begun}
-use Rattle.pulsar_consumer.specs.declared.polled.Ending.{Ending}
-use Rattle.pulsar_consumer.specs.declared.polled.Ending.TheVariants.{Closed, LinkLost, NotSubscribed, Stopped, TopicEnded}
+use Rattle.pulsar_consumer.specs.Topic.{Act as Done, Lives, Hears, Loses, Fails, Ends as Over, Polls as Polled, Asks, Seen, Setup, after, batch_size, counts_first, first_of, fresh, half, is_ended, link_of, lives_on, loses, seen}
+use Rattle.pulsar_consumer.specs.Laws.{arrivals as arrivals_in}
+use Rattle.pulsar_incoming.specs.declared.polled.Ending.{Ending}
+use Rattle.pulsar_incoming.specs.declared.polled.Ending.TheVariants.{Closed, LinkLost, NotSubscribed, Stopped, TopicEnded}
 use Rattle.pulsar_consumer.proofs.Histories.{counted_same, end_is_final, permits_in_bounds}
 use Rattle.pulsar_consumer.proofs.Counted.{permits_are_counted}
-use Rattle.pulsar_calls.specs.declared.act.Act.{Act}
-use Rattle.pulsar_calls.specs.declared.act.Act.TheVariants.{Comes, Does, Answers}
-use Rattle.pulsar_calls.specs.declared.act.Action.TheVariants.{Ask, TakeFlow, Revive, FailConsumer, StopAll}
-use Rattle.pulsar_calls.specs.declared.act.Arrival.{Arrival}
 use Rattle.pulsar_calls.specs.declared.act.Arrival.TheVariants as arrivals
-use Rattle.pulsar_calls.specs.declared.act.LinkAct.TheVariants.{Reads, Ends}
-use Rattle.pulsar_calls.specs.declared.act.Part.TheVariants.{ToLink, Polls}
-use Rattle.pulsar_calls.specs.Who.{ticket_of}
 use Rattle.pulsar_consumer_table.specs.Consumers.{Member, is_closed_by, subscribed_on}
-use Rattle.pulsar_tables.specs.View.{Options, View, answer_at, arrival_at, closing, is_asked, member_on, url_at}
-use Rattle.pulsar_agenda.specs.Run.{Entry, Begins, Then, IsRun, view}
+use Rattle.pulsar_laws.proofs.Cases.{none_some, some_is}
 use Rattle.pulsar_laws.proofs.Ticketed.{consumer_ticket, older_ticket}
 use Rattle.pulsar_laws.specs.ConsumerLaws.{ConsumersEnd, ConsumersRemain, PermitsAreKept, arrival_does, arrival_ends, does_to, done_to, ends_at, ends_by, frame_does, frame_ends, has_ended, loss_does, made_with, subscription_does}
-use Rattle.pulsar_laws.specs.Laws.{EndsOnce}
 use Rattle.pulsar_laws.proofs.Lone.{IsKept, IsMade, IsNone, RowFrom, applied, begun_rows, consumers_alone_lem, row_from}
-
-none_some : {A : Type 0} {x : A} → None ≡ Some x → ⊥
-none_some {A} {x} h = cc
 
 or_false : (b : Bool) → b ≡ (b || false)
 or_false true = refl
@@ -81,7 +67,8 @@ fails_end false v w e f = f
 
 after_ends : (act : Done) (s : Seen) → is_ended (after act s) ≡ (is_ended s || closes_at act s)
 after_ends (Lives l url) s =
-    elim (is_ended s) as (λ b. is_ended (cond b s (record s { engine = record s.engine { live = Some (reader.subscribed s.engine.batch l url) } })) ≡ (is_ended s || false))
+    elim (is_ended s) as
+    (λ b. is_ended (cond b s (record s { engine = record s.engine { live = Some (reader.subscribed s.engine.batch l url) } })) ≡ (is_ended s || false))
     [ true ↦ or_false (is_ended s) | false ↦ or_false (is_ended s) ]
 after_ends (Hears l f) s = same_end (lives_on l s) s (record s { engine = reader.hears f s.engine }) refl
 after_ends (Loses l) s = lost_end (lives_on l s) s
@@ -183,7 +170,8 @@ module _ (once : EndsOnce) (o : Options) (t : ℕ) (un : is_spent t ≡ false) w
 
   ended : (log : List Entry) → IsRun o log → EndedAt o log t ((view o log).consumers.rows t)
   ended [] run = refl
-  ended (Begins e ∷ log) run = subst (EndedAt o (Begins e ∷ log) t) (sym (begun_rows e (view o log) t)) (begun_so ((view o log).consumers.rows t) (ended log run.0))
+  ended (Begins e ∷ log) run =
+      subst (EndedAt o (Begins e ∷ log) t) (sym (begun_rows e (view o log) t)) (begun_so ((view o log).consumers.rows t) (ended log run.0))
     where
       begun_so : (row : Option Member) → EndedAt o log t row → EndedAt o (Begins e ∷ log) t row
       begun_so None k = k
@@ -230,9 +218,6 @@ older_run : (o : Options) (later older : List Entry) → IsRun o (later ++ older
 older_run o [] older run = run
 older_run o (Begins e ∷ later) older run = older_run o later older run.0
 older_run o (Then a ∷ later) older run = older_run o later older run.0
-
-some_is : {A : Type 0} {x y : A} → Some x ≡ Some y → x ≡ y
-some_is {A} {x} {y} e = cc
 
 pub consumers_remain_lem : EndsOnce → ConsumersRemain
 consumers_remain_lem once o later older t m run e =

@@ -2,84 +2,57 @@
 use Rattle.std.proofs.Common.{◌≡◌, ◌⊎◌, inl, inr, ◌∙◌, sym, ap, subst, ℕ, List, [], ◌∷◌, ◌++◌, refl, Bool, true, false, ◌&&◌, ◌||◌, not, cond, Option, Some, None, Result, Ok, Err, append-nil, ◌==◌, ◌-◌}
 use Rattle.std.specs.List.{list_any}
 use Rattle.std.specs.Option.{is_some}
-use Rattle.pulsar_run.specs.Laws.{In}
-use Rattle.pulsar_session.specs.Failures.{DiscoveryFault, Failure, OfConnection, OfDiscovery, OfPartialSend, ConsumerClosed, OfConsumer}
-use Rattle.pulsar_session.specs.Reply.{Reply as Content}
+use Rattle.pulsar_laws.proofs.ActWords.{Action, Checks, Flushes, Link, Makes, Nothing, numbers_from, Outcome, Procedure, Rest, Said, Share, Verdict}
+use Rattle.pulsar_laws.proofs.PlanWords.{Asking, Awaiting, Batches, Batching, begins, Building as Build, Built, Command, Says as CountIs, Errand, fails, Gives, is_answer, Leaving, Making, Naming, Heard as News, news_in, news_of, Order, overrides, Plan, Producing, Reporting, SearchTurn, Sending as Send, Served, Serving, Stays, Stored, Storing, Subscribing, told, Turn, verdict, Visiting, Ways, Deed as Wish}
+use Rattle.pulsar_laws.proofs.RunWords.{Answered, In}
+use Rattle.pulsar_laws.proofs.LinkWords.{Failure, Named, OfConnection, Reply}
+use Rattle.pulsar_wire.specs.Failures.{DiscoveryFault, OfDiscovery, OfPartialSend, ConsumerClosed, OfConsumer}
+use Rattle.pulsar_frame.specs.Reply.{Reply as Content}
 use Rattle.pulsar_wire.specs.Row.{Values}
 use Rattle.pulsar_wire.specs.Rows.{send_receipt}
-use Rattle.pulsar_link.specs.Messages.{Reply, Written}
-use Rattle.pulsar_link.specs.Refusals.{refused}
-use Rattle.pulsar_link.specs.Request.{is_answered, request_number}
-use Rattle.pulsar_plans.specs.Plans as search
-use Rattle.pulsar_plans.specs.Replies.{in_discovery, unexpected, count_in}
-use Rattle.pulsar_plans.specs.declared.plan.Answer.{Answer}
-use Rattle.pulsar_plans.specs.declared.plan.Answer.TheVariants as answer
-use Rattle.pulsar_plans.specs.declared.plan.Plan.{Plan as Search}
-use Rattle.pulsar_plans.specs.declared.turn.Outcome.{Outcome as News}
-use Rattle.pulsar_plans.specs.declared.turn.Outcome.TheVariants as news
-use Rattle.pulsar_plans.specs.declared.turn.Turn.{Turn as SearchTurn}
-use Rattle.pulsar_plans.specs.declared.turn.Turn.TheVariants as search_turn
-use Rattle.pulsar_plans.specs.declared.turn.Ways.{Ways}
-use Rattle.pulsar_producer.specs.Errors.{in_producer}
+use Rattle.pulsar_exchange.specs.Messages.{Written}
+use Rattle.pulsar_exchange.specs.Refusals.{refused}
+use Rattle.pulsar_exchange.specs.Request.{is_answered, request_number}
+use Rattle.pulsar_searches.specs.Plans as search
+use Rattle.pulsar_searches.specs.Replies.{unexpected, count_in}
+use Rattle.pulsar_addresses.specs.Address.{in_discovery}
+use Rattle.pulsar_searches.specs.declared.plan.Answer.{Answer}
+use Rattle.pulsar_searches.specs.declared.plan.Answer.TheVariants as answer
+use Rattle.pulsar_searches.specs.declared.plan.Plan.{Plan as Search}
+use Rattle.pulsar_searches.specs.declared.turn.Outcome.TheVariants as news
+use Rattle.pulsar_searches.specs.declared.turn.Turn.TheVariants as search_turn
+use Rattle.pulsar_outgoing.specs.Errors.{in_producer}
 use Rattle.pulsar_producer.specs.Plans as produce
 use Rattle.pulsar_producer.specs.Plans.{fault_told}
-use Rattle.pulsar_producer.specs.declared.batching.Batching.{Batching as Batches}
-use Rattle.pulsar_producer.specs.declared.building.Building.{Building as Build}
-use Rattle.pulsar_producer.specs.declared.building.Order.{Order}
-use Rattle.pulsar_producer.specs.declared.content.Built.{Built}
-use Rattle.pulsar_producer.specs.declared.deed.Deed.{Deed as Wish}
-use Rattle.pulsar_producer.specs.declared.deed.News.TheVariants as granting
+use Rattle.pulsar_outgoing.specs.declared.news.News.TheVariants as granting
 use Rattle.pulsar_producer.specs.declared.deed.Step.{Step}
 use Rattle.pulsar_producer.specs.declared.deed.Step.TheVariants as step
-use Rattle.pulsar_producer.specs.declared.sending.Errand.{Errand}
-use Rattle.pulsar_producer.specs.declared.sending.Sending.{Sending as Send}
-use Rattle.pulsar_calls.specs.declared.act.Action.{Action}
-use Rattle.pulsar_calls.specs.declared.act.Action.TheVariants.{Rest}
-use Rattle.pulsar_calls.specs.declared.act.Makes.{Makes}
-use Rattle.pulsar_calls.specs.declared.act.Makes.TheVariants.{Nothing}
-use Rattle.pulsar_calls.specs.declared.act.Outcome.{Outcome}
 use Rattle.pulsar_calls.specs.declared.act.Outcome.TheVariants as outcome
 use Rattle.pulsar_calls.specs.declared.act.Outcome.TheVariants.{GotLink, Queued, InLine, Replied, Granted, Parted, Settled, Cut, Stopped}
-use Rattle.pulsar_calls.specs.declared.act.Place.TheVariants.{At, Link}
-use Rattle.pulsar_calls.specs.declared.act.Procedure.{Procedure}
+use Rattle.pulsar_calls.specs.declared.act.Place.TheVariants.{At}
 use Rattle.pulsar_calls.specs.declared.act.Procedure.TheVariants as procedure
 use Rattle.pulsar_calls.specs.declared.act.Round.{Round}
-use Rattle.pulsar_calls.specs.declared.act.Round.TheVariants.{Checks, Flushes, Closes}
-use Rattle.pulsar_calls.specs.declared.act.Share.{Share}
-use Rattle.pulsar_calls.specs.declared.act.Verdict.{Verdict}
-use Rattle.pulsar_procedures.specs.declared.plan.At.{At as Point}
-use Rattle.pulsar_procedures.specs.declared.plan.At.TheVariants as point
-use Rattle.pulsar_procedures.specs.declared.plan.Plan.{Plan}
-use Rattle.pulsar_procedures.specs.declared.plan.Plan.TheVariants.{Building, Getting, Asking, Awaiting, Searching, Producing, Sending, Reporting, Storing, Stored, Batching, Leaving, Gathering, Shutting, Visiting, Stopping, Subscribing, Serving, Acknowledging, Departing}
-use Rattle.pulsar_procedures.specs.declared.plan.Turn.{Turn}
-use Rattle.pulsar_procedures.specs.declared.plan.Turn.TheVariants.{Stays, Gives}
-use Rattle.pulsar_calls.specs.Content.{Said, Done, Receipt, Replies, Failed}
-use Rattle.pulsar_laws.specs.Laws.{Deed, Acted, Answered, FailsSo, IsRefused, IsRefusedShare, IsTold, IsTurned, IsDenied, IsUnexpected, IsInProducer, IsUnexpectedInProducer, IsSettled, IsPartial, IsAnswered, DeniesSo, acted, course, fails_in_producer, has_failed, number_in, ways_in, IsInUse, IsOfSeveral, IsClosed}
-use Rattle.pulsar_calls.specs.Content.{numbers_from}
+use Rattle.pulsar_calls.specs.declared.act.Round.TheVariants.{Closes}
+use Rattle.pulsar_plans.specs.declared.plan.At.{At as Point}
+use Rattle.pulsar_plans.specs.declared.plan.At.TheVariants as point
+use Rattle.pulsar_plans.specs.declared.plan.Plan.TheVariants.{Building, Getting, Searching, Sending, Gathering, Shutting, Stopping, Acknowledging, Departing}
+use Rattle.pulsar_calls.specs.Content.{Done, Receipt, Replies, Failed}
+use Rattle.pulsar_laws.proofs.Arcs.{Arc, End, ends, by_arcs, flowed_takes, is_server, over}
+use Rattle.pulsar_laws.proofs.Cases.{cond_so}
+use Rattle.pulsar_laws.specs.Laws.{Deed, Acted, FailsSo, IsRefused, IsRefusedShare, IsTold, IsTurned, IsDenied, IsUnexpected, IsInProducer, IsUnexpectedInProducer, IsSettled, IsPartial, IsAnswered, DeniesSo, acted, course, fails_in_producer, has_failed, number_in, ways_in, IsInUse, IsOfSeveral, IsClosed}
 use Rattle.pulsar_calls.specs.Parts.{failed_with, outcomes_of, sent_from}
-use Rattle.pulsar_procedures.specs.Plan.{asks_of, begins, builds, fails, fails_in, fails_with, failure_in, failure_of, fault_of, found, gathers, goes, goes_on_sending, goes_round, halted, in_stored, in_storing, is_answer, is_settled, leaves, news_in, news_of, overrides, parted, receipt_said, sends_stay, settled, stored, told, told_at, told_batch, tells, verdict, visited, visits, consumer_news_of, in_departing, in_recalling, in_resting, in_resuming, in_reviving, in_subscribing, in_taking, is_over, resting_hears, resubscribes, subscribes, told_service}
+use Rattle.pulsar_plans.specs.Plan.{asks_of, builds, fails_in, fails_with, failure_in, failure_of, fault_of, found, gathers, goes, goes_on_sending, goes_round, halted, in_stored, in_storing, is_settled, leaves, parted, receipt_said, sends_stay, settled, stored, told_at, told_batch, tells, visited, visits, consumer_news_of, in_departing, in_subscribing, subscribes}
 use Rattle.pulsar_producer.specs.Batching.{is_sent_send}
 use Rattle.pulsar_laws.proofs.Productions.{AllowsBreaks, AllowsReply, BuildKeeps, Ends, SendKeeps, building_begins, building_ends, sending_ends}
 use Rattle.pulsar_laws.proofs.Searches.{Breaks, ByFault, BySearch, ByReply, Keeps, Turns, is_search, is_sought, keeps_begins, keeps_told, FailsBy, made_fails, names_begin, naming_fails}
-use Rattle.pulsar_plans.specs.Address.{Named}
-use Rattle.pulsar_plans.specs.declared.making.Command.{Command}
-use Rattle.pulsar_procedures.specs.declared.service.Service.{Service}
-use Rattle.pulsar_procedures.specs.declared.states.Resubscribing.{Resubscribing}
-use Rattle.pulsar_calls.specs.declared.act.Word.{Word}
 use Rattle.pulsar_consumer.specs.declared.building.Building.{Building as ConsumerBuild}
 use Rattle.pulsar_consumer.specs.declared.building.News.{News as ConsumerNews}
-use Rattle.pulsar_consumer.specs.declared.building.Order.{Order as ConsumerOrder}
-use Rattle.pulsar_procedures.specs.declared.service.Service.TheVariants as service
+use Rattle.pulsar_incoming.specs.declared.orders.Order.{Order as ConsumerOrder}
 use Rattle.pulsar_calls.specs.declared.act.Word.TheVariants as word
 use Rattle.pulsar_consumer.specs.Plans as consume
-use Rattle.pulsar_plans.specs.declared.closing.Step.TheVariants as building_step
+use Rattle.pulsar_searches.specs.declared.closing.Step.TheVariants as building_step
 use Rattle.pulsar_consumer.specs.declared.building.Building.TheVariants as consumer_build
 use Rattle.pulsar_consumer.specs.declared.building.News.TheVariants as consumer_news
-use Rattle.pulsar_laws.proofs.Consuming.{IsServing, service_serves}
-use Rattle.pulsar_plans.specs.declared.replies.Heard.TheVariants.{Says as CountIs}
-use Rattle.pulsar_plans.specs.declared.names.Naming.{Naming}
-use Rattle.pulsar_plans.specs.declared.making.Making.{Making}
-use Rattle.pulsar_plans.specs.declared.making.Served.{Served}
 use Rattle.pulsar_laws.proofs.Counted.{Heeds, IsCounted, NamedIn, NamesKept, Several, names_begin_kept, names_kept}
 
 -- FAULTS
@@ -266,10 +239,6 @@ module _ (p : Procedure) (all : List Outcome) where
   TurnHolds (Stays plan action) = Holds plan
   TurnHolds (Gives verdict) = Says verdict.said
 
-  either_holds : (b : Bool) (x y : Turn Plan Verdict) → TurnHolds x → TurnHolds y → TurnHolds (cond b x y)
-  either_holds true x y k m = k
-  either_holds false x y k m = m
-
   -- the verdict is that of an outcome that it was told
   told_so : (u : Outcome) → In u all → TurnHolds (Gives (fails (fault_of u)))
   told_so u i = says_failed (OfConnection (fault_of u)) (IsTold u i refl)
@@ -353,7 +322,7 @@ module _ (p : Procedure) (all : List Outcome) where
       TurnHolds (sends_stay w e share s d)
   stays_hold w e None s d is fs k = (is, fs, k)
   stays_hold w e (Some share) s d is fs k =
-      either_holds (is_sent_send s) (Stays (Reporting w e) (tells share (parted share None))) (Stays (Sending w e (Some share) s) _) (is, fs) (is, fs, k)
+      cond_so TurnHolds (is_sent_send s) (Stays (Reporting w e) (tells share (parted share None))) (Stays (Sending w e (Some share) s) _) (is, fs) (is, fs, k)
 
   sends_hold : (w : Ways) (e : Errand) (share : Option Share) (x : produce.Sent) → ways_in p ≡ Some w → fails_in_producer p ≡ true →
       Ends (SendKeeps Fails') Fails' x →
@@ -382,7 +351,7 @@ module _ (p : Procedure) (all : List Outcome) where
   in_stored_holds u i = with_failure (OfConnection (fault_of u)) (IsTold u i refl)
 
   batch_holds : (w : Ways) (e : Errand) (b : Batches) (u : Outcome) → TurnHolds (told_batch w e b u)
-  batch_holds w e b u = either_holds (overrides u) _ _ tt tt
+  batch_holds w e b u = cond_so TurnHolds (overrides u) _ _ tt tt
 
   -- A CALL WITH PARTS
 
@@ -397,7 +366,7 @@ module _ (p : Procedure) (all : List Outcome) where
       (failures ≡ []) ⊎ (list_any has_failed all ≡ true) →
       TurnHolds (gathers first count left failures)
   gathers_hold first count left failures is k =
-      either_holds (left == 0) (Gives (verdict Nothing (sent_from first count failures))) (Stays (Gathering first count left failures) Rest)
+      cond_so TurnHolds (left == 0) (Gives (verdict Nothing (sent_from first count failures))) (Stays (Gathering first count left failures) Rest)
       (says_sent first count failures is k) (is, k)
 
   failed_more : (ticket : ℕ) (f : Option Failure) (failures : List (ℕ × Failure)) → In (Parted ticket f) all →
@@ -437,7 +406,7 @@ module _ (p : Procedure) (all : List Outcome) where
 
   visited_holds : (r : Round) (left : List ℕ) (n : ℕ) (reply : Reply) → RoundKeeps r → In (Replied reply) all → TurnHolds (visited r left n reply)
   visited_holds r left n reply k i =
-      either_holds (is_answer (request_number (asks_of r n)) reply.content.body) (goes_round r left) (fails_in r (refused reply reply.content.body))
+      cond_so TurnHolds (is_answer (request_number (asks_of r n)) reply.content.body) (goes_round r left) (fails_in r (refused reply reply.content.body))
       (round_holds r left k)
       (with_failure (failure_in r (refused reply reply.content.body)) (round_refused r reply k i))
 
@@ -515,10 +484,19 @@ module _ (p : Procedure) (all : List Outcome) where
       (building_fails Fails' w all o b (consumer_news.Told (news_in u)) (told_allows w o u is i) m)
       (build_kept w all o b (consumer_news.Told (news_in u)) (λ x e. heeds_so w u i x e) m)
 
-  serves_holds : (x : Turn Plan Verdict) → IsServing x → TurnHolds x
-  serves_holds (Stays (Serving w n s) action) k = tt
-  serves_holds (Stays q action) k = absurd k
-  serves_holds (Gives v) k = subst (λ x. Says x.said) (sym k) says_done
+  -- one that serves a consumer goes on so, and ends well
+  server_holds : {x : Plan} {u : Outcome} (q : Plan) {a : Action} → Arc x u q a → is_server x ≡ true → Holds q
+  server_holds (Serving w n s) e h = tt
+  server_holds q e h = absurd (other e h refl)
+    where
+      other : {x y : Plan} {u : Outcome} {a : Action} → Arc x u y a → is_server x ≡ true → is_server y ≡ false → ⊥
+      other flowed_takes h k = cc
+      other _ h k = cc
+
+  server_says : {x : Plan} {u : Outcome} {v : Verdict} → End x u v → is_server x ≡ true → Says v.said
+  server_says over h = says_done
+  server_says (ends x n) h = (let f : true ≡ false = sym h ∙ n in absurd cc)
+  server_says _ h = absurd cc
 
   departing_holds : (t n : ℕ) (u : Outcome) → p ≡ procedure.Leave t n → In u all → TurnHolds (in_departing t n u)
   departing_holds t n (GotLink link) is i = ap number_in is
@@ -532,8 +510,8 @@ module _ (p : Procedure) (all : List Outcome) where
   told_holds Building u k i proper = told_so u i
   told_holds (Getting request s) (GotLink link) k i proper = k
   told_holds (Getting request s) u k i proper = told_so u i
-  told_holds (Asking w) Queued k i proper = either_holds (is_answered w.number) (Stays (Awaiting w) Rest) (Gives (verdict Nothing Done)) k says_done
-  told_holds (Asking w) InLine k i proper = either_holds (is_answered w.number) (Stays (Asking w) Rest) (Gives (verdict Nothing Done)) k says_done
+  told_holds (Asking w) Queued k i proper = cond_so TurnHolds (is_answered w.number) (Stays (Awaiting w) Rest) (Gives (verdict Nothing Done)) k says_done
+  told_holds (Asking w) InLine k i proper = cond_so TurnHolds (is_answered w.number) (Stays (Asking w) Rest) (Gives (verdict Nothing Done)) k says_done
   told_holds (Asking w) u k i proper = told_so u i
   told_holds (Awaiting w) (Replied r) k i proper = λ f h. IsAnswered r w.number w.says i k h
   told_holds (Awaiting w) u k i proper = told_so u i
@@ -544,11 +522,12 @@ module _ (p : Procedure) (all : List Outcome) where
   told_holds (Searching w s) u k i proper =
       goes_holds w (Turns w (news_in u)) (search.told w s (news_in u)) k.0 (keeps_told w s (news_in u) k.1) (λ f t. turns_so w u f k.0 i t)
   told_holds (Producing w order b) u k i proper =
-      either_holds (overrides u) (Gives (fails (fault_of u))) (builds w order (produce.build_told w order b (news_of u))) (told_so u i)
+      cond_so TurnHolds (overrides u) (Gives (fails (fault_of u))) (builds w order (produce.build_told w order b (news_of u))) (told_so u i)
       (builds_hold w order (produce.build_told w order b (news_of u)) k.0
       (building_ends Fails' w order b (news_of u) (IsTold u i (ap OfConnection (told_same u))) (allows_breaks w u k.0 i proper) k.1))
   told_holds (Sending w e share s) u k i proper =
-      either_holds (overrides u && not (is_sent_send s)) (halted share u) (goes_on_sending w e share (produce.send_told w e s (news_of u))) (halted_hold share u i)
+      cond_so TurnHolds (overrides u && not (is_sent_send s)) (halted share u) (goes_on_sending w e share (produce.send_told w e s (news_of u)))
+      (halted_hold share u i)
       (sends_hold w e share (produce.send_told w e s (news_of u)) k.0 k.1
       (sending_ends Fails' w e s (news_of u) (IsInProducer u k.1 i (ap in_producer (told_same u))) (allows_breaks w u k.0 i proper)
       (allows_reply u k.1 i proper) k.2))
@@ -563,11 +542,11 @@ module _ (p : Procedure) (all : List Outcome) where
   told_holds (Shutting numbers) (Granted granting.Done) k i proper = round_holds Closes numbers k
   told_holds (Shutting numbers) u k i proper = told_so u i
   told_holds (Visiting r n left x) u k i proper =
-      either_holds (overrides u) (Gives (fails (fault_of u))) (told_at r n left x u) (told_so u i) (visits_hold r n left x u k i)
+      cond_so TurnHolds (overrides u) (Gives (fails (fault_of u))) (told_at r n left x u) (told_so u i) (visits_hold r n left x u k i)
   told_holds (Subscribing w o b) u k i proper =
-      either_holds (overrides u) (Gives (fails (fault_of u))) (in_subscribing w o b (consumer_news_of u)) (told_so u i) (subscribing_holds w o b u k.0 k.1 i)
-  told_holds (Serving w n s) u k i proper =
-      either_holds (overrides u) is_over (told_service w n s u) says_done (serves_holds (told_service w n s u) (service_serves w n s u))
+      cond_so TurnHolds (overrides u) (Gives (fails (fault_of u))) (in_subscribing w o b (consumer_news_of u)) (told_so u i)
+      (subscribing_holds w o b u k.0 k.1 i)
+  told_holds (Serving w n s) u k i proper = by_arcs TurnHolds (Serving w n s) u (λ q a e. server_holds q e refl) (λ v e. server_says e refl)
   told_holds Acknowledging u k i proper = says_done
   told_holds (Departing t n) u k i proper = departing_holds t n u k i
   told_holds Stopping Stopped k i proper = says_done

@@ -1,52 +1,28 @@
 -- A call fails with what it was told.
-use Rattle.std.proofs.Common.{◌≡◌, inl, inr, ◌∙◌, ap, subst, ℕ, ◌+◌, List, [], ◌∷◌, ◌++◌, refl, Bool, true, false, not, cond, drop, Option, Some, None, ◌==◌}
+use Rattle.std.proofs.Common.{◌≡◌, inl, inr, ◌∙◌, ap, subst, ℕ, ◌+◌, List, [], ◌∷◌, ◌++◌, refl, Bool, true, false, not, drop, Option, Some, None, ◌==◌}
 use Rattle.std.proofs.lemmas.Bool.{cases_Bool}
 use Rattle.std.specs.Option.{is_some}
-use Rattle.pulsar_run.specs.Laws.{In, InThisStep}
-use Rattle.pulsar_run.specs.Run.{rest}
+use Rattle.pulsar_laws.proofs.ActWords.{Act, Action, Answers, Asked, Calls, Checks, Comes, Does, Flushes, is_same, lacks_tickets, Link, next_advice, Outcome, Procedure, Refusal, Rest, Share, shares, Starts, Tell, TellAll, Told, Verdict, Who}
+use Rattle.pulsar_laws.proofs.PlanWords.{begins, Errand, Gives, Heard as News, Order, Plan, Sought, Stays, Turn, Ways}
+use Rattle.pulsar_laws.proofs.RunWords.{agenda, asks_raw, asks_topics, at_once, Begins, builds_with, Cause, checks, Chosen, closes, does, Each, each_append, each_either, each_first, each_map, each_rest, Entry, fails_as, flushes, flushes_all, follows, follows_some, from_base, gathers, In, InThisStep, is_served, IsRun, may_call, notice, Options, parts_of, performs, procedure_for, produces, produces_from, rest, searches, sends, sends_as, sends_by, share, shares_of, shares_unless, started, starts, stores_as, Then, Tickets, told_some, unless, unless_refused, view, View, ways_of, why_no_raw, why_no_sends}
+use Rattle.pulsar_laws.proofs.LinkWords.{Place}
 use Rattle.pulsar_frame.specs.Batch.{EntryValues}
 use Rattle.pulsar_messages.specs.Content.{ProducerMessageValues}
-use Rattle.pulsar_plans.specs.Address.{Place}
-use Rattle.pulsar_plans.specs.declared.plan.Procedure.{Procedure as Sought}
-use Rattle.pulsar_plans.specs.declared.plan.Procedure.TheVariants as sought
-use Rattle.pulsar_plans.specs.declared.turn.Outcome.{Outcome as News}
-use Rattle.pulsar_plans.specs.declared.turn.Ways.{Ways}
-use Rattle.pulsar_producer.specs.Wanted.{ProducerWanted}
-use Rattle.pulsar_producer.specs.declared.building.Order.{Order}
-use Rattle.pulsar_producer.specs.declared.deed.News.TheVariants as granting
-use Rattle.pulsar_producer.specs.declared.sending.Errand.{Errand}
-use Rattle.pulsar_calls.specs.declared.act.Act.{Act}
-use Rattle.pulsar_calls.specs.declared.act.Act.TheVariants.{Comes, Starts, Told, Does, Answers}
-use Rattle.pulsar_calls.specs.declared.act.Action.{Action}
-use Rattle.pulsar_calls.specs.declared.act.Action.TheVariants.{Rest, Tell, TellAll}
-use Rattle.pulsar_calls.specs.declared.act.Outcome.{Outcome}
+use Rattle.pulsar_searches.specs.declared.plan.Procedure.TheVariants as sought
+use Rattle.pulsar_outgoing.specs.Wanted.{ProducerWanted}
+use Rattle.pulsar_outgoing.specs.declared.news.News.TheVariants as granting
 use Rattle.pulsar_calls.specs.declared.act.Outcome.TheVariants.{Granted}
-use Rattle.pulsar_calls.specs.declared.act.Part.TheVariants.{Calls}
-use Rattle.pulsar_calls.specs.declared.act.Place.TheVariants.{Link}
-use Rattle.pulsar_calls.specs.declared.act.Procedure.{Procedure}
 use Rattle.pulsar_calls.specs.declared.act.Procedure.TheVariants as procedure
-use Rattle.pulsar_calls.specs.declared.act.Refusal.{Refusal}
 use Rattle.pulsar_calls.specs.declared.act.Refusal.TheVariants as refusal
-use Rattle.pulsar_calls.specs.declared.act.Round.TheVariants.{Checks, Flushes}
 use Rattle.pulsar_calls.specs.declared.act.Says.TheVariants as says
-use Rattle.pulsar_calls.specs.declared.act.Share.{Share}
-use Rattle.pulsar_calls.specs.declared.act.Verdict.{Verdict}
-use Rattle.pulsar_calls.specs.declared.act.Who.{Who}
-use Rattle.pulsar_procedures.specs.declared.plan.Plan.{Plan}
-use Rattle.pulsar_procedures.specs.declared.plan.Turn.{Turn}
-use Rattle.pulsar_procedures.specs.declared.plan.Turn.TheVariants.{Stays, Gives}
 use Rattle.pulsar_calls.specs.Content as content
-use Rattle.pulsar_calls.specs.Content.{Asked, lacks_tickets, shares}
-use Rattle.pulsar_laws.specs.Laws.{Cause, FailuresAreTold, IsToldBy, OutcomesAreCaused, outcomes, started}
-use Rattle.pulsar_procedures.specs.Plan.{begins}
-use Rattle.pulsar_producer.specs.Batch.{entry_of}
+use Rattle.pulsar_laws.proofs.Lists.{in_append, in_each}
+use Rattle.pulsar_laws.proofs.Cases.{cond_so}
+use Rattle.pulsar_laws.specs.Laws.{FailuresAreTold, IsToldBy, OutcomesAreCaused, outcomes}
+use Rattle.pulsar_outgoing.specs.Batch.{entry_of}
 use Rattle.pulsar_producer_table.specs.Producers.{Producers, batches_in, errand_of, numbers_at, routed, why_not}
-use Rattle.pulsar_calls.specs.Content.{next_advice}
-use Rattle.pulsar_tables.specs.Rules.{asks_raw, asks_topics, at_once, builds_with, checks, closes, does, fails_as, flushes, flushes_all, follows, follows_some, from_base, gathers, is_taken, notice, order_of, parts_of, performs, procedure_for, produces, produces_by, produces_from, searches, sends, sends_as, sends_by, share, shares_of, shares_unless, starts, stores_as, unless, unless_refused, why_no_sends, why_no_raw}
-use Rattle.pulsar_agenda.specs.Run.{Entry, Begins, Then, IsRun, agenda, view}
-use Rattle.pulsar_tables.specs.View.{Chosen, Options, Tickets, View, may_call, told_some, ways_of}
-use Rattle.pulsar_calls.specs.Who.{is_same}
-use Rattle.pulsar_agenda.proofs.Acts.{Each, each_append, each_either, each_first, each_map, each_rest, is_served, late}
+use Rattle.pulsar_acts.specs.Rules.{order_of, produces_by}
+use Rattle.pulsar_client.proofs.Acts.{late}
 use Rattle.pulsar_laws.proofs.Failing.{Fails, IsMade, begins_holds, course_fails, is_proper}
 use Rattle.pulsar_laws.proofs.Follow.{plans_follow_lem}
 use Rattle.pulsar_laws.proofs.Led.{tells_so}
@@ -54,7 +30,6 @@ use Rattle.pulsar_laws.proofs.Left.{left_each}
 use Rattle.pulsar_laws.proofs.Natures.{IsOfBatch}
 use Rattle.pulsar_laws.proofs.Quiet.{IsQuiet, comes_quiet, performs_quiet}
 use Rattle.pulsar_laws.proofs.Searches.{is_sought}
-use Rattle.pulsar_laws.proofs.Sources.{in_append, in_each}
 use Rattle.pulsar_laws.proofs.Consuming.{humble_call, is_humble}
 use Rattle.pulsar_consumer_table.specs.Consumers.{Consumers}
 
@@ -63,10 +38,6 @@ use Rattle.pulsar_consumer_table.specs.Consumers.{Consumers}
 open_made : (b : Bool) (p : Procedure) → IsMade p → IsMade (unless_refused b p)
 open_made true p k = k
 open_made false p k = tt
-
-either_made : (b : Bool) (p q : Procedure) → IsMade p → IsMade q → IsMade (cond b p q)
-either_made true p q k m = k
-either_made false p q k m = m
 
 base_made : (base : Option Place) (f : Place → Procedure) → ((place : Place) → IsMade (f place)) → IsMade (from_base base f)
 base_made None f k = tt
@@ -78,7 +49,7 @@ searches_made (Some w) what is = is
 
 builds_made : (n : ℕ) (base : Option Place) → IsMade (builds_with n base)
 builds_made n base =
-    either_made (n == 0) (procedure.Refuse refusal.NoOutbound) (from_base base procedure.Build) tt (base_made base procedure.Build (λ place. tt))
+    cond_so IsMade (n == 0) (procedure.Refuse refusal.NoOutbound) (from_base base procedure.Build) tt (base_made base procedure.Build (λ place. tt))
 
 order_made : (ways : Option Ways) (order : Order) → IsMade (produces_by ways order)
 order_made None order = tt
@@ -104,7 +75,7 @@ sends_made : (b : Bool) (s : Option Share) (m : ProducerMessageValues) (ways : O
 sends_made b s m ways None = fails_made s refusal.NoPartition
 sends_made b s m None (Some e) = fails_made s refusal.NoAddress
 sends_made b s m (Some w) (Some e) =
-    either_made b (stores_as e.producer s (entry_of m)) (procedure.Send w e s m) (stores_made e.producer s (entry_of m)) tt
+    cond_so IsMade b (stores_as e.producer s (entry_of m)) (procedure.Send w e s m) (stores_made e.producer s (entry_of m)) tt
 
 errand_made : (o : Chosen) (ps : Producers) (s : Option Share) (advised : Option ℕ) (t : ℕ) (m : ProducerMessageValues) → IsMade (sends_as o ps s advised t m)
 errand_made o ps s advised t m = sends_made (batches_in (ps.built t)) s m (ways_of o) (errand_of advised m (ps.built t))
@@ -136,12 +107,12 @@ call_made o c cs ps advised (content.Flush t) =
     let ns : List ℕ = numbers_at (ps.built t) in
     open_made (may_call c) (flushes ps t)
     (unless_made (why_not ps t) (flushes_all (batches_in (ps.built t)) ns)
-    (either_made (batches_in (ps.built t)) (procedure.Go Flushes ns) (procedure.Refuse refusal.NoBatches) tt tt))
+    (cond_so IsMade (batches_in (ps.built t)) (procedure.Go Flushes ns) (procedure.Refuse refusal.NoBatches) tt tt))
 call_made o c cs ps advised (content.CheckProducer t) =
     open_made (may_call c) (checks ps t) (unless_made (why_not ps t) (procedure.Go Checks (numbers_at (ps.built t))) tt)
 call_made o c cs ps advised (content.CloseProducer t) =
     open_made (may_call c) (closes ps t)
-    (either_made (is_some (ps.built t)) (procedure.Close t (numbers_at (ps.built t))) (procedure.Refuse refusal.UnknownTicket) tt tt)
+    (cond_so IsMade (is_some (ps.built t)) (procedure.Close t (numbers_at (ps.built t))) (procedure.Refuse refusal.UnknownTicket) tt tt)
 call_made o c cs ps advised (content.Consumer wanted) = humble_made _ (humble_call o c cs ps advised (content.Consumer wanted) refl)
 call_made o c cs ps advised (content.Ack t name id cumulative) =
     humble_made _ (humble_call o c cs ps advised (content.Ack t name id cumulative) refl)

@@ -2,37 +2,25 @@
 use Rattle.std.proofs.Common.{◌≡◌, ◌⊎◌, inl, inr, ◌∙◌, sym, ap, subst, refl, ℕ, zero, suc, ◌-◌, ◌==◌, append-nil, append_assoc, take, List, [], ◌∷◌, ◌++◌, Bool, true, false, ◌&&◌, cond, Option, Some, None}
 use Rattle.std.proofs.lemmas.Bool.{cases_Bool, eqb-true}
 use Rattle.std.specs.Option.{option_to_list}
-use Rattle.pulsar_run.specs.Laws.{In}
+use Rattle.pulsar_laws.proofs.ActWords.{Act, Batch, Comes, Does, Draw, is_same, PassTurn, Producer, Remake, Rings, Shut, Starts, StopAll, Store, TakeBatch, TakeTurn, TellAll, turn_of, Who}
+use Rattle.pulsar_laws.proofs.RunWords.{Begins, begun_same, Each, each_append, each_either, Entry, In, IsRun, Options, room_of, Then, view, View}
+use Rattle.pulsar_laws.proofs.LinkWords.{rings}
 use Rattle.pulsar_producer.specs.BatchLaws.{batches_of, cut_by, items_of, joined, taken_by, taken_of}
-use Rattle.pulsar_producer.specs.Storage.{Item, SingleMessage, Flush, is_ready, pushed}
+use Rattle.pulsar_outgoing.specs.Storage.{Item, SingleMessage, Flush, is_ready, pushed, is_nothing}
 use Rattle.pulsar_producer.specs.Topic as topic
-use Rattle.pulsar_producer.specs.Topic.{Act as Deed, Takes, Passes, Remakes, Closes, Stores, Flushes, Cuts, TakesBatch, Seen, Setup, is_nothing, is_settled, next_batch}
+use Rattle.pulsar_producer.specs.Topic.{Act as Deed, Takes, Passes, Remakes, Closes, Stores, Flushes, Cuts, TakesBatch, Seen, Setup, is_settled, next_batch}
 use Rattle.pulsar_producer.proofs.Cutting.{batches_in_order, flush_is_last, items_in_order, joined_append, joined_one}
-use Rattle.pulsar_calls.specs.declared.act.Act.{Act}
-use Rattle.pulsar_calls.specs.declared.act.Act.TheVariants.{Comes, Starts, Does}
-use Rattle.pulsar_calls.specs.declared.act.Action.TheVariants.{TakeTurn, PassTurn, Draw, Remake, Shut, Store, StopAll, TakeBatch, TellAll}
 use Rattle.pulsar_calls.specs.declared.act.Action.TheVariants as action
-use Rattle.pulsar_calls.specs.declared.act.Alarm.TheVariants.{Batch}
-use Rattle.pulsar_calls.specs.declared.act.Part.TheVariants.{Rings}
-use Rattle.pulsar_calls.specs.declared.act.Who.{Who}
-use Rattle.pulsar_calls.specs.declared.act.Who.TheVariants.{Producer}
 use Rattle.pulsar_producer_table.specs.declared.table.Topic.{Topic}
-use Rattle.pulsar_tables.specs.Alarms.{rings}
+use Rattle.pulsar_laws.proofs.Lists.{in_left, in_right}
+use Rattle.pulsar_laws.proofs.Cases.{none_some}
 use Rattle.pulsar_laws.specs.BatchLaws.{FlushesWait, under_way}
 use Rattle.pulsar_producer_table.specs.Producers.{next_batch_at, numbers_at}
 use Rattle.pulsar_laws.specs.ProducerLaws.{acts_on, drawn_by, rung_by, shut_by, topic_acts}
-use Rattle.pulsar_agenda.specs.Run.{Entry, Begins, Then, IsRun, view}
-use Rattle.pulsar_tables.specs.View.{Options, View, room_of}
-use Rattle.pulsar_calls.specs.Who.{is_same, turn_of}
-use Rattle.pulsar_agenda.proofs.Acts.{Each, begun_same, each_append, each_either}
-use Rattle.pulsar_laws.proofs.Closed.{append_left, append_right}
 use Rattle.pulsar_laws.proofs.Drawing.{drawn_run, row_from}
 use Rattle.pulsar_laws.proofs.Granted.{in_each}
 use Rattle.pulsar_laws.proofs.Takers.{taken_by_own}
 use Rattle.pulsar_laws.proofs.Topics.{all_after, row_as, seen_more, some_acts, topic_all, topics_alone_lem}
-
-none_some : {A : Type 0} {x : A} → None ≡ Some x → ⊥
-none_some {A} {x} h = cc
 
 -- HISTORIES
 
@@ -85,7 +73,7 @@ flush_last s h before items t e i =
     let all : batches_of s h ≡ (before ++ items ∷ []) ++ (topic.seen s h).cut = batches_in_order s h ∙ ap (λ x. x ++ (topic.seen s h).cut) e in
     let k : Each LastFlush ((before ++ items ∷ []) ++ (topic.seen s h).cut) = subst (Each LastFlush) all (batches_last s h) in
     let there : In items ((before ++ items ∷ []) ++ (topic.seen s h).cut) =
-    append_left items (before ++ items ∷ []) (topic.seen s h).cut (append_right items before (items ∷ []) (inl refl)) in
+    in_left items (before ++ items ∷ []) (topic.seen s h).cut (in_right items before (items ∷ []) (inl refl)) in
     let last : LastFlush items = in_each LastFlush items ((before ++ items ∷ []) ++ (topic.seen s h).cut) k there in
     let p = split_item (Flush t) items i in
     let none : p.1 ≡ [] = last p.0 p.1 t p.2 in

@@ -1,34 +1,13 @@
 -- Plans follow their outcomes.
-use Rattle.std.proofs.Common.{◌≡◌, ℕ, ◌∙◌, sym, ap, subst, ◌+◌, ◌-◌, ◌^◌, List, [], ◌∷◌, ◌++◌, refl, arith, drop, Bool, true, false, cond, Option, Some, None, inl, inr, ◌==◌, append-nil, append_assoc}
-use Rattle.std.proofs.lemmas.Bool.{cases_Bool, eqb-true}
-use Rattle.pulsar_run.specs.Run.{rest}
-use Rattle.pulsar_calls.specs.declared.act.Act.{Act}
-use Rattle.pulsar_calls.specs.declared.act.Act.TheVariants.{Comes, Starts, Told, Does, Answers}
-use Rattle.pulsar_calls.specs.declared.act.Action.{Action}
-use Rattle.pulsar_calls.specs.declared.act.Action.TheVariants.{Rest}
-use Rattle.pulsar_calls.specs.declared.act.Notice.{Notice}
-use Rattle.pulsar_calls.specs.declared.act.Outcome.{Outcome}
-use Rattle.pulsar_calls.specs.declared.act.Part.{Part}
-use Rattle.pulsar_calls.specs.declared.act.Part.TheVariants.{Calls}
-use Rattle.pulsar_calls.specs.declared.act.Procedure.{Procedure}
-use Rattle.pulsar_calls.specs.declared.act.Makes.{Makes}
-use Rattle.pulsar_calls.specs.declared.act.Verdict.{Verdict}
-use Rattle.pulsar_calls.specs.declared.act.Who.{Who}
-use Rattle.pulsar_calls.specs.declared.act.Who.TheVariants.{Call, Producer}
-use Rattle.pulsar_procedures.specs.declared.plan.Plan.{Plan}
-use Rattle.pulsar_procedures.specs.declared.plan.Turn.{Turn}
-use Rattle.pulsar_procedures.specs.declared.plan.Turn.TheVariants.{Stays, Gives}
-use Rattle.pulsar_calls.specs.Content.{Asked, lacks_tickets, shares}
-use Rattle.pulsar_laws.specs.Laws.{AnswersOnce, Deed, Answered, PlansFollow, acted, course, deed_of, deeds, outcomes, started, verdicts_in}
-use Rattle.pulsar_procedures.specs.Plan.{begins, told}
-use Rattle.pulsar_tables.specs.Rules.{at_once, called, does, follows, follows_some, left_with, performs, starts}
-use Rattle.pulsar_agenda.specs.Run.{Entry, Begins, Then, IsRun, Agenda, agenda, first, view}
-use Rattle.pulsar_tables.specs.View.{Options, View, stays, stays_some, told_some, ways_of}
-use Rattle.pulsar_calls.specs.Who.{is_same, rank}
-use Rattle.pulsar_agenda.proofs.Acts.{Each, StartsIn, begun_same, each_append, each_drop, each_map, first_case, is_served, none_now, starts_in}
+use Rattle.std.proofs.Common.{◌≡◌, ℕ, ◌∙◌, sym, ap, subst, ◌+◌, ◌-◌, ◌^◌, List, [], ◌∷◌, ◌++◌, refl, arith, drop, Bool, true, false, cond, Option, Some, None, inl, inr, append-nil, append_assoc}
+use Rattle.std.proofs.lemmas.Bool.{cases_Bool}
+use Rattle.pulsar_laws.proofs.ActWords.{Act, Action, Answers, Asked, Call, Calls, Comes, Does, is_same, lacks_tickets, Makes, Notice, Outcome, Part, Procedure, Rest, shares, Starts, Told, Verdict, Who}
+use Rattle.pulsar_laws.proofs.PlanWords.{begins, Gives, Plan, Stays, told, Turn, Ways}
+use Rattle.pulsar_laws.proofs.RunWords.{agenda, Answered, at_once, Begins, begun_same, called, does, Each, each_append, each_map, Entry, first, first_case, follows, follows_some, is_served, IsRun, left_with, none_now, Options, performs, rest, started, starts, StartsIn, stays, stays_some, Then, told_some, view, View, ways_of}
+use Rattle.pulsar_laws.specs.Laws.{AnswersOnce, Deed, PlansFollow, acted, course, deed_of, deeds, outcomes, verdicts_in}
+use Rattle.pulsar_client.proofs.Acts.{each_drop, starts_in}
 use Rattle.pulsar_laws.proofs.Left.{left_each}
 use Rattle.pulsar_laws.proofs.Quiet.{IsQuiet, comes_quiet, performs_quiet}
-use Rattle.pulsar_plans.specs.declared.turn.Ways.{Ways}
 use Rattle.pulsar_laws.proofs.Ticketed.{Began, apart}
 use Rattle.pulsar_laws.proofs.Begun.{has_begun}
 use Rattle.pulsar_laws.proofs.Same.{same_who}
@@ -187,9 +166,6 @@ pub record Follows (o : Options) (log : List Entry) : Type 0 where
   stands : (w : Who) (p : Procedure) → started w log ≡ Some p → (view o log).stand w ≡ stays (along (begins p) (outcomes w log))
 
 module _ (o : Options) (log : List Entry) (a : Act) (k : Follows o log) (fits : first (agenda o log) ≡ Some a) where
-  g : Agenda
-  g = agenda o log
-
   abbrev left : List Act
   left = (rest (agenda o log)).now
 

@@ -1,60 +1,34 @@
 -- The frames that sends ask for, along a log.
-use Rattle.std.proofs.Common.{◌≡◌, ◌⊎◌, inl, inr, ◌∙◌, sym, ap, subst, ℕ, ◌+◌, ◌==◌, List, [], ◌∷◌, refl, Bool, true, false, cond, Option, Some, None}
+use Rattle.std.proofs.Common.{◌≡◌, inl, inr, ◌∙◌, sym, ap, subst, ℕ, ◌+◌, List, ◌∷◌, refl, Bool, true, false, cond, Option, Some, None}
 use Rattle.std.proofs.lemmas.Bool.{cases_Bool}
+use Rattle.pulsar_laws.proofs.ActWords.{Action, Ask, Call, Does, Draw, Notice, Outcome, Procedure, Recall, Share, Starts, TakeTurn, Told}
+use Rattle.pulsar_laws.proofs.PlanWords.{begins, Command, Drawn, Errand, Leaving, news_of, Plan, Reporting, Sending as Send, Stays, told, Ways}
+use Rattle.pulsar_laws.proofs.RunWords.{Begins, draws_on, Entry, In, IsRun, notice, Options, room_of, started, Then, View, view}
 use Rattle.pulsar_messages.specs.Content.{ProducerMessageValues}
 use Rattle.pulsar_messages.specs.Words as words
-use Rattle.pulsar_run.specs.Laws.{In}
-use Rattle.pulsar_session.specs.Link.{is_spent}
-use Rattle.pulsar_plans.specs.declared.making.Command.{Command}
-use Rattle.pulsar_plans.specs.declared.turn.Ways.{Ways}
+use Rattle.pulsar_messages.specs.Claims.{is_spent}
 use Rattle.pulsar_producer.specs.Commands.{command_of}
-use Rattle.pulsar_producer.specs.Message.{with_version}
+use Rattle.pulsar_messages.specs.Message.{with_version}
 use Rattle.pulsar_producer.specs.Producer as producer
 use Rattle.pulsar_producer.specs.Topic as topic
 use Rattle.pulsar_producer.specs.Topic.{Draws}
-use Rattle.pulsar_producer.specs.declared.deed.Drawn.{Drawn}
-use Rattle.pulsar_producer.specs.declared.deed.News.TheVariants as news
-use Rattle.pulsar_producer.specs.declared.sending.Errand.{Errand}
-use Rattle.pulsar_producer.specs.declared.sending.Sending.{Sending as Send}
+use Rattle.pulsar_outgoing.specs.declared.news.News.TheVariants as news
 use Rattle.pulsar_producer.specs.declared.sending.Sending.TheVariants as send
-use Rattle.pulsar_calls.specs.declared.act.Act.{Act}
-use Rattle.pulsar_calls.specs.declared.act.Act.TheVariants.{Starts, Told, Does}
-use Rattle.pulsar_calls.specs.declared.act.Action.{Action}
-use Rattle.pulsar_calls.specs.declared.act.Action.TheVariants.{Ask, Draw, Recall, TakeTurn}
-use Rattle.pulsar_calls.specs.declared.act.Notice.{Notice}
-use Rattle.pulsar_calls.specs.declared.act.Outcome.{Outcome}
 use Rattle.pulsar_calls.specs.declared.act.Outcome.TheVariants as outcome
-use Rattle.pulsar_calls.specs.declared.act.Procedure.{Procedure}
 use Rattle.pulsar_calls.specs.declared.act.Procedure.TheVariants as procedure
-use Rattle.pulsar_calls.specs.declared.act.Share.{Share}
-use Rattle.pulsar_calls.specs.declared.act.Verdict.{Verdict}
-use Rattle.pulsar_calls.specs.declared.act.Who.{Who}
-use Rattle.pulsar_calls.specs.declared.act.Who.TheVariants.{Call}
-use Rattle.pulsar_procedures.specs.declared.plan.Plan.{Plan}
-use Rattle.pulsar_procedures.specs.declared.plan.Plan.TheVariants.{Sending, Reporting, Leaving}
-use Rattle.pulsar_procedures.specs.declared.plan.Turn.{Turn}
-use Rattle.pulsar_procedures.specs.declared.plan.Turn.TheVariants.{Stays, Gives}
+use Rattle.pulsar_plans.specs.declared.plan.Plan.TheVariants.{Sending}
 use Rattle.pulsar_producer_table.specs.declared.table.Topic.{Topic}
-use Rattle.pulsar_laws.specs.Laws.{started}
-use Rattle.pulsar_procedures.specs.Plan.{begins, news_of, told}
+use Rattle.pulsar_laws.proofs.Standing.{moves, run_older, stands_so}
+use Rattle.pulsar_laws.proofs.Same.{same_self}
+use Rattle.pulsar_laws.proofs.Cases.{none_some}
 use Rattle.pulsar_producer_table.specs.Producers.{drawn, recalled_at, recalled_by, topic_after}
 use Rattle.pulsar_laws.specs.ProducerLaws.{FramesAreOfTheirSends}
-use Rattle.pulsar_tables.specs.Rules.{notice}
-use Rattle.pulsar_agenda.specs.Run.{Entry, Begins, Then, IsRun, view}
-use Rattle.pulsar_tables.specs.View.{Options, View, draws_on, room_of, stays, stays_some, told_some}
-use Rattle.pulsar_calls.specs.Who.{is_same}
-use Rattle.pulsar_agenda.proofs.Acts.{begun_same}
-use Rattle.pulsar_laws.proofs.Drawing.{Every, here}
-use Rattle.pulsar_laws.proofs.Follow.{same_is}
 use Rattle.pulsar_laws.proofs.Framing.{AsksSo, KeptSo, MessageSo, NewsSo, PlanSo, Versioned, is_message, told_so}
 use Rattle.pulsar_laws.proofs.Granted.{BeginsSo, GivenBy, IsGrantedBy, IsLedSo, does_from, granted_by, grants_given}
 use Rattle.pulsar_laws.proofs.InTurn.{self_same, stand_told}
-use Rattle.pulsar_laws.proofs.Natures.{StaysSo}
+use Rattle.pulsar_laws.proofs.Arcs.{StaysSo}
 use Rattle.pulsar_laws.proofs.TurnActs.{changed_at}
 use Rattle.pulsar_laws.proofs.TurnRun.{queued_in_turn_lem}
-
-none_some : {A : Type 0} {x : A} → None ≡ Some x → ⊥
-none_some {A} {x} h = cc
 
 -- it was told this version with its turn
 abbrev pub WasTold : List Entry → ℕ → Option (List ℕ) → Type 0
@@ -111,67 +85,39 @@ news_told o log t _ run e given = tt
 
 -- ALONG A LOG
 
-abbrev SendsSo : Options → List Entry → Type 0
-SendsSo o log = (t : ℕ) (w : Ways) (e : Errand) (share : Option Share) (given : ProducerMessageValues) (p : Plan) →
-    started (Call t) log ≡ Some (procedure.Send w e share given) → (view o log).stand (Call t) ≡ Some p → PlanSo e given (WasTold log t) p
+module _ (o : Options) (t : ℕ) where
+  abbrev PlansSo : List Entry → Plan → Type 0
+  PlansSo log p = (w : Ways) (e : Errand) (share : Option Share) (given : ProducerMessageValues) →
+      started (Call t) log ≡ Some (procedure.Send w e share given) → PlanSo e given (WasTold log t) p
 
-same_plan : (o : Options) (log : List Entry) (x : Entry) → SendsSo o log → ((t : ℕ) → started (Call t) (x ∷ log) ≡ started (Call t) log) →
-    ((t : ℕ) → (view o (x ∷ log)).stand (Call t) ≡ (view o log).stand (Call t)) → SendsSo o (x ∷ log)
-same_plan o log x k st sd t w e share given p h s =
-    plan_more e given (WasTold log t) (WasTold (x ∷ log) t) (λ v i. inr i) p (k t w e share given p (sym (st t) ∙ h) (sym (sd t) ∙ s))
+  started_same : (x : Entry) (log : List Entry) → moves (Call t) x ≡ false → started (Call t) (x ∷ log) ≡ started (Call t) log
+  started_same (Then (Starts who q)) log m = ap (λ b. cond b (Some q) (started (Call t) log)) m
+  started_same (Then a) log m = refl
+  started_same (Begins e) log m = refl
 
-starts_plan : (o : Options) (log : List Entry) (who : Who) (q : Procedure) → SendsSo o log → SendsSo o (Then (Starts who q) ∷ log)
-starts_plan o log who q k t w e share given p h s = elim (cases_Bool (is_same (Call t) who)) [
-  | inl same ↦
-      (let f : Some q ≡ Some (procedure.Send w e share given) = rw same at h in
-      let is : q ≡ procedure.Send w e share given = cc in
-      let g : stays (begins q) ≡ Some p = rw same at s in
-      begun share (ap (λ x. stays (begins x)) (sym is) ∙ g))
-  | inr same ↦
-      plan_more e given (WasTold log t) (WasTold (Then (Starts who q) ∷ log) t) (λ v i. inr i) p (k t w e share given p (rw same at h) (rw same at s))
-]
-  where
-    begun : (x : Option Share) → stays (begins (procedure.Send w e x given)) ≡ Some p → PlanSo e given (WasTold (Then (Starts who q) ∷ log) t) p
-    begun None g = subst (PlanSo e given (WasTold (Then (Starts who q) ∷ log) t)) (let f : Sending w e None (send.Waiting given) ≡ p = cc in f) (refl, refl)
-    begun (Some y) g = subst (PlanSo e given (WasTold (Then (Starts who q) ∷ log) t)) (let f : Sending w e (Some y) (send.Waiting given) ≡ p = cc in f)
-        (refl, refl)
+  begun : (log : List Entry) (q : Procedure) (p : Plan) (a : Action) → IsRun o (Then (Starts (Call t) q) ∷ log) → begins q ≡ Stays p a →
+      PlansSo (Then (Starts (Call t) q) ∷ log) p
+  begun log q p a run leads w e share given h =
+      let f : Some q ≡ Some (procedure.Send w e share given) = sym (ap (λ b. cond b (Some q) (started (Call t) log)) (same_self (Call t))) ∙ h in
+      by share (ap begins (sym (let g : q ≡ procedure.Send w e share given = cc in g)) ∙ leads)
+    where
+      by : (x : Option Share) → begins (procedure.Send w e x given) ≡ Stays p a → PlanSo e given (WasTold (Then (Starts (Call t) q) ∷ log) t) p
+      by None g = subst (PlanSo e given (WasTold (Then (Starts (Call t) q) ∷ log) t)) (let f : Sending w e None (send.Waiting given) ≡ p = cc in f) (refl, refl)
+      by (Some y) g =
+          subst (PlanSo e given (WasTold (Then (Starts (Call t) q) ∷ log) t)) (let f : Sending w e (Some y) (send.Waiting given) ≡ p = cc in f) (refl, refl)
 
-told_plan : (o : Options) (log : List Entry) (n : Notice) → IsRun o (Then (Told n) ∷ log) → SendsSo o log → SendsSo o (Then (Told n) ∷ log)
-told_plan o log n run k t w e share given p h s = elim (cases_Bool (is_same (Call t) n.who)) [
-  | inl same ↦ row ((view o log).stand (Call t)) refl (rw same at s) (same_is (Call t) n.who same)
-  | inr same ↦ plan_more e given (WasTold log t) (WasTold (Then (Told n) ∷ log) t) (λ v i. inr i) p (k t w e share given p h (rw same at s))
-]
-  where
-    turn : (q : Plan) (x : Turn Plan Verdict) → told q n.outcome ≡ x →
-        StaysSo (λ r a. PlanSo e given (WasTold (Then (Told n) ∷ log) t) r × AsksSo e given (WasTold (Then (Told n) ∷ log) t) n.outcome r a) x →
-        stays x ≡ Some p → PlanSo e given (WasTold (Then (Told n) ∷ log) t) p
-    turn q (Stays r a) d j g = subst (PlanSo e given (WasTold (Then (Told n) ∷ log) t)) (let f : r ≡ p = cc in f) j.0
-    turn q (Gives verdict) d j g = absurd (none_some g)
+  goes_on : (log : List Entry) (b : Plan) (u : Outcome) (p : Plan) (a : Action) → IsRun o (Then (Told (notice (Call t) u)) ∷ log) →
+      (view o log).stand (Call t) ≡ Some b → PlansSo log b → told b u ≡ Stays p a → PlansSo (Then (Told (notice (Call t) u)) ∷ log) p
+  goes_on log b u p a run s k leads w e share given h =
+      let W : Option (List ℕ) → Type 0 = WasTold (Then (Told (notice (Call t) u)) ∷ log) t in
+      let was : PlanSo e given W b = plan_more e given (WasTold log t) W (λ v i. inr i) b (k w e share given h) in
+      (subst (StaysSo (λ r a. PlanSo e given W r × AsksSo e given W u r a)) leads (told_so e given W b u was (news_told o log t u run e given))).0
 
-    row : (r : Option Plan) → (view o log).stand (Call t) ≡ r → stays_some (told_some ((view o log).stand (Call t)) n.outcome) ≡ Some p → Call t ≡ n.who →
-        PlanSo e given (WasTold (Then (Told n) ∷ log) t) p
-    row None d g who = absurd (none_some (sym (ap (λ x. stays_some (told_some x n.outcome)) d) ∙ g))
-    row (Some q) d g who =
-        let was : PlanSo e given (WasTold (Then (Told n) ∷ log) t) q =
-        plan_more e given (WasTold log t) (WasTold (Then (Told n) ∷ log) t) (λ v i. inr i) q (k t w e share given q h d) in
-        let it : Told (notice (Call t) n.outcome) ≡ Told n = ap (λ x. Told (notice x n.outcome)) who in
-        let r : IsRun o (Then (Told (notice (Call t) n.outcome)) ∷ log) = subst (λ (x : Act). IsRun o (Then x ∷ log)) (sym it) run in
-        let told_it : NewsSo e given (WasTold (Then (Told n) ∷ log) t) (news_of n.outcome) =
-        subst (λ (x : Act). NewsSo e given (WasTold (Then x ∷ log) t) (news_of n.outcome)) it (news_told o log t n.outcome r e given) in
-        turn q (told q n.outcome) refl (told_so e given (WasTold (Then (Told n) ∷ log) t) q n.outcome was told_it)
-        (sym (ap (λ x. stays_some (told_some x n.outcome)) d) ∙ g)
-
-then_plan : (o : Options) (log : List Entry) (a : Act) → IsRun o (Then a ∷ log) → SendsSo o log → SendsSo o (Then a ∷ log)
-then_plan o log (Starts who q) run k = starts_plan o log who q k
-then_plan o log (Told n) run k = told_plan o log n run k
-then_plan o log a run k = same_plan o log (Then a) k (λ t. refl) (λ t. refl)
-
-pub sends_run : (o : Options) (log : List Entry) → IsRun o log → Every (SendsSo o) log
-sends_run o [] run = λ t w e share given p h s. absurd (none_some s)
-sends_run o (Begins x ∷ log) run =
-    let k = sends_run o log run.0 in
-    (same_plan o log (Begins x) (here (SendsSo o) log k) (λ t. refl) (λ t. begun_same (λ v. v.stand (Call t)) x (view o log) refl), k)
-sends_run o (Then a ∷ log) run = let k = sends_run o log run.0 in (then_plan o log a run (here (SendsSo o) log k), k)
+  plans_so : (log : List Entry) (p : Plan) → IsRun o log → (view o log).stand (Call t) ≡ Some p → PlansSo log p
+  plans_so =
+      stands_so o (Call t) (IsRun o) (run_older o) PlansSo
+      (λ x log p m run s k w e share given h. plan_more e given (WasTold log t) (WasTold (x ∷ log) t) (λ v i. inr i) p
+      (k w e share given (sym (started_same x log m) ∙ h))) begun goes_on
 
 -- WHAT IT ASKS FOR
 
@@ -209,7 +155,7 @@ send_led o log t w e share given action run take h = elim (does_from o log (Call
         let log' : List Entry = Then (Told (notice (Call t) l.outcome)) ∷ l.older in
         let run' : IsRun o (Then (Told (notice (Call t) l.outcome)) ∷ l.older) = subst (IsRun o) l.is_there run.0 in
         let h' : started (Call t) l.older ≡ Some (procedure.Send w e share given) = ap (started (Call t)) (sym l.is_there) ∙ h in
-        let was : PlanSo e given (WasTold l.older t) l.before = here (SendsSo o) l.older (sends_run o l.older run'.0) t w e share given l.before h' l.stood in
+        let was : PlanSo e given (WasTold l.older t) l.before = plans_so o t l.older l.before run'.0 l.stood w e share given h' in
         let now : PlanSo e given (WasTold (Then (Told (notice (Call t) l.outcome)) ∷ l.older) t) l.before =
         plan_more e given (WasTold l.older t) (WasTold (Then (Told (notice (Call t) l.outcome)) ∷ l.older) t) (λ v i. inr i) l.before was in
         let so = told_so e given (WasTold (Then (Told (notice (Call t) l.outcome)) ∷ l.older) t) l.before l.outcome now

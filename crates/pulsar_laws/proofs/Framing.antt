@@ -1,59 +1,39 @@
 -- What a send asks for: one step of its plan.
-use Rattle.std.proofs.Common.{◌≡◌, ◌⊎◌, ◌∙◌, sym, ap, subst, ℕ, ◌==◌, List, [], ◌∷◌, refl, Bool, true, false, ◌&&◌, cond, Option, Some, None, Result, Ok, Err}
+use Rattle.std.proofs.Common.{◌≡◌, sym, ap, subst, ℕ, List, refl, Bool, true, false, ◌&&◌, cond, Option, Some, None, Result, Ok, Err}
 use Rattle.std.specs.Prelude.{not}
+use Rattle.pulsar_laws.proofs.ActWords.{Action, Ask, Draw, Outcome, Share}
+use Rattle.pulsar_laws.proofs.PlanWords.{action_of, Command, Deed, Denies, Drawn, Errand, Heard as Heard', Later, Leaving, Looking, Making, News, news_of, Plan, Reporting, Says, SearchTurn, Sending as Send, told, Ways, Wish}
+use Rattle.pulsar_laws.proofs.LinkWords.{Failure, Fault, OfConnection, Words}
 use Rattle.pulsar_messages.specs.Content.{ProducerMessageValues}
 use Rattle.pulsar_messages.specs.Words as words
-use Rattle.pulsar_messages.specs.Words.{Words}
-use Rattle.pulsar_session.specs.Failures.{Failure, Fault, OfConnection}
-use Rattle.pulsar_session.specs.Reply.{Reply as Content}
-use Rattle.pulsar_plans.specs.Address.{Place}
-use Rattle.pulsar_plans.specs.Backoff.{allow_retry}
-use Rattle.pulsar_plans.specs.Plans as search
-use Rattle.pulsar_plans.specs.Plans.{is_lost, is_retryable}
-use Rattle.pulsar_plans.specs.Replies.{place_heard}
-use Rattle.pulsar_plans.specs.declared.look.Looking.{Looking}
-use Rattle.pulsar_plans.specs.declared.look.Looking.TheVariants as look
-use Rattle.pulsar_plans.specs.declared.look.Search.{Search}
-use Rattle.pulsar_plans.specs.declared.making.Command.{Command}
-use Rattle.pulsar_plans.specs.declared.making.Making.{Making}
-use Rattle.pulsar_plans.specs.declared.making.Making.TheVariants as make
-use Rattle.pulsar_plans.specs.declared.making.Served.{Served}
-use Rattle.pulsar_plans.specs.declared.replies.Heard.{Heard}
-use Rattle.pulsar_plans.specs.declared.replies.Heard.TheVariants.{Says, Later, Denies}
-use Rattle.pulsar_plans.specs.declared.replies.Pointed.{Pointed}
-use Rattle.pulsar_plans.specs.declared.replies.Pointed.TheVariants.{Redirects, Serves}
-use Rattle.pulsar_plans.specs.declared.retry.Retrying.{Retrying}
-use Rattle.pulsar_plans.specs.declared.retry.Retrying.TheVariants as retry
-use Rattle.pulsar_plans.specs.declared.turn.Action.{Action as Wish}
-use Rattle.pulsar_plans.specs.declared.turn.Action.TheVariants as wish
-use Rattle.pulsar_plans.specs.declared.turn.Outcome.{Outcome as Heard'}
-use Rattle.pulsar_plans.specs.declared.turn.Outcome.TheVariants as told_in
-use Rattle.pulsar_plans.specs.declared.turn.Turn.{Turn as SearchTurn}
-use Rattle.pulsar_plans.specs.declared.turn.Turn.TheVariants as search_turn
-use Rattle.pulsar_plans.specs.declared.turn.Ways.{Ways}
-use Rattle.pulsar_producer.specs.Message.{with_version}
+use Rattle.pulsar_frame.specs.Reply.{Reply as Content}
+use Rattle.pulsar_addresses.specs.Backoff.{allow_retry}
+use Rattle.pulsar_searches.specs.Plans as search
+use Rattle.pulsar_searches.specs.Plans.{is_lost, is_retryable}
+use Rattle.pulsar_searches.specs.Replies.{place_heard}
+use Rattle.pulsar_searches.specs.declared.look.Looking.TheVariants as look
+use Rattle.pulsar_searches.specs.declared.look.Search.{Search}
+use Rattle.pulsar_searches.specs.declared.making.Making.TheVariants as make
+use Rattle.pulsar_searches.specs.declared.replies.Heard.{Heard}
+use Rattle.pulsar_searches.specs.declared.replies.Pointed.{Pointed}
+use Rattle.pulsar_searches.specs.declared.replies.Pointed.TheVariants.{Redirects, Serves}
+use Rattle.pulsar_searches.specs.declared.retry.Retrying.{Retrying}
+use Rattle.pulsar_searches.specs.declared.retry.Retrying.TheVariants as retry
+use Rattle.pulsar_searches.specs.declared.turn.Action.TheVariants as wish
+use Rattle.pulsar_searches.specs.declared.turn.Outcome.TheVariants as told_in
+use Rattle.pulsar_searches.specs.declared.turn.Turn.TheVariants as search_turn
+use Rattle.pulsar_messages.specs.Message.{with_version}
 use Rattle.pulsar_producer.specs.Plans as produce
-use Rattle.pulsar_producer.specs.Plans.{Sent, fault_told, kept, not_drawn, not_queued, receipt, send_looks, send_makes}
-use Rattle.pulsar_producer.specs.declared.deed.Deed.{Deed}
+use Rattle.pulsar_producer.specs.Plans.{Sent, kept}
 use Rattle.pulsar_producer.specs.declared.deed.Deed.TheVariants as deed
-use Rattle.pulsar_producer.specs.declared.deed.Drawn.{Drawn}
-use Rattle.pulsar_producer.specs.declared.deed.News.{News}
-use Rattle.pulsar_producer.specs.declared.deed.News.TheVariants as news
+use Rattle.pulsar_outgoing.specs.declared.news.News.TheVariants as news
 use Rattle.pulsar_producer.specs.declared.deed.Step.TheVariants as step
-use Rattle.pulsar_producer.specs.declared.sending.Errand.{Errand}
-use Rattle.pulsar_producer.specs.declared.sending.Sending.{Sending as Send}
 use Rattle.pulsar_producer.specs.declared.sending.Sending.TheVariants as send
-use Rattle.pulsar_calls.specs.declared.act.Action.{Action}
-use Rattle.pulsar_calls.specs.declared.act.Action.TheVariants.{Ask, Draw}
-use Rattle.pulsar_calls.specs.declared.act.Outcome.{Outcome}
 use Rattle.pulsar_calls.specs.declared.act.Outcome.TheVariants as outcome
-use Rattle.pulsar_calls.specs.declared.act.Share.{Share}
-use Rattle.pulsar_procedures.specs.declared.plan.Plan.{Plan}
-use Rattle.pulsar_procedures.specs.declared.plan.Plan.TheVariants.{Sending, Reporting, Leaving}
-use Rattle.pulsar_procedures.specs.declared.plan.Turn.TheVariants.{Stays, Gives}
-use Rattle.pulsar_procedures.specs.Plan.{action_of, goes_on_sending, halted, leaves, news_of, overrides, sends_stay, told, told_send, wished}
-use Rattle.pulsar_producer.specs.Batching.{is_sent_send}
-use Rattle.pulsar_laws.proofs.Natures.{StaysSo, either_so}
+use Rattle.pulsar_plans.specs.declared.plan.Plan.TheVariants.{Sending}
+use Rattle.pulsar_plans.specs.Plan.{wished}
+use Rattle.pulsar_laws.proofs.Arcs.{Arc, StaysSo, part_fails, part_halts, part_sends, part_tells, reports_on, sends, stays_by}
+use Rattle.pulsar_laws.proofs.ProducerArcs.{SendArc, StepSo as ArcsTo, asked_recalls, asks, drawn_recalls, draws, looked_makes, looking_rests, looks_on_asks, looks_on_gets, looks_on_waits, made_remakes, makes_on_asks, makes_on_gets, makes_on_waits, making_rests, recalled_looks_asks, recalled_looks_gets, recalled_looks_waits, recalled_makes, remade_draws, send_arcs, stands}
 
 -- PLANS WITHIN PLANS ASK FOR NO MESSAGE
 
@@ -153,41 +133,8 @@ module _ (e : Errand) (given : ProducerMessageValues) (V : Option (List ℕ) →
   DeedSo y s (deed.Does x) = IsPlainWish x
   DeedSo y s d = Unit {0}
 
-  abbrev pub StepSo : News → Sent → Type 0
-  StepSo y (step.Stays s d) = MessageSo s × DeedSo y s d
-  StepSo y (step.Gives a) = Unit {0}
-
-  either_step : (y : News) (b : Bool) (p q : Sent) → StepSo y p → StepSo y q → StepSo y (cond b p q)
-  either_step y true p q h k = h
-  either_step y false p q h k = k
-
-  drawn_so : (y : News) (m : ProducerMessageValues) (f : Fault) → Versioned m → StepSo y (not_drawn e m f)
-  drawn_so y m f k = either_step y (is_lost f) _ _ (k, tt) (tt, tt)
-
-  queued_so : (y : News) (m : Option ProducerMessageValues) (f : Fault) → KeptSo m → StepSo y (not_queued e m f)
-  queued_so y None f k = (tt, tt)
-  queued_so y (Some m) f k = drawn_so y m f k
-
-  makes_so : (y : News) (m : ProducerMessageValues) (c : Command) (x : SearchTurn Making (Result Served Failure)) → Versioned m →
-      is_message c.request ≡ false → PlainTurn x →
-      StepSo y (send_makes e m c x)
-  makes_so y m c (search_turn.Stays s a) k h p = ((k, h), p)
-  makes_so y m c (search_turn.Gives (Ok s)) k h p = (k, tt)
-  makes_so y m c (search_turn.Gives (Err f)) k h p = (tt, tt)
-
-  looks_so : (y : News) (m : ProducerMessageValues) (c : Command) (x : SearchTurn Looking (Result Place Failure)) → Versioned m →
-      is_message c.request ≡ false → PlainTurn x →
-      StepSo y (send_looks e m c x)
-  looks_so y m c (search_turn.Stays s a) k h p = ((k, h), p)
-  looks_so y m c (search_turn.Gives (Ok place)) k h p = makes_so y m c (search.made_gets 0 place) k h tt
-  looks_so y m c (search_turn.Gives (Err f)) k h p = (tt, tt)
-
   kept_so : (room : Bool) (m : ProducerMessageValues) → Versioned m → KeptSo (kept e room m)
   kept_so room m k = elim (e.block && not room) as (λ b. KeptSo (cond b (Some m) None)) [ true ↦ k | false ↦ tt ]
-
-  receipt_so : (y : News) (r : Result Content Fault) → StepSo y (receipt r)
-  receipt_so y (Ok r) = tt
-  receipt_so y (Err f) = tt
 
   -- of turns and commands it is told such
   abbrev pub NewsSo : News → Type 0
@@ -195,25 +142,39 @@ module _ (e : Errand) (given : ProducerMessageValues) (V : Option (List ℕ) →
   NewsSo (news.Recalled c) = is_message c.request ≡ false
   NewsSo _ = Unit {0}
 
+  abbrev pub StepSo : News → Sent → Type 0
+  StepSo y (step.Stays s d) = MessageSo s × DeedSo y s d
+  StepSo y (step.Gives a) = Unit {0}
+
+  pub send_so : {w : Ways} {s q : Send} {y : News} {d : Deed} → SendArc w e s y q d → MessageSo s → NewsSo y → MessageSo q × DeedSo y q d
+  send_so (draws {m} {v}) k h = ((v, ap (with_version v) k, h), refl)
+  send_so (asks {m} {d}) k h = (kept_so d.room m k, (d, refl, refl, refl, refl, refl, refl, k, kept e d.room m, refl))
+  send_so drawn_recalls k h = (k, tt)
+  send_so stands k h = (k, tt)
+  send_so asked_recalls k h = (k, tt)
+  send_so (recalled_looks_gets i) k h = ((k, h), tt)
+  send_so (recalled_looks_asks i) k h = ((k, h), subst PlainTurn i tt)
+  send_so (recalled_looks_waits i) k h = ((k, h), tt)
+  send_so recalled_makes k h = ((k, h), tt)
+  send_so (looks_on_gets i) k h = (k, tt)
+  send_so {w} (looks_on_asks {m} {c} {s} {k = l} {o} i) k h = (k, subst PlainTurn i (look_plain w c.topic s o))
+  send_so (looks_on_waits i) k h = (k, tt)
+  send_so looked_makes k h = (k, tt)
+  send_so looking_rests k h = (k, tt)
+  send_so (makes_on_gets i) k h = (k, tt)
+  send_so {w} (makes_on_asks {m} {c} {s} {k = l} {o} i) k h = (k, subst PlainTurn i (made_plain w c s o k.1))
+  send_so (makes_on_waits i) k h = (k, tt)
+  send_so (made_remakes made) k h = (k.0, tt)
+  send_so making_rests k h = (k, tt)
+  send_so remade_draws k h = (k, refl)
+  send_so _ k h = (tt, tt)
+
   pub step_so : (w : Ways) (s : Send) (y : News) → MessageSo s → NewsSo y → StepSo y (produce.send_told w e s y)
-  step_so w (send.Waiting m) (news.HasTurn version) k h = ((version, ap (with_version version) k, h), refl)
-  step_so w (send.Waiting m) _ k h = tt
-  step_so w (send.Drawing m) (news.Drew d) k h = (kept_so d.room m k, (d, refl, refl, refl, refl, refl, refl, k, kept e d.room m, refl))
-  step_so w (send.Drawing m) y k h = drawn_so y m (fault_told y) k
-  step_so w (send.Asked x) news.Queued k h = (tt, tt)
-  step_so w (send.Asked x) news.InLine k h = (k, tt)
-  step_so w (send.Asked x) y k h = queued_so y x (fault_told y) k
-  step_so w send.Sent (news.Told x) k h = receipt_so (news.Told x) (search.verdict 7 x)
-  step_so w send.Sent _ k h = (tt, tt)
-  step_so w (send.Recalling m) (news.Recalled c) k h = looks_so (news.Recalled c) m c (search.look_begins w) k h tt
-  step_so w (send.Recalling m) y k h = (tt, tt)
-  step_so w (send.Looking m c l) (news.Told x) k h = looks_so (news.Told x) m c (search.look_told w c.topic l x) k.0 k.1 (look_plain w c.topic l x)
-  step_so w (send.Looking m c l) _ k h = (k, tt)
-  step_so w (send.Making m c j) (news.Told x) k h = makes_so (news.Told x) m c (search.made_told w c j x) k.0 k.1 (made_plain w c j x k.1)
-  step_so w (send.Making m c j) _ k h = (k, tt)
-  step_so w (send.Remaking m) news.Done k h = (k, refl)
-  step_so w (send.Remaking m) y k h = (tt, tt)
-  step_so w (send.Ending f) y k h = tt
+  step_so w s y k h = by (produce.send_told w e s y) (send_arcs w e s y)
+    where
+      by : (x : Sent) → ArcsTo (SendArc w e s y) x → StepSo y x
+      by (step.Stays q d) r = send_so r k h
+      by (step.Gives a) r = tt
 
   -- A PLAN OF IT
 
@@ -255,32 +216,20 @@ module _ (e : Errand) (given : ProducerMessageValues) (V : Option (List ℕ) →
   deed_asks u w share s (deed.Does x) k = wish_asks u (Sending w e share s) x k
   deed_asks u w share s _ k = tt
 
-  leaves_so : (u : Outcome) (share : Option Share) (f : Failure) → StaysSo (TurnSo u) (leaves share f)
-  leaves_so u None f = tt
-  leaves_so u (Some s) f = (tt, tt)
+  part_so : (u : Outcome) (w : Ways) (x : Errand) (share : Option Share) (s q : Send) (d : Deed) → SendArc w x s (news_of u) q d →
+      (x ≡ e) × MessageSo s → NewsSo (news_of u) → TurnSo u (Sending w x share q) (action_of d)
+  part_so u w x share s q d r k h =
+      let j = send_so (subst (λ z. SendArc w z s (news_of u) q d) k.0 r) k.1 h in
+      ((k.0, j.0), subst (λ z. AsksSo u (Sending w z share q) (action_of d)) (sym k.0) (deed_asks u w share q d j.1))
 
-  halted_so : (u : Outcome) (share : Option Share) (y : Outcome) → StaysSo (TurnSo u) (halted share y)
-  halted_so u None y = tt
-  halted_so u (Some s) y = (tt, tt)
-
-  stay_so : (u : Outcome) (w : Ways) (share : Option Share) (s : Send) (d : Deed) → MessageSo s → DeedSo (news_of u) s d →
-      StaysSo (TurnSo u) (sends_stay w e share s d)
-  stay_so u w None s d k j = ((refl, k), deed_asks u w None s d j)
-  stay_so u w (Some x) s d k j = either_so (TurnSo u) (is_sent_send s) _ _ (refl, tt) ((refl, k), deed_asks u w (Some x) s d j)
-
-  on_so : (u : Outcome) (w : Ways) (share : Option Share) (x : Sent) → StepSo (news_of u) x → StaysSo (TurnSo u) (goes_on_sending w e share x)
-  on_so u w share (step.Stays s d) k = stay_so u w share s d k.0 k.1
-  on_so u w share (step.Gives (Ok r)) k = tt
-  on_so u w share (step.Gives (Err f)) k = leaves_so u share f
-
-  sending_so : (u : Outcome) (w : Ways) (share : Option Share) (s : Send) → MessageSo s → NewsSo (news_of u) → StaysSo (TurnSo u) (told_send w e share s u)
-  sending_so u w share s k h =
-      either_so (TurnSo u) (overrides u && not (is_sent_send s)) (halted share u) (goes_on_sending w e share (produce.send_told w e s (news_of u)))
-      (halted_so u share u)
-      (on_so u w share (produce.send_told w e s (news_of u)) (step_so w s (news_of u) k h))
+  arc_so : {p q : Plan} {u : Outcome} {a : Action} → Arc p u q a → PlanSo p → NewsSo (news_of u) → TurnSo u q a
+  arc_so (sends {w} {e = x} {s} {q} {u} d r) k h = part_so u w x None s q d r k h
+  arc_so (part_sends {w} {e = x} {h = part} {s} {q} {u} d r b) k h = part_so u w x (Some part) s q d r k h
+  arc_so (part_tells q d r b) k h = (k.0, tt)
+  arc_so part_fails k h = (tt, tt)
+  arc_so (part_halts b) k h = (tt, tt)
+  arc_so reports_on k h = ((k, tt), tt)
+  arc_so _ k h = absurd k
 
   pub told_so : (p : Plan) (u : Outcome) → PlanSo p → NewsSo (news_of u) → StaysSo (TurnSo u) (told p u)
-  told_so (Sending w x share s) u k h = subst (λ y. StaysSo (TurnSo u) (told_send w y share s u)) (sym k.0) (sending_so u w share s k.1 h)
-  told_so (Reporting w x) u k h = ((k, tt), tt)
-  told_so (Leaving f) u k h = tt
-  told_so _ u k h = absurd k
+  told_so p u k h = stays_by (TurnSo u) p u (λ q a r. arc_so r k h)

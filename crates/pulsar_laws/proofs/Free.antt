@@ -1,42 +1,31 @@
 -- The number of a new topic producer is free.
-use Rattle.std.proofs.Common.{◌≡◌, ◌⊎◌, inl, inr, ◌∙◌, sym, ap, subst, ℕ, ◌+◌, ◌-◌, ◌^◌, ◌<◌, ◌≤◌, ◌==◌, arith, List, [], ◌∷◌, ◌++◌, refl, Bool, true, false, ◌&&◌, ◌||◌, nat_lt, cond, Option, Some, None}
+use Rattle.std.proofs.Common.{◌≡◌, inl, inr, ◌∙◌, sym, ap, subst, ℕ, ◌+◌, ◌-◌, ◌^◌, ◌<◌, ◌≤◌, ◌==◌, arith, List, [], ◌∷◌, refl, Bool, true, false, ◌&&◌, ◌||◌, nat_lt, cond, Option, Some, None}
 use Rattle.std.proofs.lemmas.Bool.{cases_Bool, eqb-true}
 use Rattle.std.proofs.lemmas.Bool.Decides.{nat_tests}
 use Rattle.std.specs.BTreeSet.{insert_key}
 use Rattle.std.specs.List.{list_any}
 use Rattle.std.specs.Option.{is_some}
 use Rattle.std.specs.Ordering.{nat_cmp}
+use Rattle.pulsar_laws.proofs.ActWords.{Act, Alarm, Answers, Asked, Batch, Calls, Comes, Does, Draw, lacks_tickets, Makes, Number, Rings, shares, Shut, Told, Who}
+use Rattle.pulsar_laws.proofs.PlanWords.{Built}
+use Rattle.pulsar_laws.proofs.RunWords.{Begins, begun_same, draws_on, Entry, In, IsRun, may_call, notice, Options, producers_made, producers_rung, room_of, Then, View, view}
+use Rattle.pulsar_laws.proofs.LinkWords.{rings}
 use Rattle.pulsar_messages.specs.Content.{ProducerMessageValues}
-use Rattle.pulsar_run.specs.Laws.{In}
-use Rattle.pulsar_session.specs.Link.{is_spent}
-use Rattle.pulsar_link.specs.Request.{named_producer}
+use Rattle.pulsar_messages.specs.Claims.{is_spent}
+use Rattle.pulsar_exchange.specs.Request.{named_producer}
 use Rattle.pulsar_producer.specs.Producer as producer
 use Rattle.pulsar_producer.specs.Topic.{Closes}
-use Rattle.pulsar_producer.specs.Storage.{limits_of}
-use Rattle.pulsar_producer.specs.declared.content.Built.{Built}
-use Rattle.pulsar_producer.specs.declared.storage.Limits.{Limits}
-use Rattle.pulsar_producer.specs.declared.deed.News.TheVariants as news
-use Rattle.pulsar_calls.specs.declared.act.Act.{Act}
-use Rattle.pulsar_calls.specs.declared.act.Act.TheVariants.{Comes, Told, Does, Answers}
-use Rattle.pulsar_calls.specs.declared.act.Action.TheVariants.{Draw, Number, Shut}
-use Rattle.pulsar_calls.specs.declared.act.Alarm.{Alarm}
-use Rattle.pulsar_calls.specs.declared.act.Alarm.TheVariants.{Batch}
-use Rattle.pulsar_calls.specs.declared.act.Makes.{Makes}
+use Rattle.pulsar_outgoing.specs.Storage.{limits_of}
+use Rattle.pulsar_outgoing.specs.declared.storage.Limits.{Limits}
+use Rattle.pulsar_outgoing.specs.declared.news.News.TheVariants as news
 use Rattle.pulsar_calls.specs.declared.act.Makes.TheVariants.{Producer}
 use Rattle.pulsar_calls.specs.declared.act.Outcome.TheVariants as outcome
-use Rattle.pulsar_calls.specs.declared.act.Part.TheVariants.{Calls, Rings}
-use Rattle.pulsar_calls.specs.declared.act.Who.{Who}
 use Rattle.pulsar_calls.specs.Content as content
-use Rattle.pulsar_calls.specs.Content.{Asked, lacks_tickets, shares}
 use Rattle.pulsar_producer_table.specs.Producers.{Producers, all_routed, called_on, changed, free_from, made_of, names_in, next_free, numbered, numbers_at, opened_on, routed, sent_on, shut_all, why_not, with_built, with_topic, with_topics}
+use Rattle.pulsar_laws.proofs.Cases.{cond_so}
 use Rattle.pulsar_laws.specs.ProducerLaws.{NumbersAreFree}
-use Rattle.pulsar_tables.specs.Rules.{notice}
-use Rattle.pulsar_tables.specs.Alarms.{rings}
-use Rattle.pulsar_agenda.specs.Run.{Entry, Begins, Then, IsRun, view}
-use Rattle.pulsar_tables.specs.View.{Options, View, draws_on, may_call, producers_made, producers_rung, room_of}
-use Rattle.pulsar_tables.specs.View as seen
+use Rattle.pulsar_acts.specs.View as seen
 use Rattle.pulsar_calls.specs.Who.{rank}
-use Rattle.pulsar_agenda.proofs.Acts.{begun_same}
 use Rattle.pulsar_laws.proofs.Drawing.{Drawn, drawn_run, drew, here, next_after, told_number}
 
 -- LISTS IN ORDER
@@ -140,12 +129,8 @@ routed_kept : (t : ℕ) (ms : List ProducerMessageValues) (ps : Producers) → K
 routed_kept t [] ps = (refl, refl)
 routed_kept t (m ∷ ms) ps = routed_kept t ms (routed t m ps)
 
-either_low : (b : Bool) (x y : Producers) → IsLow x → IsLow y → IsLow (cond b x y)
-either_low true x y p q = p
-either_low false x y p q = q
-
 sent_low : (t : ℕ) (ms : List ProducerMessageValues) (ps : Producers) → IsLow ps → IsLow (sent_on t ms ps)
-sent_low t ms ps h = either_low (is_some (why_not ps t)) ps (all_routed t ms ps) h (kept_low ps (all_routed t ms ps) (routed_kept t ms ps) h)
+sent_low t ms ps h = cond_so IsLow (is_some (why_not ps t)) ps (all_routed t ms ps) h (kept_low ps (all_routed t ms ps) (routed_kept t ms ps) h)
 
 opened_low : (asked : Asked) (ps : Producers) → IsLow ps → IsLow (opened_on asked ps)
 opened_low (content.Send t m) ps h = sent_low t (m ∷ []) ps h
@@ -195,8 +180,8 @@ rung_low v b _ h = h
 
 after_low : (v : View) (a : Act) → IsLow v.producers → IsLow (seen.after a v).producers
 after_low v (Comes (Calls asked advice)) h =
-    either_low (lacks_tickets v.calls.drawn (shares asked)) v.producers (called_on (may_call v.calls) asked v.producers) h
-    (either_low (may_call v.calls) (opened_on asked v.producers) v.producers (opened_low asked v.producers h) h)
+    cond_so IsLow (lacks_tickets v.calls.drawn (shares asked)) v.producers (called_on (may_call v.calls) asked v.producers) h
+    (cond_so IsLow (may_call v.calls) (opened_on asked v.producers) v.producers (opened_low asked v.producers h) h)
 after_low v (Comes (Rings a)) h = rung_low v (rings v.now a v.alarms) a h
 after_low v (Does who (Draw m)) h = kept_low v.producers (draws_on (room_of v m) m v.producers) (draws_kept (room_of v m) m v.producers) h
 after_low v (Does who (Shut u)) h =

@@ -1,42 +1,29 @@
 -- A call with parts gathers what became of each.
-use Rattle.std.proofs.Common.{◌≡◌, ◌⊎◌, inl, inr, ◌∙◌, sym, ap, subst, ℕ, ◌+◌, ◌<◌, ◌≤◌, ◌==◌, arith, List, [], ◌∷◌, ◌++◌, refl, Bool, true, false, cond, Option, Some, None}
+use Rattle.std.proofs.Common.{◌≡◌, ◌⊎◌, inl, inr, ◌∙◌, sym, ap, subst, ℕ, ◌+◌, ◌<◌, ◌≤◌, ◌==◌, arith, List, [], ◌∷◌, ◌++◌, refl, Bool, true, false, cond, Option, Some}
 use Rattle.std.proofs.lemmas.Bool.{cases_Bool}
 use Rattle.std.proofs.lemmas.Bool.Decides.{nat_tests}
-use Rattle.pulsar_run.specs.Laws.{In}
-use Rattle.pulsar_session.specs.Failures.{Failure}
-use Rattle.pulsar_calls.specs.declared.act.Act.TheVariants.{Starts, Told, Does}
-use Rattle.pulsar_calls.specs.declared.act.Action.TheVariants.{Tell, TellAll}
-use Rattle.pulsar_calls.specs.declared.act.Makes.TheVariants.{Nothing}
-use Rattle.pulsar_calls.specs.declared.act.Notice.{Notice}
-use Rattle.pulsar_calls.specs.declared.act.Outcome.{Outcome}
+use Rattle.pulsar_laws.proofs.ActWords.{Call, Consumer, Does, is_same, Nothing, Notice, Outcome, Producer, Starts, Tell, TellAll, Told, Who}
+use Rattle.pulsar_laws.proofs.PlanWords.{verdict}
+use Rattle.pulsar_laws.proofs.RunWords.{Answered, Begins, Cause, counted, Each, each_append, each_map, Entry, In, IsRun, notice, Options, started, Then}
+use Rattle.pulsar_laws.proofs.LinkWords.{Failure}
 use Rattle.pulsar_calls.specs.declared.act.Outcome.TheVariants as outcome
 use Rattle.pulsar_calls.specs.declared.act.Procedure.TheVariants as procedure
-use Rattle.pulsar_calls.specs.declared.act.Who.{Who}
-use Rattle.pulsar_calls.specs.declared.act.Who.TheVariants.{Call, Consumer, Producer}
-use Rattle.pulsar_laws.specs.Laws.{Answered, Cause, counted, outcomes, started}
-use Rattle.pulsar_procedures.specs.Plan.{verdict}
+use Rattle.pulsar_laws.proofs.Lists.{in_each}
+use Rattle.pulsar_laws.proofs.Cases.{none_some}
+use Rattle.pulsar_laws.specs.Laws.{outcomes}
 use Rattle.pulsar_laws.specs.ProducerLaws.{PartsAreGathered}
-use Rattle.pulsar_tables.specs.Rules.{notice}
-use Rattle.pulsar_agenda.specs.Run.{Entry, Begins, Then, IsRun}
-use Rattle.pulsar_tables.specs.View.{Options}
-use Rattle.pulsar_calls.specs.Who.{is_same}
-use Rattle.pulsar_agenda.proofs.Acts.{Each, each_append, each_map}
 use Rattle.pulsar_laws.proofs.Caused.{outcomes_are_caused_lem}
 use Rattle.pulsar_laws.proofs.Follow.{plans_follow_lem, same_is}
 use Rattle.pulsar_laws.proofs.Batchers.{batcher_does}
 use Rattle.pulsar_laws.proofs.Fitting.{is_said, is_settling}
 use Rattle.pulsar_laws.proofs.Gathering.{AtMostOnce, IsAmong, IsSaid, gathered, is_of}
 use Rattle.pulsar_laws.proofs.Granted.{tell_settling}
-use Rattle.pulsar_laws.proofs.Sources.{in_each}
 use Rattle.pulsar_laws.proofs.Parted.{parts_at, parts_behind, parts_run, step_behind}
 use Rattle.pulsar_laws.proofs.Receipts.{run_behind}
 use Rattle.pulsar_laws.proofs.Telling.{no_tell, part_of, tells_own, told_of, told_once}
 use Rattle.pulsar_laws.proofs.Turns.{sum, sum_append}
 use Rattle.pulsar_laws.proofs.Servers.{server_does}
 use Rattle.pulsar_laws.proofs.Consuming.{is_modest}
-
-none_some : {A : Type 0} {x : A} → None ≡ Some x → ⊥
-none_some {A} {x} h = cc
 
 abbrev IsPartOrStop : Outcome → Type 0
 IsPartOrStop u = (u ≡ outcome.Stopped) ⊎ ((ticket : ℕ) × (f : Option Failure) × (u ≡ outcome.Parted ticket f))
@@ -85,7 +72,8 @@ part_from o log t k f run =
         let hi : w < x.share.of + 1 + x.own.1 = x.own.4 in
         (x.own.1, now, omega (arith, of, it, lo), omega (arith, of, it, hi))
     by newer older (Consumer n u) there r =
-        let d : is_modest (Tell (notice (Call t) (outcome.Parted k f))) ≡ true = server_does o older n u (Tell (notice (Call t) (outcome.Parted k f))) r in absurd cc
+        let d : is_modest (Tell (notice (Call t) (outcome.Parted k f))) ≡ true = server_does o older n u (Tell (notice (Call t) (outcome.Parted k f))) r in
+        absurd cc
     by newer older (Producer m) there r =
         let d = batcher_does o older m (Tell (notice (Call t) (outcome.Parted k f))) r in absurd (no_tell d.0 (notice (Call t) (outcome.Parted k f)) d.1)
 

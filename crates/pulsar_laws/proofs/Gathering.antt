@@ -6,18 +6,18 @@ use Rattle.std.specs.BTreeMap.{insert_entry, is_at}
 use Rattle.std.specs.Map.{lookup}
 use Rattle.std.specs.Ordering.{match_ordering, nat_cmp, is_eq}
 use Rattle.std.specs.declared.cmp.Ordering.TheVariants.{Less, Equal, Greater}
-use Rattle.pulsar_run.specs.Laws.{In}
-use Rattle.pulsar_session.specs.Failures.{Failure, OfConnection, Shutdown}
-use Rattle.pulsar_calls.specs.declared.act.Makes.TheVariants.{Nothing}
-use Rattle.pulsar_calls.specs.declared.act.Outcome.{Outcome}
+use Rattle.pulsar_laws.proofs.ActWords.{Nothing, Outcome, Said}
+use Rattle.pulsar_laws.proofs.PlanWords.{fails, verdict}
+use Rattle.pulsar_laws.proofs.RunWords.{Answered, Each, In}
+use Rattle.pulsar_laws.proofs.LinkWords.{Failure, OfConnection}
+use Rattle.pulsar_wire.specs.Failures.{Shutdown}
 use Rattle.pulsar_calls.specs.declared.act.Outcome.TheVariants as outcome
-use Rattle.pulsar_calls.specs.Content.{Said, Failed}
-use Rattle.pulsar_laws.specs.Laws.{Answered, course}
+use Rattle.pulsar_calls.specs.Content.{Failed}
+use Rattle.pulsar_laws.proofs.Lists.{in_each, in_left}
+use Rattle.pulsar_laws.specs.Laws.{course}
 use Rattle.pulsar_calls.specs.Parts.{failed_with, sent_from}
-use Rattle.pulsar_procedures.specs.Plan.{fails, gathers, verdict}
-use Rattle.pulsar_agenda.proofs.Acts.{Each}
+use Rattle.pulsar_plans.specs.Plan.{gathers}
 use Rattle.pulsar_laws.proofs.Fitting.{is_said}
-use Rattle.pulsar_laws.proofs.Sources.{in_each}
 use Rattle.pulsar_laws.proofs.Turns.{sum}
 
 abbrev pub IsSaid : Outcome → Type 0
@@ -283,11 +283,6 @@ folded_in x fs (_ ∷ os) i = elim (folded_in x fs os i) [ inl j ↦ inl j | inr
 
 -- THE WHOLE
 
-in_front : {A : Type 0} (x : A) (xs ys : List A) → In x xs → In x (xs ++ ys)
-in_front x [] ys i = absurd i
-in_front x (y ∷ xs) ys (inl e) = inl e
-in_front x (y ∷ xs) ys (inr i) = inr (in_front x xs ys i)
-
 each_front : {A : Type 0} (P : A → Type 0) (xs ys : List A) → Each P (xs ++ ys) → Each P xs
 each_front P [] ys k = tt
 each_front P (x ∷ xs) ys k = (k.0, each_front P xs ys k.1)
@@ -315,12 +310,12 @@ ended first count os said once among k =
       k.says,
       λ u low high.
           let f = found u [] k.taken (held_each first count k.taken few full u low high) refl in
-          (f.0, subst (In (outcome.Parted u f.0)) (sym k.is_all) (in_front (outcome.Parted u f.0) k.taken k.more f.1), f.2),
+          (f.0, subst (In (outcome.Parted u f.0)) (sym k.is_all) (in_left (outcome.Parted u f.0) k.taken k.more f.1), f.2),
       λ x i. elim (folded_in x [] k.taken i) [
         | inl none ↦ absurd none
         | inr j ↦
             (let w = in_each (IsAmong first count) (outcome.Parted x.0 (Some x.1)) k.taken j within in
-            (w.0, w.1, subst (In (outcome.Parted x.0 (Some x.1))) (sym k.is_all) (in_front (outcome.Parted x.0 (Some x.1)) k.taken k.more j)))
+            (w.0, w.1, subst (In (outcome.Parted x.0 (Some x.1))) (sym k.is_all) (in_left (outcome.Parted x.0 (Some x.1)) k.taken k.more j)))
       ],
     )
 

@@ -1,70 +1,35 @@
 -- What plans do comes right behind what leads to it, and numbers, commands and batches that they are granted right behind what they do.
-use Rattle.std.proofs.Common.{◌≡◌, ◌⊎◌, inl, inr, ◌∙◌, sym, ap, subst, ℕ, List, [], ◌∷◌, ◌++◌, refl, map, drop, Bool, true, false, ◌&&◌, cond, Option, Some, None, Result, Ok, Err}
-use Rattle.std.proofs.lemmas.Bool.{cases_Bool}
-use Rattle.std.specs.List.{cons_option, filter_map, flat_map}
+use Rattle.std.proofs.Common.{◌≡◌, ◌⊎◌, inl, inr, ◌∙◌, sym, ap, subst, ℕ, List, [], ◌∷◌, ◌++◌, refl, map, drop, Bool, true, false, ◌&&◌, cond, Option, Some, None}
 use Rattle.std.specs.Option.{option_map, option_to_list}
-use Rattle.pulsar_run.specs.Laws.{In}
-use Rattle.pulsar_run.specs.Order.{arranged, put, put_all}
-use Rattle.pulsar_run.specs.Run.{first_of, rest, rest_of}
-use Rattle.pulsar_wire.specs.declared.error.ConnectionError.{ConnectionError}
-use Rattle.pulsar_messages.specs.Words.{Words}
-use Rattle.pulsar_session.specs.Failures.{Fault}
-use Rattle.pulsar_session.specs.declared.states.Asked.{Asked}
-use Rattle.pulsar_session.specs.declared.states.Asked.TheVariants as asked
+use Rattle.pulsar_laws.proofs.ActWords.{Act, Action, Alarm, Answers, Ask, Batch, below, Comes, Does, Drains, End, Ends, FailConsumer, Flush, Idles, Notice, opens, Outcome, Overdue, Part, PassTurn, Polls, Procedure, Reads, Retry, Revive, Rings, Shut, Starts, StopAll, Stops, Store, Tell, TellAll, Told, ToLink, turn_of, Wake, Who}
+use Rattle.pulsar_laws.proofs.PlanWords.{begins, closed_notice, News, Plan, Stays, told}
+use Rattle.pulsar_laws.proofs.RunWords.{after, agenda, Answered, arranged, at_once, Begins, causes, Each, each_append, each_either, each_flat, each_map, Entry, first_of, In, IsRun, joins, lost_on, notice, Options, over_each, performs, readied, ready_notice, rest, rest_of, rules, stays, stays_some, stopped_on, tells, Then, told_some, turn_notice, Turned, turned_by, view, View}
+use Rattle.pulsar_laws.proofs.LinkWords.{Addresses, Base, Becomes, Change, Fault, IsOver, over_links, Pause, rings, Runs, Seat, Series, stop_act}
 use Rattle.pulsar_session.specs.Link as session
 use Rattle.pulsar_session.specs.Link.{Came, came, ends}
-use Rattle.pulsar_link.specs.Messages.{read}
-use Rattle.pulsar_plans.specs.Address.{Place, address_key, is_reachable}
-use Rattle.pulsar_plans.specs.declared.making.Command.{Command}
-use Rattle.pulsar_producer.specs.declared.deed.Drawn.{Drawn}
-use Rattle.pulsar_producer.specs.declared.deed.News.{News}
-use Rattle.pulsar_producer.specs.declared.deed.News.TheVariants as news
-use Rattle.pulsar_calls.specs.declared.act.Act.{Act}
-use Rattle.pulsar_calls.specs.declared.act.Act.TheVariants.{Comes, Starts, Told, Does, Answers, Dials}
-use Rattle.pulsar_calls.specs.declared.act.Action.{Action}
-use Rattle.pulsar_calls.specs.declared.act.Action.TheVariants.{Get, Ask, Wait, TakeTurn, PassTurn, Draw, Recall, Remake, Number, Find, Shut, Store, Flush, TakeBatch, Tell, TellAll, StopAll, Rest, FindConsumer, RecallConsumer, Revive, FailConsumer, TakeNumber, TakeFlow}
-use Rattle.pulsar_calls.specs.declared.act.Alarm.{Alarm}
-use Rattle.pulsar_calls.specs.declared.act.Alarm.TheVariants.{Retry, Wake, Batch}
-use Rattle.pulsar_calls.specs.declared.act.End.{End}
-use Rattle.pulsar_calls.specs.declared.act.End.TheVariants.{Unopened, Lost, Overdue, Broken, Idles, Stops}
-use Rattle.pulsar_calls.specs.declared.act.LinkAct.TheVariants.{Reads, Drains, Ends}
-use Rattle.pulsar_calls.specs.declared.act.Notice.{Notice}
-use Rattle.pulsar_calls.specs.declared.act.Outcome.{Outcome}
+use Rattle.pulsar_exchange.specs.Messages.{read}
+use Rattle.pulsar_outgoing.specs.declared.news.News.TheVariants as news
+use Rattle.pulsar_calls.specs.declared.act.End.TheVariants.{Unopened, Lost, Broken}
 use Rattle.pulsar_calls.specs.declared.act.Outcome.TheVariants as outcome
-use Rattle.pulsar_calls.specs.declared.act.Part.{Part}
-use Rattle.pulsar_calls.specs.declared.act.Part.TheVariants.{ToLink, Rings, Polls}
-use Rattle.pulsar_calls.specs.declared.act.Procedure.{Procedure}
 use Rattle.pulsar_calls.specs.declared.act.Procedure.TheVariants as procedure
-use Rattle.pulsar_calls.specs.declared.act.Who.{Who}
-use Rattle.pulsar_tables.specs.declared.addresses.Pause.{Pause}
-use Rattle.pulsar_tables.specs.declared.addresses.Series.{Series}
-use Rattle.pulsar_tables.specs.declared.addresses.Series.TheVariants.{Nobody, Runs, Pauses, Serves}
-use Rattle.pulsar_procedures.specs.declared.plan.Plan.{Plan}
-use Rattle.pulsar_procedures.specs.declared.plan.Turn.TheVariants.{Stays}
 use Rattle.pulsar_producer_table.specs.declared.table.Topic.{Topic}
-use Rattle.pulsar_tables.specs.Alarms.{rings}
-use Rattle.pulsar_laws.specs.Laws.{Acted, Answered}
-use Rattle.pulsar_tables.specs.Links.{Change, Becomes, IsOver}
-use Rattle.pulsar_procedures.specs.Plan.{begins, closed_notice, told}
+use Rattle.pulsar_laws.proofs.Lists.{each_alone, each_arranged, each_asker, each_made, each_opens, each_put_all}
+use Rattle.pulsar_laws.proofs.AtOnce.{AtOnce, dials, does_it, is_notice, is_part, nothing, once_each, performs_once, raised_told, says, stops_all}
+pub use Rattle.pulsar_laws.proofs.AtOnce.{GivenBy, GivesSo, SaysSo}
+use Rattle.pulsar_laws.proofs.Cases.{cond_so}
+use Rattle.pulsar_laws.specs.Laws.{Acted}
 use Rattle.pulsar_producer.specs.Topic as topic
-use Rattle.pulsar_calls.specs.Who.{turn_of, ticket_of}
-use Rattle.pulsar_producer_table.specs.Producers.{drawn, is_settled_at, is_woken, link_at, next_batch_at, number_drawn, numbers_at, recalled, stored_by, turn_passed, turn_taken, unsent, waiting}
-use Rattle.pulsar_tables.specs.Rules.{alone, answered_by, answered_on, at_once, below, caused, causes, draw_outcome, draw_said, dropped, ended_by, ended_on, failed, failed_at, failed_by, failed_on, failed_over, fails_so, finds, gets_from, grants, joins, lost, lost_so, lost_with, moved_on, notice, number_said, opens, over_links, performs, readied, ready_notice, recalls, served_by, served_on, stop_act, stopped_at, stopped_one, stopped_with, takes_turn, tells, tells_asker, told_at, turn_notice, waiters_of, woken}
+use Rattle.pulsar_producer_table.specs.Producers.{is_woken, numbers_at, stored_by, turn_passed, unsent, waiting}
+use Rattle.pulsar_acts.specs.Rules.{caused, failed_by, failed_on, served_on, stopped_one, stopped_with, waiters_of, woken}
+use Rattle.pulsar_links.specs.LinkRules.{answered_by, answered_on, dropped, ended_by, ended_on, failed, failed_at, failed_over, fails_so, lost, lost_so, lost_with, moved_on, served_by, stopped_at}
 use Rattle.pulsar_producer_table.specs.Notices.{stopped_call}
-use Rattle.pulsar_agenda.specs.Run.{Entry, Begins, Then, IsRun, agenda, rules, view}
-use Rattle.pulsar_tables.specs.View.{Addresses, Base, Options, Seat, Turned, View, after, answer_at, room_of, stays, stays_some, told_some, turned_by}
-use Rattle.pulsar_agenda.proofs.Acts.{Each, each_append, each_drop, each_either, each_flat, each_map, over_each}
-use Rattle.pulsar_agenda.proofs.Raising.{IsRaised, raises}
+use Rattle.pulsar_client.proofs.Acts.{each_drop}
+use Rattle.pulsar_client.proofs.Raising.{IsRaised, raises}
 use Rattle.pulsar_laws.proofs.Led.{deeds_follow_lem}
 use Rattle.pulsar_laws.proofs.Spots.{same_self}
 use Rattle.pulsar_laws.proofs.Fitting.{Fits, all_settling, begins_fits, fits, is_said, is_settling, is_stop, says_so, settles_so, spot, told_fits}
 use Rattle.pulsar_laws.proofs.Wording.{IsStoppedWord, IsWord, heard_words, is_stopped_word, is_word, is_worded, joins_words, lost_words, stopped_words}
-use Rattle.pulsar_tables.specs.Reading.{heard_on, lost_on, recalled_said, sought_said, stopped_on, numbering_said}
-use Rattle.pulsar_consumer_table.specs.Consumers as consumer
-use Rattle.pulsar_consumer_table.specs.declared.row.Sought.{Sought}
-use Rattle.pulsar_consumer_table.specs.declared.row.Sought.TheVariants.{Found, Gone, Later}
-use Rattle.pulsar_consumer_table.specs.declared.numbers.Numbering.{Numbering}
-use Rattle.pulsar_consumer_table.specs.declared.numbers.Numbering.TheVariants.{Has, InUse, Spent}
+use Rattle.pulsar_acts.specs.Reading.{heard_on}
 
 -- what one is granted only by what it does; a turn, that a batch was cut, and that all is settled come by others too
 abbrev pub is_grant : Outcome → Bool
@@ -112,20 +77,6 @@ is_inner _ = false
 abbrev pub IsCaused : Notice → Type 0
 IsCaused n = is_inner n.outcome ≡ false
 
-askers_free : (says : ℕ → Outcome) (askers : ℕ → Option Who) → ((place : ℕ) → is_inner (says place) ≡ false) → (places : List ℕ) →
-    Each IsCaused (filter_map (tells_asker says askers) places)
-askers_free says askers free [] = tt
-askers_free says askers free (p ∷ ps) =
-    let more : Each IsCaused (filter_map (tells_asker says askers) ps) = askers_free says askers free ps in
-    elim (askers p) as (λ r. Each IsCaused (cons_option (option_map (λ who. notice who (says p)) r) (filter_map (tells_asker says askers) ps))) [
-      | None ↦ more
-      | Some w ↦ (free p, more)
-    ]
-
-each_of : {A : Type 0} (f : A → Notice) → ((x : A) → IsCaused (f x)) → (xs : List A) → Each IsCaused (map f xs)
-each_of f free [] = tt
-each_of f free (x ∷ xs) = (free x, each_of f free xs)
-
 lost_free : (end : End) (b : Bool) → is_inner (lost_with end b) ≡ false
 lost_free (Unopened kind) b = refl
 lost_free Lost b = refl
@@ -138,20 +89,16 @@ dropped_free : (end : End) → is_inner (dropped end) ≡ false
 dropped_free Stops = refl
 dropped_free _ = refl
 
-either_free : (b : Bool) (u y : Outcome) → is_inner u ≡ false → is_inner y ≡ false → is_inner (cond b u y) ≡ false
-either_free true u y p q = p
-either_free false u y p q = q
-
 fails_free : (end : End) (b : Bool) → is_inner (fails_so end b) ≡ false
-fails_free (Unopened kind) b = either_free b _ _ refl refl
-fails_free Lost b = either_free b _ _ refl refl
-fails_free (Overdue below) b = either_free b _ _ refl refl
-fails_free (Broken cause) b = either_free b _ _ refl refl
-fails_free Idles b = either_free b _ _ refl refl
+fails_free (Unopened kind) b = cond_so (λ z. is_inner z ≡ false) b _ _ refl refl
+fails_free Lost b = cond_so (λ z. is_inner z ≡ false) b _ _ refl refl
+fails_free (Overdue below) b = cond_so (λ z. is_inner z ≡ false) b _ _ refl refl
+fails_free (Broken cause) b = cond_so (λ z. is_inner z ≡ false) b _ _ refl refl
+fails_free Idles b = cond_so (λ z. is_inner z ≡ false) b _ _ refl refl
 fails_free Stops b = refl
 
 answered_free : (c : Came) (askers : ℕ → Option Who) → Each IsCaused (answered_by c askers)
-answered_free (session.Settles places m) askers = askers_free (λ place. outcome.Replied (read m)) askers (λ place. refl) places
+answered_free (session.Settles places m) askers = each_asker IsCaused (λ place. outcome.Replied (read m)) askers (λ place w. refl) places
 answered_free _ askers = tt
 
 on_free : (row : Option Seat) → Each IsCaused (answered_on row)
@@ -159,11 +106,11 @@ on_free None = tt
 on_free (Some seat) = answered_free (came seat.seen) seat.askers
 
 served_free : (l : ℕ) (c : Change) (ws : List Who) → Each IsCaused (served_by l c ws)
-served_free l Becomes ws = each_of (λ who. notice who (outcome.GotLink l)) (λ w. refl) ws
+served_free l Becomes ws = each_made IsCaused (λ who. notice who (outcome.GotLink l)) (λ w. refl) ws
 served_free l _ ws = tt
 
 series_free : (end : End) (s : Series) (ws : List Who) → Each IsCaused (failed_at end s ws)
-series_free end (Runs starter retries l) ws = each_of (failed end starter) (λ w. fails_free end _) ws
+series_free end (Runs starter retries l) ws = each_made IsCaused (failed end starter) (λ w. fails_free end _) ws
 series_free end _ ws = tt
 
 over_free : (end : End) (pause : Option Pause) (b : Base) → Each IsCaused (failed_over end pause b)
@@ -177,8 +124,8 @@ failed_free end _ pause b = tt
 ended_free : (end : End) (now : ℕ) (cause : Option Fault) (seat : Seat) → Each IsCaused (ended_by end now cause seat)
 ended_free end now None seat = tt
 ended_free end now (Some cause) seat =
-    each_append IsCaused _ _ (askers_free (lost end now seat.seen) seat.askers (λ place. lost_free end _) (ends seat.seen))
-    (askers_free (λ place. dropped end) seat.askers (λ place. dropped_free end) _)
+    each_append IsCaused _ _ (each_asker IsCaused (lost end now seat.seen) seat.askers (λ place w. lost_free end _) (ends seat.seen))
+    (each_asker IsCaused (λ place. dropped end) seat.askers (λ place w. dropped_free end) _)
 
 row_free : (end : End) (now : ℕ) (row : Option Seat) → Each IsCaused (ended_on end now row)
 row_free end now None = tt
@@ -186,7 +133,7 @@ row_free end now (Some seat) = ended_free end now _ seat
 
 moved_free : (most now : ℕ) (row : Option Seat) → Each IsCaused (moved_on most now row)
 moved_free most now None = tt
-moved_free most now (Some seat) = askers_free (λ place. outcome.Queued) seat.askers (λ place. refl) _
+moved_free most now (Some seat) = each_asker IsCaused (λ place. outcome.Queued) seat.askers (λ place w. refl) _
 
 waiters_free : (f : Turned → Base → List Notice) (known : Addresses) (g : Seat → Turned) (row : Option Seat) →
     ((t : Turned) (b : Base) → Each IsCaused (f t b)) →
@@ -204,20 +151,12 @@ woken_free v _ = tt
 
 pause_free : (known : Addresses) (row : Option Pause) → Each IsCaused (stopped_at known row)
 pause_free known None = tt
-pause_free known (Some p) = each_of (λ who. notice who outcome.Stopped) (λ w. refl) _
+pause_free known (Some p) = each_made IsCaused (λ who. notice who outcome.Stopped) (λ w. refl) _
 
 stopped_free : (known : Addresses) (a : Alarm) → Each IsCaused (stopped_with known a)
 stopped_free known (Retry l) = pause_free known (known.pause l)
 stopped_free known (Wake who) = (refl, tt)
 stopped_free known _ = tt
-
-opens_free : (ns : List Notice) → Each IsCaused ns → Each (Each IsCaused) (opens ns)
-opens_free [] k = tt
-opens_free (n ∷ ns) k = (k, tt)
-
-alone_free : (ns : List Notice) → Each IsCaused ns → Each (Each IsCaused) (map alone ns)
-alone_free [] k = tt
-alone_free (n ∷ ns) k = ((k.0, tt), alone_free ns k.1)
 
 -- what is said of consumers
 word_free : (u : Outcome) → is_word u ≡ true → is_inner u ≡ false
@@ -233,13 +172,13 @@ halt_free u h = absurd cc
 
 caused_free : (v : View) (l : ℕ) (x : _) → Each (Each IsCaused) (caused v l x)
 caused_free v l Reads =
-    opens_free _ (each_append IsCaused _ (heard_on v l)
+    each_opens IsCaused _ (each_append IsCaused _ (heard_on v l)
     (each_append IsCaused (answered_on (v.links.live l)) _ (on_free (v.links.live l))
     (waiters_free served_on v.addresses (turned_by v.chosen v.addresses v.now l Reads) (v.links.live l) (λ t b. served_free t.link t.change b.waiting)))
     (words_free (heard_on v l) (heard_words v l)))
-caused_free v l (Drains most) = alone_free _ (moved_free most v.now (v.links.live l))
+caused_free v l (Drains most) = each_alone IsCaused _ (moved_free most v.now (v.links.live l))
 caused_free v l (Ends end) =
-    opens_free _ (each_append IsCaused _ (lost_on v l end)
+    each_opens IsCaused _ (each_append IsCaused _ (lost_on v l end)
     (each_append IsCaused (ended_on end v.now (v.links.live l)) _ (row_free end v.now (v.links.live l))
     (waiters_free (failed_on end) v.addresses (turned_by v.chosen v.addresses v.now l (Ends end)) (v.links.live l) (λ t b. failed_free end t.change t.pause b)))
     (words_free (lost_on v l end) (lost_words v l end)))
@@ -247,11 +186,13 @@ caused_free v l _ = tt
 
 pub causes_inner : (v : View) (a : Act) → Each (Each IsCaused) (causes v a)
 causes_inner v (Comes (ToLink l x)) = caused_free v l x
-causes_inner v (Comes (Rings a)) = each_either (Each IsCaused) (rings v.now a v.alarms) (opens (woken v a)) [] (opens_free (woken v a) (woken_free v a)) tt
+causes_inner v (Comes (Rings a)) =
+    each_either (Each IsCaused) (rings v.now a v.alarms) (opens (woken v a)) [] (each_opens IsCaused (woken v a) (woken_free v a)) tt
 causes_inner v (Does who StopAll) =
-    opens_free _ (each_append IsCaused _ (stopped_on v)
+    each_opens IsCaused _ (each_append IsCaused _ (stopped_on v)
     (each_append IsCaused _ _ (each_flat IsCaused (λ e. stopped_with v.addresses e.0) v.alarms (λ e. stopped_free v.addresses e.0))
-    (each_append IsCaused _ _ (each_of stopped_one (λ w. refl) (waiting v.producers)) (each_of stopped_call (λ t. refl) (unsent v.producers))))
+    (each_append IsCaused _ _ (each_made IsCaused stopped_one (λ w. refl) (waiting v.producers))
+    (each_made IsCaused stopped_call (λ t. refl) (unsent v.producers))))
     (each_map IsStoppedWord IsCaused (stopped_on v) (λ n h. halt_free n.outcome h) (stopped_words v)))
 causes_inner v _ = tt
 
@@ -364,125 +305,34 @@ pub tell_settling : (o : Options) (log : List Entry) (w : Who) (ns : List Notice
     Each (λ n. is_settling n.outcome ≡ true) ns
 tell_settling o log w ns run = let k = does_fit o log w (TellAll ns) refl run in each_settling ns (settles_so (spot k.0) ns k.1)
 
-pub tell_free : (o : Options) (log : List Entry) (w : Who) (n : Notice) → IsRun o (Then (Does w (Tell n)) ∷ log) → IsFree n
-tell_free o log w n run = said_free n.outcome (tell_said o log w n run)
-
-pub all_free : (o : Options) (log : List Entry) (w : Who) (ns : List Notice) → IsRun o (Then (Does w (TellAll ns)) ∷ log) → Each IsFree ns
-all_free o log w ns run = each_map (λ n. is_settling n.outcome ≡ true) IsFree ns (λ n h. settling_free n.outcome h) (tell_settling o log w ns run)
-
--- what it is told at once
-performs_each : (P : Act → Type 0) (who : Who) → ((u : Outcome) → P (Told (notice who u))) → ((p : Place) (n : _) → P (Dials p who n)) →
-    ((l : ℕ) → P (Comes (ToLink l (Ends Stops)))) → (v : View) (action : Action) → Each P (performs v who action)
-performs_each P who t d s v (Get p) = each_either P (is_reachable p) _ _ (from (v.addresses.base (address_key p)).series) (t outcome.NotFound, tt)
-  where
-    from : (x : Series) → Each P (gets_from who p x)
-    from Nobody = (d p 0, tt)
-    from (Runs starter retries l) = tt
-    from (Pauses l) = tt
-    from (Serves l) = (t (outcome.GotLink l), tt)
-performs_each P who t d s v (Wait delay) = tt
-performs_each P who t d s v (TakeTurn n) = takes (v.producers.topics n)
-  where
-    takes : (row : Option Topic) → Each P (takes_turn who row)
-    takes None = (t _, tt)
-    takes (Some x) = each_flat P (λ version. grants who (news.HasTurn version)) (option_to_list (turn_taken (Some x))) (λ version. (t _, tt))
-performs_each P who t d s v (Recall n) = recalled_so (recalled v.producers n)
-  where
-    recalled_so : (row : Option Command) → Each P (recalls who row)
-    recalled_so None = (t _, tt)
-    recalled_so (Some c) = (t _, tt)
-performs_each P who t d s v (Find n) = finds_so (link_at (v.producers.topics n))
-  where
-    finds_so : (row : Option ℕ) → Each P (finds who row)
-    finds_so None = (t _, tt)
-    finds_so (Some l) = (t _, tt)
-performs_each P who t d s v StopAll = each_append P (over_links stop_act v.links) (tells who outcome.Stopped)
-    (over_each P stop_act v.links (λ l seat. (s l, tt))) (t _, tt)
-performs_each P who t d s v (Flush n) = each_either P (is_settled_at (v.producers.topics n)) (grants who news.Done) [] (t _, tt) tt
-performs_each P who t d s v (FindConsumer k) = sought_so (consumer.sought (v.consumers.rows k))
-  where
-    sought_so : (x : Sought) → Each P (sought_said who x)
-    sought_so (Found l) = (t _, tt)
-    sought_so Gone = (t _, tt)
-    sought_so Later = tt
-performs_each P who t d s v RecallConsumer = command_so (consumer.recalled (v.consumers.rows (ticket_of who)))
-  where
-    command_so : (row : Option Command) → Each P (recalled_said who row)
-    command_so None = (t _, tt)
-    command_so (Some c) = (t _, tt)
-performs_each P who t d s v Rest = tt
-performs_each P who t d s v _ = (t _, tt)
-
 abbrev IsToldTo : Who → Act → Type 0
 IsToldTo who (Told n) = n.who ≡ who
 IsToldTo who _ = Unit {0}
 
 told_to : (v : View) (who : Who) (action : Action) → Each (IsToldTo who) (performs v who action)
-told_to v who action = performs_each (IsToldTo who) who (λ u. refl) (λ p n. tt) (λ l. tt) v action
+told_to v who action = once_each (IsToldTo who) (λ u k b. refl) (λ p. tt) (λ l. tt) (performs_once v who action)
 
-performs_plain : (v : View) (who : Who) (action : Action) → Each IsPlain (drop 1 (performs v who action))
-performs_plain v who (Get p) = elim (cases_Bool (is_reachable p)) [ inl e ↦ rw e (from (v.addresses.base (address_key p)).series) | inr e ↦ rw e tt ]
-  where
-    from : (x : Series) → Each IsPlain (drop 1 (gets_from who p x))
-    from Nobody = tt
-    from (Runs starter retries l) = tt
-    from (Pauses l) = tt
-    from (Serves l) = tt
-performs_plain v who (TakeTurn n) = takes (v.producers.topics n)
-  where
-    takes : (row : Option Topic) → Each IsPlain (drop 1 (takes_turn who row))
-    takes None = tt
-    takes (Some x) = elim (turn_taken (Some x)) as (λ r. Each IsPlain (drop 1 (flat_map (λ version. grants who (news.HasTurn version)) (option_to_list r)))) [
-      | None ↦ tt
-      | Some version ↦ tt
-    ]
-performs_plain v who (Recall n) = elim (recalled v.producers n) as (λ r. Each IsPlain (drop 1 (recalls who r))) [ None ↦ tt | Some c ↦ tt ]
-performs_plain v who (Find n) = elim (link_at (v.producers.topics n)) as (λ r. Each IsPlain (drop 1 (finds who r))) [ None ↦ tt | Some l ↦ tt ]
-performs_plain v who (Flush n) =
-    elim (is_settled_at (v.producers.topics n)) as (λ b. Each IsPlain (drop 1 (cond b (grants who news.Done) []))) [ true ↦ tt | false ↦ tt ]
-performs_plain v who (FindConsumer k) =
-    elim (consumer.sought (v.consumers.rows k)) as (λ x. Each IsPlain (drop 1 (sought_said who x))) [ Found l ↦ tt | Gone ↦ tt | Later ↦ tt ]
-performs_plain v who RecallConsumer =
-    elim (consumer.recalled (v.consumers.rows (ticket_of who))) as (λ r. Each IsPlain (drop 1 (recalled_said who r))) [ None ↦ tt | Some c ↦ tt ]
-performs_plain v who StopAll =
-    each_drop IsPlain (performs v who StopAll)
+-- it is told no more than that
+once_rest : {v : View} {who : Who} {action : Action} {xs : List Act} → AtOnce v who action xs → Each IsPlain (drop 1 xs)
+once_rest nothing = tt
+once_rest (says k b) = tt
+once_rest dials = tt
+once_rest {v} {who} stops_all =
+    each_drop IsPlain (over_links stop_act v.links ++ tells who outcome.Stopped)
     (each_append IsPlain (over_links stop_act v.links) (tells who outcome.Stopped) (over_each IsPlain stop_act v.links (λ l seat. (refl, tt))) (refl, tt))
-performs_plain v who _ = tt
 
-abbrev does_it : Act → Bool
-does_it (Does who action) = true
-does_it _ = false
-
--- nobody is told anything at once but by what one does
-raised_plain : (a b : Act) → does_it a ≡ false → IsRaised a b → IsPlain b
-raised_plain (Does who action) (Told n) d r = absurd cc
-raised_plain (Comes p) (Told n) d r = absurd cc
-raised_plain (Starts who p) (Told n) d r = absurd cc
-raised_plain (Told m) (Told n) d r = absurd cc
-raised_plain (Answers who verdict) (Told n) d r = absurd cc
-raised_plain (Dials p who retries) (Told n) d r = absurd cc
-raised_plain a _ d r = refl
+plain_by : (b : Act) → is_notice b ≡ false → IsPlain b
+plain_by (Told n) h = absurd cc
+plain_by _ h = refl
 
 others_plain : (v : View) (a : Act) → does_it a ≡ false → Each IsPlain (at_once v a)
-others_plain v a d = each_map (IsRaised a) IsPlain (at_once v a) (λ b r. raised_plain a b d r) (raises v a)
+others_plain v a d = each_map (IsRaised a) IsPlain (at_once v a) (λ b r. plain_by b (raised_told a b d r)) (raises v a)
 
 once_plain : (v : View) (a : Act) → Each IsPlain (drop 1 (at_once v a))
-once_plain v (Does who action) = performs_plain v who action
+once_plain v (Does who action) = once_rest (performs_once v who action)
 once_plain v a = each_drop IsPlain (at_once v a) (others_plain v a refl)
 
 -- ALONG A LOG
-
-each_put : {A : Type 0} (P : A → Type 0) (f : A → A → Bool) (x : A) (ys : List A) → P x → Each P ys → Each P (put f x ys)
-each_put P f x [] p q = (p, tt)
-each_put P f x (y ∷ ys) p q = elim (f x y) as (λ b. Each P (cond b (x ∷ y ∷ ys) (y ∷ put f x ys))) [ true ↦ (p, q) | false ↦ (q.0, each_put P f x ys p q.1) ]
-
-pub each_put_all : {A : Type 0} (P : A → Type 0) (f : A → A → Bool) (xs ys : List A) → Each P xs → Each P ys → Each P (put_all f xs ys)
-each_put_all P f [] ys p q = q
-each_put_all P f (x ∷ xs) ys p q = each_put_all P f xs (put f x ys) p.1 (each_put P f x ys p.0 q)
-
-pub each_arranged : {A : Type 0} (P : A → Type 0) (f : A → A → Bool) (xss : List (List A)) → Each (Each P) xss → Each (Each P) (map (arranged f) xss)
-each_arranged P f [] p = tt
-each_arranged P f (xs ∷ xss) p = (each_put_all P f xs [] p.0 tt, each_arranged P f xss p.1)
 
 -- of what is left, only the first of what arose at once gives a number, a command or a batch, and causes that wait give no turn either
 pub record IsClean (now : List Act) (here : List Notice) (behind : List (List Notice)) : Type 0 where
@@ -507,37 +357,54 @@ head_on : (xs ys : List Act) → Each IsPlain (drop 1 xs) → Each IsPlain ys �
 head_on [] ys p q = each_drop IsPlain ys q
 head_on (x ∷ xs) ys p q = each_append IsPlain xs ys p q
 
-passed_turn : (n : ℕ) (r : Option (ℕ × Option (List ℕ))) → Each IsTurn (option_to_list (option_map (turn_notice n) r))
-passed_turn n None = tt
-passed_turn n (Some next) = (refl, tt)
+-- what joins behind an act: a turn that is passed, what is told, and what is caused else
+abbrev IsPassed : Notice → Type 0
+IsPassed m = IsTurn m × (is_part m.outcome ≡ false)
 
-readied_turn : (n : ℕ) (act : topic.Act) (row : Option Topic) → Each IsTurn (readied n act row)
-readied_turn n act row = each_either IsTurn (is_woken act row) (ready_notice n ∷ []) [] (refl, tt) tt
+abbrev pub JoinSo : Act → Notice → Type 0
+JoinSo (Does who (PassTurn n)) m = IsPassed m
+JoinSo (Does who (Tell n)) m = is_said m.outcome ≡ true
+JoinSo (Does who (TellAll ns)) m = is_settling m.outcome ≡ true
+JoinSo _ m = IsCaused m
 
-closed_turn : (ts : List ℕ) → Each IsTurn (map closed_notice ts)
-closed_turn [] = tt
-closed_turn (t ∷ ts) = (refl, closed_turn ts)
+passed_so : (n : ℕ) (r : Option (ℕ × Option (List ℕ))) → Each IsPassed (option_to_list (option_map (turn_notice n) r))
+passed_so n None = tt
+passed_so n (Some next) = ((refl, refl), tt)
 
-word_turn : (u : Outcome) → is_word u ≡ true → is_grant u ≡ false
-word_turn (outcome.Word w) h = refl
-word_turn u h = absurd cc
+readied_so : (n : ℕ) (act : topic.Act) (row : Option Topic) → Each IsCaused (readied n act row)
+readied_so n act row = each_either IsCaused (is_woken act row) (ready_notice n ∷ []) [] (refl, tt) tt
 
-worded : (v : View) (a : Act) → is_worded a ≡ true → Each IsTurn (joins v a)
-worded v a h = each_map IsWord IsTurn (joins v a) (λ n k. word_turn n.outcome k) (joins_words v a h)
+worded : (v : View) (a : Act) → is_worded a ≡ true → Each IsCaused (joins v a)
+worded v a h = words_free (joins v a) (joins_words v a h)
 
-joins_turn : (o : Options) (log : List Entry) (a : Act) → IsRun o (Then a ∷ log) → Each IsTurn (joins (view o log) a)
-joins_turn o log (Does who (PassTurn n)) run = passed_turn n (turn_passed ((view o log).producers.topics n))
-joins_turn o log (Does who (Store n entry)) run = readied_turn n (topic.Stores (turn_of who) entry) ((view o log).producers.topics n)
-joins_turn o log (Does who (Flush n)) run = readied_turn n (topic.Flushes (turn_of who)) ((view o log).producers.topics n)
-joins_turn o log (Does who (Shut t)) run = closed_turn (stored_by (view o log).producers (numbers_at ((view o log).producers.built t)))
-joins_turn o log (Does who (Tell n)) run = (free_turn n.outcome (tell_free o log who n run), tt)
-joins_turn o log (Does who (TellAll ns)) run = each_map IsFree IsTurn ns (λ n h. free_turn n.outcome h) (all_free o log who ns run)
-joins_turn o log (Comes (Polls t)) run = worded (view o log) (Comes (Polls t)) refl
-joins_turn o log (Does who (Ask l request)) run = worded (view o log) (Does who (Ask l request)) refl
-joins_turn o log (Does who (Revive l)) run = worded (view o log) (Does who (Revive l)) refl
-joins_turn o log (Does who (FailConsumer f)) run = worded (view o log) (Does who (FailConsumer f)) refl
-joins_turn o log (Answers who verdict) run = worded (view o log) (Answers who verdict) refl
-joins_turn o log _ run = tt
+pub joins_so : (o : Options) (log : List Entry) (a : Act) → IsRun o (Then a ∷ log) → Each (JoinSo a) (joins (view o log) a)
+joins_so o log (Does who (PassTurn n)) run = passed_so n (turn_passed ((view o log).producers.topics n))
+joins_so o log (Does who (Store n entry)) run = readied_so n (topic.Stores (turn_of who) entry) ((view o log).producers.topics n)
+joins_so o log (Does who (Flush n)) run = readied_so n (topic.Flushes (turn_of who)) ((view o log).producers.topics n)
+joins_so o log (Does who (Shut t)) run =
+    each_made IsCaused closed_notice (λ u. refl) (stored_by (view o log).producers (numbers_at ((view o log).producers.built t)))
+joins_so o log (Does who (Tell n)) run = (tell_said o log who n run, tt)
+joins_so o log (Does who (TellAll ns)) run = tell_settling o log who ns run
+joins_so o log (Comes (Polls t)) run = worded (view o log) (Comes (Polls t)) refl
+joins_so o log (Does who (Ask l request)) run = worded (view o log) (Does who (Ask l request)) refl
+joins_so o log (Does who (Revive l)) run = worded (view o log) (Does who (Revive l)) refl
+joins_so o log (Does who (FailConsumer f)) run = worded (view o log) (Does who (FailConsumer f)) refl
+joins_so o log (Answers who verdict) run = worded (view o log) (Answers who verdict) refl
+joins_so o log _ run = tt
+
+abbrev pub passes_it : Act → Bool
+passes_it (Does who (PassTurn n)) = true
+passes_it _ = false
+
+pub join_free : (a : Act) (m : Notice) → passes_it a ≡ false → JoinSo a m → IsFree m
+join_free (Does who (PassTurn n)) m p k = absurd cc
+join_free (Does who (Tell n)) m p k = said_free m.outcome k
+join_free (Does who (TellAll ns)) m p k = settling_free m.outcome k
+join_free a m p k = inner_free m.outcome k
+
+join_turn : (a : Act) (m : Notice) → JoinSo a m → IsTurn m
+join_turn (Does who (PassTurn n)) m k = k.0
+join_turn a m k = free_turn m.outcome (join_free a m refl k)
 
 abbrev pub IsCleanAt : Options → List Entry → Type 0
 IsCleanAt o log = IsClean (agenda o log).now (agenda o log).here (agenda o log).behind
@@ -551,123 +418,16 @@ clean_run o (Then a ∷ log) run =
     let left = clean_rest g.now g.here g.behind g.parts k.at_head k.served k.waits in
     record {
       at_head = head_on (at_once (view o log) a) (rest (agenda o log)).now (once_plain (view o log) a) left.now_is;
-      served = each_put_all IsTurn below (joins (view o log) a) (rest (agenda o log)).here (joins_turn o log a run) left.served;
+      served = each_put_all IsTurn below (joins (view o log) a) (rest (agenda o log)).here
+          (each_map (JoinSo a) IsTurn (joins (view o log) a) (join_turn a) (joins_so o log a run)) left.served;
       waits = each_append (Each IsFree) (rest (agenda o log)).behind (map (arranged below) (causes (view o log) a)) left.waits
           (each_arranged IsFree below (causes (view o log) a) (causes_free (view o log) a));
     }
 
 -- WHAT ONE IS GRANTED
 
--- an action grants just this
-abbrev pub GivenBy : View → Action → News → Type 0
-GivenBy v (TakeTurn n) (news.HasTurn version) = turn_taken (v.producers.topics n) ≡ Some version
-GivenBy v (PassTurn n) news.Done = Unit {0}
-GivenBy v (Draw n) (news.Drew d) = (room : Bool) × (room_of v n ≡ Some room) × (drawn room (v.producers.topics n) ≡ Some d)
-GivenBy v (Recall n) (news.Recalled c) = recalled v.producers n ≡ Some c
-GivenBy v (Remake r) news.Done = Unit {0}
-GivenBy v Number (news.Numbered n) = number_drawn v.producers ≡ Some n
-GivenBy v (Shut t) news.Done = Unit {0}
-GivenBy v (Store n entry) news.Done = Unit {0}
-GivenBy v (Flush n) news.Done = is_settled_at (v.producers.topics n) ≡ true
-GivenBy v (TakeBatch n) (news.HasBatch items) = next_batch_at (v.producers.topics n) ≡ items
-GivenBy v (Tell n) news.Done = Unit {0}
-GivenBy v (TellAll ns) news.Done = Unit {0}
-GivenBy v action n = ⊥
-
-abbrev pub SaysSo : View → Action → Outcome → Type 0
-SaysSo v action (outcome.Granted n) = GivenBy v action n
-SaysSo v action _ = Unit {0}
-
-abbrev pub GivesSo : View → Action → Act → Type 0
-GivesSo v action (Told n) = SaysSo v action n.outcome
-GivesSo v action _ = Unit {0}
-
-module _ (v : View) (who : Who) where
-  draws_so : (n : ℕ) (r : Option Bool) → room_of v n ≡ r → Each (GivesSo v (Draw n)) (tells who (draw_outcome r (v.producers.topics n)))
-  draws_so n None e = (tt, tt)
-  draws_so n (Some room) e = drawn_so (drawn room (v.producers.topics n)) refl
-    where
-      drawn_so : (d : Option Drawn) → drawn room (v.producers.topics n) ≡ d → Each (GivesSo v (Draw n)) (tells who (draw_said d))
-      drawn_so None f = (tt, tt)
-      drawn_so (Some d) f = ((room, e, f), tt)
-
-  numbers_so : (r : Option ℕ) → number_drawn v.producers ≡ r → Each (GivesSo v Number) (tells who (number_said r))
-  numbers_so None e = (tt, tt)
-  numbers_so (Some n) e = (e, tt)
-
-  turns_so : (n : ℕ) (row : Option Topic) → v.producers.topics n ≡ row → Each (GivesSo v (TakeTurn n)) (takes_turn who row)
-  turns_so n None e = (tt, tt)
-  turns_so n (Some t) e = taken_so (turn_taken (Some t)) (ap turn_taken e)
-    where
-      taken_so : (r : Option (Option (List ℕ))) → turn_taken (v.producers.topics n) ≡ r →
-          Each (GivesSo v (TakeTurn n)) (flat_map (λ version. grants who (news.HasTurn version)) (option_to_list r))
-      taken_so None f = tt
-      taken_so (Some version) f = (f, tt)
-
-  recalls_so : (n : ℕ) (r : Option Command) → recalled v.producers n ≡ r → Each (GivesSo v (Recall n)) (recalls who r)
-  recalls_so n None e = (tt, tt)
-  recalls_so n (Some c) e = (e, tt)
-
-  asks_so : (l : ℕ) (request : Words) (r : Result Asked ConnectionError) → Each (GivesSo v (Ask l request)) (tells who (told_at r))
-  asks_so l request (Ok (asked.Queued place)) = (tt, tt)
-  asks_so l request (Ok (asked.Waiting place)) = (tt, tt)
-  asks_so l request (Err e) = (tt, tt)
-
-  gets_so : (p : Place) (x : Series) → Each (GivesSo v (Get p)) (gets_from who p x)
-  gets_so p Nobody = (tt, tt)
-  gets_so p (Runs starter retries l) = tt
-  gets_so p (Pauses l) = tt
-  gets_so p (Serves l) = (tt, tt)
-
-  finds_so : (n : ℕ) (r : Option ℕ) → Each (GivesSo v (Find n)) (finds who r)
-  finds_so n None = (tt, tt)
-  finds_so n (Some l) = (tt, tt)
-
-  flushes_so : (n : ℕ) (b : Bool) → is_settled_at (v.producers.topics n) ≡ b → Each (GivesSo v (Flush n)) (cond b (grants who news.Done) [])
-  flushes_so n true e = (e, tt)
-  flushes_so n false e = tt
-
-  numbering_so : (wanted : Option ℕ) (x : Numbering) → Each (GivesSo v (TakeNumber wanted)) (tells who (numbering_said x))
-  numbering_so wanted (Has n) = (tt, tt)
-  numbering_so wanted InUse = (tt, tt)
-  numbering_so wanted Spent = (tt, tt)
-
-  sought_so : (t : ℕ) (x : Sought) → Each (GivesSo v (FindConsumer t)) (sought_said who x)
-  sought_so t (Found l) = (tt, tt)
-  sought_so t Gone = (tt, tt)
-  sought_so t Later = tt
-
-  command_so : (r : Option Command) → Each (GivesSo v RecallConsumer) (recalled_said who r)
-  command_so None = (tt, tt)
-  command_so (Some c) = (tt, tt)
-
-  pub gives_so : (action : Action) → Each (GivesSo v action) (performs v who action)
-  gives_so (Get p) = each_either (GivesSo v (Get p)) (is_reachable p) _ _ (gets_so p (v.addresses.base (address_key p)).series) (tt, tt)
-  gives_so (Ask l request) = asks_so l request (answer_at v.now request (v.links.live l))
-  gives_so StopAll =
-      each_append (GivesSo v StopAll) (over_links stop_act v.links) (tells who outcome.Stopped)
-      (over_each (GivesSo v StopAll) stop_act v.links (λ l seat. (tt, tt))) (tt, tt)
-  gives_so (Wait delay) = tt
-  gives_so (TakeTurn n) = turns_so n (v.producers.topics n) refl
-  gives_so (PassTurn n) = (tt, tt)
-  gives_so (Draw n) = draws_so n (room_of v n) refl
-  gives_so (Recall n) = recalls_so n (recalled v.producers n) refl
-  gives_so (Remake r) = (tt, tt)
-  gives_so Number = numbers_so (number_drawn v.producers) refl
-  gives_so (Find n) = finds_so n (link_at (v.producers.topics n))
-  gives_so (Shut t) = (tt, tt)
-  gives_so (Store n entry) = (tt, tt)
-  gives_so (Flush n) = flushes_so n (is_settled_at (v.producers.topics n)) refl
-  gives_so (TakeBatch n) = (refl, tt)
-  gives_so (TakeNumber wanted) = numbering_so wanted (consumer.numbering v.consumers wanted)
-  gives_so (FindConsumer t) = sought_so t (consumer.sought (v.consumers.rows t))
-  gives_so TakeFlow = (tt, tt)
-  gives_so RecallConsumer = command_so (consumer.recalled (v.consumers.rows (ticket_of who)))
-  gives_so (Revive l) = (tt, tt)
-  gives_so (FailConsumer f) = (tt, tt)
-  gives_so (Tell n) = (tt, tt)
-  gives_so (TellAll ns) = (tt, tt)
-  gives_so Rest = tt
+pub gives_so : (v : View) (who : Who) (action : Action) → Each (GivesSo v action) (performs v who action)
+gives_so v who action = once_each (GivesSo v action) (λ u k b. k) (λ p. tt) (λ l. tt) (performs_once v who action)
 
 pub in_each : {A : Type 0} (P : A → Type 0) (x : A) (xs : List A) → Each P xs → In x xs → P x
 in_each P x [] k h = absurd h

@@ -1,35 +1,17 @@
 -- A call that gathers its parts does nothing by itself.
-use Rattle.std.proofs.Common.{◌≡◌, ◌⊎◌, inl, inr, ◌∙◌, sym, ap, subst, ℕ, ◌+◌, ◌≤◌, ◌==◌, arith, List, [], ◌∷◌, ◌++◌, refl, true, false, Option, Some, None}
+use Rattle.std.proofs.Common.{Bool, ◌≡◌, inl, inr, ◌∙◌, sym, ap, subst, ℕ, ◌+◌, ◌≤◌, arith, List, [], ◌∷◌, refl, true, false, Some}
 use Rattle.std.proofs.lemmas.Bool.{cases_Bool}
-use Rattle.pulsar_calls.specs.declared.act.Act.{Act}
-use Rattle.pulsar_calls.specs.declared.act.Act.TheVariants.{Comes, Starts, Told, Does}
-use Rattle.pulsar_calls.specs.declared.act.Action.{Action}
-use Rattle.pulsar_calls.specs.declared.act.Action.TheVariants.{Rest}
-use Rattle.pulsar_calls.specs.declared.act.Outcome.{Outcome}
-use Rattle.pulsar_calls.specs.declared.act.Outcome.TheVariants as outcome
-use Rattle.pulsar_calls.specs.declared.act.Procedure.{Procedure}
+use Rattle.pulsar_laws.proofs.ActWords.{Act, Action, Call, Does, is_same, Outcome, Procedure, Rest, Starts, Who}
+use Rattle.pulsar_laws.proofs.PlanWords.{Plan}
+use Rattle.pulsar_laws.proofs.RunWords.{Begins, counted, Entry, IsRun, Options, start_of, started, Then, view}
 use Rattle.pulsar_calls.specs.declared.act.Procedure.TheVariants as procedure
-use Rattle.pulsar_calls.specs.declared.act.Verdict.{Verdict}
-use Rattle.pulsar_calls.specs.declared.act.Who.{Who}
-use Rattle.pulsar_calls.specs.declared.act.Who.TheVariants.{Call}
-use Rattle.pulsar_procedures.specs.declared.plan.Plan.{Plan}
-use Rattle.pulsar_procedures.specs.declared.plan.Plan.TheVariants.{Gathering}
-use Rattle.pulsar_procedures.specs.declared.plan.Turn.{Turn}
-use Rattle.pulsar_procedures.specs.declared.plan.Turn.TheVariants.{Stays, Gives}
-use Rattle.pulsar_laws.specs.Laws.{counted, start_of, started}
-use Rattle.pulsar_procedures.specs.Plan.{begins, gathers, told}
-use Rattle.pulsar_tables.specs.Rules.{notice}
-use Rattle.pulsar_agenda.specs.Run.{Entry, Begins, Then, IsRun, view}
-use Rattle.pulsar_tables.specs.View.{Options, stays, stays_some, told_some}
-use Rattle.pulsar_calls.specs.Who.{is_same}
-use Rattle.pulsar_agenda.proofs.Acts.{begun_same}
+use Rattle.pulsar_laws.proofs.Arcs.{Arc, Begun, begins_gather, begun_arc, gathers_on, told_arc}
+use Rattle.pulsar_laws.proofs.Standing.{stands_so}
+use Rattle.pulsar_laws.proofs.Same.{same_self}
 use Rattle.pulsar_laws.proofs.Follow.{same_is}
 use Rattle.pulsar_laws.proofs.Granted.{BeginsSo, IsLedSo, does_from}
-use Rattle.pulsar_laws.proofs.Natures.{Goes, StaysSo, begins_goes, is_gathering, told_goes}
+use Rattle.pulsar_laws.proofs.Natures.{is_gathering}
 use Rattle.pulsar_laws.proofs.Spots.{same_self}
-
-pub none_some : {A : Type 0} {x : A} → None ≡ Some x → ⊥
-none_some {A} {x} h = cc
 
 -- A CALL THAT GATHERS DOES NOTHING
 
@@ -86,72 +68,44 @@ only_start t p (Then (Starts who q) ∷ log) h k = elim (cases_Bool (is_same (Ca
 ]
 only_start t p (Then a ∷ log) h k = (tt, only_start t p log h (let n : ℕ = counted (start_of t) log in let f : n + 0 ≤ 1 = k in omega (arith, f)))
 
-abbrev pub GathersAt : Option Plan → Type 0
-GathersAt None = Unit {0}
-GathersAt (Some p) = is_gathering p ≡ true
+-- A PLAN THAT GATHERS goes on so, and rests
 
-pub stays_gathers : (x : Turn Plan Verdict) → StaysSo (Goes is_gathering) x → GathersAt (stays x)
-stays_gathers (Stays p a) k = k.0
-stays_gathers (Gives verdict) k = tt
+abbrev is_gather : Procedure → Bool
+is_gather (procedure.Gather first count) = true
+is_gather _ = false
 
-pub told_gathers : (p : Plan) (u : Outcome) → is_gathering p ≡ true → GathersAt (stays (told p u))
-told_gathers (Gathering first count left failures) u h =
-    stays_gathers (told (Gathering first count left failures) u) (told_goes (Gathering first count left failures) u)
-told_gathers _ u h = absurd cc
+arc_gathers : {p q : Plan} {u : Outcome} {a : Action} → Arc p u q a → is_gathering p ≡ true → (is_gathering q ≡ true) × (a ≡ Rest)
+arc_gathers gathers_on h = (refl, refl)
+arc_gathers _ h = absurd cc
+
+begun_gathers : {p : Procedure} {q : Plan} {a : Action} → Begun p q a → is_gather p ≡ true → (is_gathering q ≡ true) × (a ≡ Rest)
+begun_gathers begins_gather h = (refl, refl)
+begun_gathers _ h = absurd cc
 
 module _ (o : Options) (t first count : ℕ) where
   abbrev it : Procedure
   it = procedure.Gather first count
 
-  then_gathers : (log : List Entry) (a : Act) → StartsBy t it a → GathersAt ((view o log).stand (Call t)) → GathersAt ((view o (Then a ∷ log)).stand (Call t))
-  then_gathers log (Starts who q) only k = elim (cases_Bool (is_same (Call t) who)) [
-    | inl e ↦ rw e (subst (λ x. GathersAt (stays (begins x))) (sym (only e)) (stays_gathers (begins it) (begins_goes it)))
-    | inr e ↦ rw e k
-  ]
-  then_gathers log (Told n) only k = elim (cases_Bool (is_same (Call t) n.who)) [
-    | inl e ↦ rw e (row ((view o log).stand (Call t)) k)
-    | inr e ↦ rw e k
-  ]
-    where
-      row : (r : Option Plan) → GathersAt r → GathersAt (stays_some (told_some r n.outcome))
-      row None h = tt
-      row (Some p) h = told_gathers p n.outcome h
-  then_gathers log (Comes x) only k = k
-  then_gathers log a only k = k
+  is_it : (log : List Entry) (p : Procedure) → OnlyStarts t it (Then (Starts (Call t) p) ∷ log) → is_gather p ≡ true
+  is_it log p k = ap is_gather (k.0 (same_self (Call t)))
 
-  gathers_at : (log : List Entry) → OnlyStarts t it log → GathersAt ((view o log).stand (Call t))
-  gathers_at [] k = tt
-  gathers_at (Begins e ∷ log) k = subst GathersAt (sym (begun_same (λ v. v.stand (Call t)) e (view o log) refl)) (gathers_at log k)
-  gathers_at (Then a ∷ log) k = then_gathers log a k.0 (gathers_at log k.1)
+  older_only : (e : Entry) (log : List Entry) → OnlyStarts t it (e ∷ log) → OnlyStarts t it log
+  older_only (Begins e) log k = k
+  older_only (Then a) log k = k.1
 
-  gathers_rest : (left : ℕ) (fs : List _) (p : Plan) (a : Action) → gathers first count left fs ≡ Stays p a → a ≡ Rest
-  gathers_rest left fs p a h = elim (cases_Bool (left == 0)) [
-    | inl e ↦ (let f = rw e at h in absurd cc)
-    | inr e ↦ (let f : Stays (Gathering first count left fs) Rest ≡ Stays p a = rw e at h in cc)
-  ]
+  gathers_at : (log : List Entry) (q : Plan) → OnlyStarts t it log → (view o log).stand (Call t) ≡ Some q → is_gathering q ≡ true
+  gathers_at =
+      stands_so o (Call t) (OnlyStarts t it) older_only (λ log q. is_gathering q ≡ true) (λ e log q m r s k. k)
+      (λ log p q a r e. (begun_gathers (begun_arc e) (is_it log p r)).0) (λ log b u q a r s k e. (arc_gathers (told_arc e) k).0)
 
-pub told_rest : (o : Options) (q : Plan) (u : Outcome) (p : Plan) (a : Action) → is_gathering q ≡ true → told q u ≡ Stays p a → a ≡ Rest
-told_rest o (Gathering first count left fs) (outcome.Parted v f) p a g h = gathers_rest o 0 first count _ _ p a h
-told_rest o (Gathering first count left fs) _ p a g h = absurd cc
-told_rest o _ u p a g h = absurd cc
-
-module _ (o : Options) (t first count : ℕ) where
-  does_rest : (log : List Entry) (a : Action) → IsRun o (Then (Does (Call t) a) ∷ log) → OnlyStarts t (it o t first count) log → a ≡ Rest
+  does_rest : (log : List Entry) (a : Action) → IsRun o (Then (Does (Call t) a) ∷ log) → OnlyStarts t it log → a ≡ Rest
   does_rest log a run k = elim (does_from o log (Call t) a run) [ inl b ↦ begun b | inr l ↦ led l ]
     where
       begun : BeginsSo o log (Call t) a → a ≡ Rest
-      begun b =
-          let only : OnlyStarts t (procedure.Gather first count) (Then (Starts (Call t) b.procedure) ∷ b.older) =
-          subst (OnlyStarts t (procedure.Gather first count)) b.is_there k in
-          let is : b.procedure ≡ procedure.Gather first count = only.0 (same_self (Call t)) in
-          gathers_rest o t first count count [] b.plan a (sym (ap begins is) ∙ b.leads)
+      begun b = (begun_gathers (begun_arc b.leads) (is_it b.older b.procedure (subst (OnlyStarts t it) b.is_there k))).1
 
       led : IsLedSo o log (Call t) a → a ≡ Rest
-      led l =
-          let only : OnlyStarts t (procedure.Gather first count) (Then (Told (notice (Call t) l.outcome)) ∷ l.older) =
-          subst (OnlyStarts t (procedure.Gather first count)) l.is_there k in
-          let g : is_gathering l.before ≡ true = subst GathersAt l.stood (gathers_at o t first count l.older only.1) in
-          told_rest o l.before l.outcome l.plan a g l.leads
+      led l = (arc_gathers (told_arc l.leads) (gathers_at l.older l.before (subst (OnlyStarts t it) l.is_there k).1 l.stood)).1
 
   mute_by : (log : List Entry) (a : Act) → IsRun o (Then a ∷ log) → OnlyStarts t (procedure.Gather first count) log → MuteBy t a
   mute_by log (Does who a) run k = λ same.

@@ -8,73 +8,50 @@ use Rattle.std.specs.Option.{option_map}
 use Rattle.std.specs.Ordering.{match_ordering}
 use Rattle.std.specs.declared.cmp.Ordering.{Ordering}
 use Rattle.std.specs.declared.cmp.Ordering.TheVariants.{Less, Equal, Greater}
-use Rattle.pulsar_run.specs.Laws.{In, InThisStep}
-use Rattle.pulsar_session.specs.Failures.{Disconnected, Exhausted, Failure, Fault}
-use Rattle.pulsar_messages.specs.Words.{Words}
-use Rattle.pulsar_session.specs.Link.{is_spent}
-use Rattle.pulsar_plans.specs.Address.{Place}
+use Rattle.pulsar_laws.proofs.ActWords.{Act, Action, Alarm, Answers, Arrival, Ask, Batch, Bytes, Call, Calls, CheckIdle, Comes, Consumer, Dials, Does, Drains, Draw, Ends, FailConsumer, Find, FindConsumer, Flush, Get, Heard, is_same, KeepAlive, lacks_tickets, LinkAct, Makes, Number, Opens, Outcome, Pings, Polls, Producer, Reads, Recall, RecallConsumer, Rest, Retry, Revive, Rings, shares, Shut, StopAll, Store, TakeFlow, TakeNumber, TakeTurn, Tell, TellAll, ticket_of, Told, ToLink, turn_of, Wait, Wake, Who, Word}
+use Rattle.pulsar_laws.proofs.PlanWords.{News}
+use Rattle.pulsar_laws.proofs.RunWords.{after, Begins, begun_live, Cause, Chosen, consumers_after, consumers_made, counted, Each, Entry, In, InThisStep, is_live, IsRun, link_got, live_begun, may_call, member_on, notice, Options, setup_of, start_of, Then, turned, Turned, view, View}
+use Rattle.pulsar_laws.proofs.LinkWords.{Addresses, arrival_at, Base, Becomes, Change, closing, Exhausted, Failure, Fault, got_at, is_body, IsOver, Nobody, Pause, Pauses, Place, Remains, Reply, rings, Runs, Seat, seat_asked, seat_fed, seat_got, Series, Serves, took_end, took_some, url_at, Words}
+use Rattle.pulsar_wire.specs.Failures.{Disconnected}
+use Rattle.pulsar_messages.specs.Claims.{is_spent}
 use Rattle.pulsar_producer.specs.Topic as topic
 use Rattle.pulsar_producer.specs.Topic.{Act as TopicAct}
-use Rattle.pulsar_producer.specs.declared.deed.News.{News}
-use Rattle.pulsar_producer.specs.declared.deed.News.TheVariants as news
+use Rattle.pulsar_outgoing.specs.declared.news.News.TheVariants as news
 use Rattle.pulsar_requests.specs.Soonest.{has_come}
-use Rattle.pulsar_calls.specs.declared.act.Act.{Act}
-use Rattle.pulsar_calls.specs.declared.act.Act.TheVariants.{Comes, Told, Does, Answers, Dials}
-use Rattle.pulsar_calls.specs.declared.act.Action.{Action}
-use Rattle.pulsar_calls.specs.declared.act.Action.TheVariants.{Get, Ask, Wait, TakeTurn, Draw, Recall, Number, Find, Shut, Store, Flush, Tell, TellAll, Rest, StopAll, TakeNumber, FindConsumer, TakeFlow, RecallConsumer, Revive, FailConsumer}
-use Rattle.pulsar_calls.specs.declared.act.Alarm.{Alarm}
-use Rattle.pulsar_calls.specs.declared.act.Alarm.TheVariants.{Retry, Wake, Batch, KeepAlive, CheckIdle}
-use Rattle.pulsar_calls.specs.declared.act.LinkAct.{LinkAct}
-use Rattle.pulsar_calls.specs.declared.act.LinkAct.TheVariants.{Opens, Reads, Drains, Pings, Ends}
-use Rattle.pulsar_calls.specs.declared.act.Outcome.{Outcome}
 use Rattle.pulsar_calls.specs.declared.act.Outcome.TheVariants as outcome
-use Rattle.pulsar_calls.specs.declared.act.Part.TheVariants.{ToLink, Rings, Calls, Polls}
 use Rattle.pulsar_calls.specs.declared.act.Procedure.TheVariants as procedure
-use Rattle.pulsar_calls.specs.declared.act.Who.{Who}
-use Rattle.pulsar_calls.specs.declared.act.Who.TheVariants.{Call, Producer, Consumer}
-use Rattle.pulsar_tables.specs.declared.addresses.Pause.{Pause}
-use Rattle.pulsar_tables.specs.declared.addresses.Series.{Series}
-use Rattle.pulsar_tables.specs.declared.addresses.Series.TheVariants.{Nobody, Runs, Pauses, Serves}
-use Rattle.pulsar_procedures.specs.declared.plan.Turn.TheVariants.{Gives}
 use Rattle.pulsar_producer_table.specs.declared.table.Topic.{Topic}
-use Rattle.pulsar_tables.specs.Alarms.{alarm_cmp, clear, is_same_alarm, moment_of, rings, set}
-use Rattle.pulsar_calls.specs.Content.{Heard, Bytes, lacks_tickets, shares}
-use Rattle.pulsar_laws.specs.Laws.{Acts, AttemptEnds, BecomesReady, Cause, DrawsNone, Finds, GetsTurn, GrantsSo, IsDropped, IsReady, IsReplied, IsToldBy, IsUnknown, IsWoken, LineEnds, MovesUp, RequestEnds, counted, start_of, started, IsServedAs, SaysSo, WordComes}
-use Rattle.pulsar_tables.specs.Links.{Change, Remains, Becomes, IsOver}
-use Rattle.pulsar_procedures.specs.Plan.{told}
+use Rattle.pulsar_links.specs.Alarms.{alarm_cmp, clear, is_same_alarm, moment_of, set}
+use Rattle.pulsar_laws.proofs.Lists.{in_append, in_each}
+use Rattle.pulsar_laws.proofs.Cases.{cond_so, none_some}
+use Rattle.pulsar_laws.specs.Laws.{Acts, AttemptEnds, BecomesReady, DrawsNone, Finds, GetsTurn, GrantsSo, IsDropped, IsReady, IsReplied, IsToldBy, IsUnknown, IsWoken, LineEnds, MovesUp, RequestEnds, IsServedAs, SaysSo, WordComes}
 use Rattle.pulsar_producer_table.specs.Producers.{is_bare, numbers_at, stored_at, timeout_at, topic_after, turn_passed}
-use Rattle.pulsar_tables.specs.Rules.{notice}
-use Rattle.pulsar_agenda.specs.Run.{Entry, Begins, Then, IsRun, view}
-use Rattle.pulsar_tables.specs.View.{Addresses, Base, Chosen, Options, Seat, Turned, View, after, alarms_after, alarms_on, alarms_on_topic, alarms_over, alarms_rung, alarms_turned, alarms_waiting, asker_at, base_after, base_on, base_turned, begun_live, clear_all, got_at, is_live, link_got, live_after, live_begun, nobody, seat_asked, seat_fed, seat_got, took_end, took_some, turned, waits_for, waits_from, waits_on, arrival_at, closing, consumers_after, consumers_made, hears_ask, joins_as, may_call, member_on, setup_of, url_at}
-use Rattle.pulsar_calls.specs.Who.{behind_all, in_turn, is_same, turn_of, ticket_of}
-use Rattle.pulsar_agenda.proofs.Acts.{Each}
+use Rattle.pulsar_acts.specs.View.{alarms_after, alarms_on, alarms_on_topic, alarms_over, alarms_rung, alarms_turned, alarms_waiting, base_after, base_on, clear_all, live_after, waits_for, waits_from, waits_on, hears_ask, joins_as}
+use Rattle.pulsar_links.specs.Seats.{asker_at, base_turned, nobody}
+use Rattle.pulsar_calls.specs.Who.{behind_all, in_turn}
 use Rattle.pulsar_laws.proofs.Caused.{outcomes_are_caused_lem}
 use Rattle.pulsar_laws.proofs.Fitting.{is_said}
 use Rattle.pulsar_laws.proofs.Gathered.{GatherTold}
 use Rattle.pulsar_laws.proofs.Granted.{tell_said}
 use Rattle.pulsar_laws.proofs.Once.{ends_once_lem}
-use Rattle.pulsar_tables.proofs.Ringing.{is_this}
-use Rattle.pulsar_laws.proofs.Sources.{in_append, in_each, step_some}
+use Rattle.pulsar_links.proofs.Ringing.{is_this}
+use Rattle.pulsar_laws.proofs.Sources.{step_some}
 use Rattle.pulsar_laws.proofs.Spots.{same_self}
 use Rattle.pulsar_laws.proofs.Begun.{has_begun}
 use Rattle.pulsar_laws.proofs.Users.{DoesSo, LogSo, NoticeSo, stored_so, tells_so, waits_so}
-use Rattle.pulsar_calls.specs.declared.act.Arrival.{Arrival}
 use Rattle.pulsar_calls.specs.declared.act.Arrival.TheVariants as arrivals
-use Rattle.pulsar_calls.specs.declared.act.Makes.{Makes}
 use Rattle.pulsar_calls.specs.declared.act.Makes.TheVariants as makes
-use Rattle.pulsar_calls.specs.declared.act.Word.{Word}
 use Rattle.pulsar_calls.specs.declared.act.Word.TheVariants as word
 use Rattle.url.specs.Parts.{Parts}
-use Rattle.pulsar_link.specs.Messages.{Reply, is_body}
 use Rattle.pulsar_consumer.specs.Frames.{frame_in}
 use Rattle.pulsar_consumer.specs.Topic as reader
-use Rattle.pulsar_consumer.specs.declared.polled.Ending.TheVariants.{Closed, TopicEnded}
+use Rattle.pulsar_incoming.specs.declared.polled.Ending.TheVariants.{Closed, TopicEnded}
 use Rattle.pulsar_consumer_table.specs.Consumers as consumer
 use Rattle.pulsar_consumer_table.specs.Consumers.{Member}
 use Rattle.pulsar_consumer_table.specs.declared.row.Sought.{Sought}
 use Rattle.pulsar_consumer_table.specs.declared.row.Sought.TheVariants.{Found, Gone, Later}
 use Rattle.pulsar_laws.proofs.Members.{called_rows, left_rows, numbered_rows}
-use Rattle.pulsar_laws.proofs.IdleCalls.{Mute, MuteBy, mute_older, none_some, only_start, mute_run}
+use Rattle.pulsar_laws.proofs.IdleCalls.{Mute, MuteBy, mute_older, only_start, mute_run}
 
 -- ONE THAT IS IDLE
 
@@ -141,13 +118,9 @@ turned_absent t l Becomes pause b h = λ i. i
 turned_absent t l IsOver None b h = λ i. i
 turned_absent t l IsOver (Some p) b h = h
 
-either_absent : (t : ℕ) (c : Bool) (a b : Base) → NotIn t a.waiting → NotIn t b.waiting → NotIn t (cond c a b).waiting
-either_absent t true a b h k = h
-either_absent t false a b h k = k
-
 on_absent : (t : ℕ) (r : Option Turned) (key : List ℕ) (b : Base) → NotIn t b.waiting → NotIn t (base_on r key b).waiting
 on_absent t None key b h = h
-on_absent t (Some x) key b h = either_absent t _ (base_turned x.link x.change x.pause b) b (turned_absent t x.link x.change x.pause b h) h
+on_absent t (Some x) key b h = cond_so (λ z. NotIn t z.waiting) _ (base_turned x.link x.change x.pause b) b (turned_absent t x.link x.change x.pause b h) h
 
 end_absent : (t : ℕ) (who : Who) (ws : List Who) → (Call t ≡ who → ⊥) → NotIn t ws → NotIn t (ws ++ who ∷ [])
 end_absent t who ws other h i = elim (in_append (Call t) ws (who ∷ []) i) [ inl j ↦ h j | inr j ↦ last j ]
@@ -165,16 +138,13 @@ waits_absent t (Serves l) who ws other h = h
 base_absent : (t : ℕ) (v : View) (a : Act) (key : List ℕ) (b : Base) → IdleBy t a → NotIn t b.waiting → NotIn t (base_after v a key b).waiting
 base_absent t v (Comes (ToLink l x)) key b idle h = on_absent t (turned v (Comes (ToLink l x))) key b h
 base_absent t v (Does who (Get p)) key b idle h =
-    either_absent t _ (record { series = b.series; waiting = waits_for b.series who b.waiting }) b
+    cond_so (λ z. NotIn t z.waiting) _ (record { series = b.series; waiting = waits_for b.series who b.waiting }) b
     (waits_absent t b.series who b.waiting (other_idle t who (Get p) idle refl) h) h
-base_absent t v (Does who StopAll) key b idle h = either_absent t (waits_on v.addresses v.alarms key) nobody b (λ i. i) h
-base_absent t v (Dials p starter retries) key b idle h = either_absent t _ _ b h h
+base_absent t v (Does who StopAll) key b idle h = cond_so (λ z. NotIn t z.waiting) (waits_on v.addresses v.alarms key) nobody b (λ i. i) h
+base_absent t v (Dials p starter retries) key b idle h = cond_so (λ z. NotIn t z.waiting) _ _ b h h
 base_absent t v _ key b idle h = h
 
 -- links
-either_free : (t : ℕ) (c : Bool) (a b : Option Seat) → AskerFree t a → AskerFree t b → AskerFree t (cond c a b)
-either_free t true a b h k = h
-either_free t false a b h k = k
 
 left_free : (c : Bool) (r : Option Who) (w : Who) → (r ≡ Some w → ⊥) → cond c None r ≡ Some w → ⊥
 left_free true r w h e = none_some e
@@ -194,7 +164,7 @@ took_free t (Ends end) now (Some seat) h = end_free t _ seat h
 
 got_free : (t : ℕ) (k : Option ℕ) (now l : ℕ) (row : Option Seat) → AskerFree t row → AskerFree t (got_at k now l row)
 got_free t None now l row h = h
-got_free t (Some k) now l row h = either_free t (l == k) (option_map (seat_got now) row) row (by row h) h
+got_free t (Some k) now l row h = cond_so (AskerFree t) (l == k) (option_map (seat_got now) row) row (by row h) h
   where
     by : (r : Option Seat) → AskerFree t r → AskerFree t (option_map (seat_got now) r)
     by None h = tt
@@ -211,18 +181,19 @@ at_free t true who (Some place) askers other h p e = elim (cases_Bool (p == plac
 
 live_absent : (t : ℕ) (o : Chosen) (known : Addresses) (now n : ℕ) (a : Act) (l : ℕ) (row : Option Seat) → IdleBy t a → AskerFree t row →
     AskerFree t (live_after o known now n a l row)
-live_absent t o known now n (Comes (ToLink k x)) l row idle h = either_free t (l == k) (took_some x now row) row (took_free t x now row h) h
+live_absent t o known now n (Comes (ToLink k x)) l row idle h = cond_so (AskerFree t) (l == k) (took_some x now row) row (took_free t x now row h) h
 live_absent t o known now n (Does who (Get p)) l row idle h = got_free t (link_got known (Does who (Get p))) now l row h
-live_absent t o known now n (Does who (Ask k request)) l row idle h = either_free t (l == k) (option_map (seat_asked who now request) row) row (by row h) h
+live_absent t o known now n (Does who (Ask k request)) l row idle h =
+    cond_so (AskerFree t) (l == k) (option_map (seat_asked who now request) row) row (by row h) h
   where
     by : (r : Option Seat) → AskerFree t r → AskerFree t (option_map (seat_asked who now request) r)
     by None h = tt
     by (Some seat) h = at_free t _ who _ seat.askers (other_idle t who (Ask k request) idle refl) h
-live_absent t o known now n (Dials p starter retries) l row idle h = either_free t (l == n) _ row (λ place e. none_some e) h
+live_absent t o known now n (Dials p starter retries) l row idle h = cond_so (AskerFree t) (l == n) _ row (λ place e. none_some e) h
 live_absent t o known now n _ l row idle h = h
 
 begun_free : (t : ℕ) (e : Heard) (l : ℕ) (row : Option Seat) → AskerFree t row → AskerFree t (live_begun e l row)
-begun_free t (Bytes k piece) l row h = either_free t (l == k) (option_map (seat_fed piece) row) row (by row h) h
+begun_free t (Bytes k piece) l row h = cond_so (AskerFree t) (l == k) (option_map (seat_fed piece) row) row (by row h) h
   where
     by : (r : Option Seat) → AskerFree t r → AskerFree t (option_map (seat_fed piece) r)
     by None h = tt
@@ -276,10 +247,6 @@ rung_absent t o now (Batch n) es k = clear_absent t (Batch n) es k
 rung_absent t o now (KeepAlive l) es k = set_absent t (KeepAlive l) _ es refl k
 rung_absent t o now CheckIdle es k = set_absent t CheckIdle _ es refl k
 
-either_alarms : (t : ℕ) (b : Bool) (xs ys : List (Alarm × ℕ)) → Each (NotWake t) xs → Each (NotWake t) ys → Each (NotWake t) (cond b xs ys)
-either_alarms t true xs ys h k = h
-either_alarms t false xs ys h k = k
-
 -- what is stored waits, or nothing is stored any longer
 from_absent : (t now : ℕ) (timeout : Option ℕ) (n : ℕ) (es : List (Alarm × ℕ)) → Each (NotWake t) es → Each (NotWake t) (waits_from now timeout n es)
 from_absent t now None n es k = k
@@ -303,20 +270,17 @@ all_absent t (n ∷ ns) es k = all_absent t ns (clear (Batch n) es) (clear_absen
 alarms_absent : (t : ℕ) (v : View) (a : Act) → IdleBy t a → Each (NotWake t) v.alarms → Each (NotWake t) (alarms_after v a)
 alarms_absent t v (Comes (ToLink l x)) idle k = alarms_on_absent t v.chosen v.now (turned v (Comes (ToLink l x))) v.alarms k
 alarms_absent t v (Comes (Rings a)) idle k =
-    either_alarms t (rings v.now a v.alarms) (alarms_rung v.chosen v.now a v.alarms) v.alarms (rung_absent t v.chosen v.now a v.alarms k) k
+    cond_so (Each (NotWake t)) (rings v.now a v.alarms) (alarms_rung v.chosen v.now a v.alarms) v.alarms (rung_absent t v.chosen v.now a v.alarms k) k
 alarms_absent t v (Does who (Wait delay)) idle k =
     set_absent t (Wake who) _ v.alarms (other_wake t who (other_idle t who (Wait delay) idle refl)) k
 alarms_absent t v (Does who (Store n x)) idle k = topic_absent t v n (topic.Stores (turn_of who) x) k
 alarms_absent t v (Does who (Flush n)) idle k = topic_absent t v n (topic.Flushes (turn_of who)) k
 alarms_absent t v (Does who (Shut u)) idle k = all_absent t (numbers_at (v.producers.built u)) v.alarms k
 alarms_absent t v (Does who StopAll) idle k = tt
-alarms_absent t v (Answers who verdict) idle k = either_alarms t _ _ v.alarms (set_absent t CheckIdle _ v.alarms refl k) k
+alarms_absent t v (Answers who verdict) idle k = cond_so (Each (NotWake t)) _ _ v.alarms (set_absent t CheckIdle _ v.alarms refl k) k
 alarms_absent t v _ idle k = k
 
 -- those who wait for the link of a consumer
-either_seeks : (t : ℕ) (b : Bool) (m n : Member) → NotIn t m.seekers → NotIn t n.seekers → NotIn t (cond b m n).seekers
-either_seeks t true m n h k = h
-either_seeks t false m n h k = k
 
 map_seeks : (t : ℕ) (f : Member → Member) (row : Option Member) → ((m : Member) → NotIn t m.seekers → NotIn t (f m).seekers) →
     NotIn t (consumer.seekers_at row) → NotIn t (consumer.seekers_at (option_map f row))
@@ -330,13 +294,13 @@ one_seeks t false f row k h = h
 
 frame_seeks : (t l : ℕ) (r : Reply) (m : Member) → NotIn t m.seekers → NotIn t (consumer.hears_frame l r m).seekers
 frame_seeks t l r m h =
-    either_seeks t (is_body 9 r.content.body) (consumer.member_after (reader.Hears l (frame_in r)) m) _ h
-    (either_seeks t (is_body 27 r.content.body) (consumer.ends_on l TopicEnded m) _
-    (either_seeks t (reader.lives_on l m.seen) (consumer.member_after (reader.Ends TopicEnded) m) m h h)
-    (either_seeks t (is_body 16 r.content.body) (consumer.member_after (reader.Loses l) m) m h h))
+    cond_so (λ z. NotIn t z.seekers) (is_body 9 r.content.body) (consumer.member_after (reader.Hears l (frame_in r)) m) _ h
+    (cond_so (λ z. NotIn t z.seekers) (is_body 27 r.content.body) (consumer.ends_on l TopicEnded m) _
+    (cond_so (λ z. NotIn t z.seekers) (reader.lives_on l m.seen) (consumer.member_after (reader.Ends TopicEnded) m) m h h)
+    (cond_so (λ z. NotIn t z.seekers) (is_body 16 r.content.body) (consumer.member_after (reader.Loses l) m) m h h))
 
 hears_seeks : (t l : ℕ) (a : Arrival) (m : Member) → NotIn t m.seekers → NotIn t (consumer.hears l a m).seekers
-hears_seeks t l (arrivals.Gives n r) m h = either_seeks t (m.seen.number == n) (consumer.hears_frame l r m) m (frame_seeks t l r m h) h
+hears_seeks t l (arrivals.Gives n r) m h = cond_so (λ z. NotIn t z.seekers) (m.seen.number == n) (consumer.hears_frame l r m) m (frame_seeks t l r m h) h
 hears_seeks t l _ m h = h
 
 loses_seeks : (t l : ℕ) (cause : Option Fault) (m : Member) → NotIn t m.seekers → NotIn t (consumer.loses_by l cause m).seekers
@@ -344,7 +308,7 @@ loses_seeks t l None m h = h
 loses_seeks t l (Some cause) m h = h
 
 asks_seeks : (t l now : ℕ) (request : Words) (row : Option Seat) (m : Member) → NotIn t m.seekers → NotIn t (hears_ask l now request row m).seekers
-asks_seeks t l now request row m h = either_seeks t _ (consumer.member_after (reader.Ends Closed) m) m h h
+asks_seeks t l now request row m h = cond_so (λ z. NotIn t z.seekers) _ (consumer.member_after (reader.Ends Closed) m) m h h
 
 finds_seeks : (t : ℕ) (x : Sought) (w : Who) (m : Member) → (Call t ≡ w → ⊥) → NotIn t m.seekers → NotIn t (consumer.waits_so x w m).seekers
 finds_seeks t (Found l) w m other h = h

@@ -1,48 +1,28 @@
 -- Turns along a log.
-use Rattle.std.proofs.Common.{◌≡◌, ◌⊎◌, inl, inr, ◌∙◌, sym, ap, subst, ℕ, ◌+◌, ◌<◌, ◌≤◌, ◌==◌, arith, List, [], ◌∷◌, ◌++◌, refl, Bool, true, false, ◌&&◌, cond, Option, Some, None}
+use Rattle.std.proofs.Common.{◌≡◌, ◌⊎◌, inl, inr, ◌∙◌, sym, ap, subst, ℕ, ◌+◌, ◌≤◌, ◌==◌, arith, List, ◌∷◌, refl, Bool, true, false, cond, Option, Some, None}
 use Rattle.std.proofs.lemmas.Bool.{cases_Bool, eqb-true}
 use Rattle.std.proofs.lemmas.Bool.Decides.{nat_tests}
-use Rattle.pulsar_run.specs.Laws.{In}
-use Rattle.pulsar_producer.specs.Topic as topic
-use Rattle.pulsar_session.specs.Link.{is_spent}
-use Rattle.pulsar_plans.specs.declared.turn.Ways.{Ways}
-use Rattle.pulsar_producer.specs.declared.batch.Member.{Member}
-use Rattle.pulsar_producer.specs.declared.batching.Batching.{Batching as Batches}
+use Rattle.pulsar_laws.proofs.ActWords.{Action, Call, Consumer, Does, is_same, Outcome, PassTurn, Procedure, Producer, Rest, Share, Starts, turn_of as taken_as, TakeTurn, Told, Verdict, Who}
+use Rattle.pulsar_laws.proofs.PlanWords.{Batches, Batching, begins, Errand, Gives, Leaving, Member, Plan, Reporting, Sending as Send, Stays, told, Turn, Visiting, Ways}
+use Rattle.pulsar_laws.proofs.RunWords.{counted, Entry, In, IsRun, notice, Options, start_of, started, stays, stays_some, Then, told_some, view}
+use Rattle.pulsar_messages.specs.Claims.{is_spent}
 use Rattle.pulsar_producer.specs.declared.batching.Batching.TheVariants as batching
-use Rattle.pulsar_producer.specs.declared.sending.Errand.{Errand}
-use Rattle.pulsar_producer.specs.declared.sending.Sending.{Sending as Send}
 use Rattle.pulsar_producer.specs.declared.sending.Sending.TheVariants as send
-use Rattle.pulsar_calls.specs.declared.act.Act.TheVariants.{Starts, Told, Does}
-use Rattle.pulsar_calls.specs.declared.act.Action.{Action}
-use Rattle.pulsar_calls.specs.declared.act.Action.TheVariants.{TakeTurn, PassTurn, Rest}
-use Rattle.pulsar_calls.specs.declared.act.Outcome.{Outcome}
-use Rattle.pulsar_calls.specs.declared.act.Outcome.TheVariants as outcome
-use Rattle.pulsar_calls.specs.declared.act.Procedure.{Procedure}
-use Rattle.pulsar_calls.specs.declared.act.Verdict.{Verdict}
-use Rattle.pulsar_calls.specs.declared.act.Who.{Who}
-use Rattle.pulsar_calls.specs.declared.act.Who.TheVariants.{Call, Producer, Consumer}
-use Rattle.pulsar_calls.specs.declared.act.Share.{Share}
-use Rattle.pulsar_procedures.specs.declared.plan.At.{At as Spot}
-use Rattle.pulsar_procedures.specs.declared.plan.At.TheVariants as at
-use Rattle.pulsar_procedures.specs.declared.plan.Plan.{Plan}
-use Rattle.pulsar_procedures.specs.declared.plan.Plan.TheVariants.{Batching, Leaving, Reporting, Sending, Visiting}
-use Rattle.pulsar_procedures.specs.declared.plan.Turn.{Turn}
-use Rattle.pulsar_procedures.specs.declared.plan.Turn.TheVariants.{Stays, Gives}
+use Rattle.pulsar_plans.specs.declared.plan.At.{At as Spot}
+use Rattle.pulsar_plans.specs.declared.plan.At.TheVariants as at
+use Rattle.pulsar_plans.specs.declared.plan.Plan.TheVariants.{Sending}
 use Rattle.pulsar_producer_table.specs.declared.table.Topic.{Topic}
-use Rattle.pulsar_laws.specs.Laws.{counted, start_of, started}
-use Rattle.pulsar_procedures.specs.Plan.{begins, told}
+use Rattle.pulsar_laws.proofs.Cases.{none_some}
+pub use Rattle.pulsar_laws.proofs.Standing.{stood_begun}
 use Rattle.pulsar_laws.specs.ProducerLaws.{HasTurn, turn_in, turn_of}
-use Rattle.pulsar_tables.specs.Rules.{notice}
-use Rattle.pulsar_agenda.specs.Run.{Entry, Begins, Then, IsRun, view}
-use Rattle.pulsar_tables.specs.View.{Options, stays, stays_some, told_some}
-use Rattle.pulsar_calls.specs.Who.{behind_all, is_same, turn_of as taken_as}
-use Rattle.pulsar_agenda.proofs.Acts.{begun_same}
+use Rattle.pulsar_calls.specs.Who.{behind_all}
 use Rattle.pulsar_laws.proofs.BatchRun.{Batched, batched_run}
 use Rattle.pulsar_laws.proofs.Drawing.{Every, began_on, here}
 use Rattle.pulsar_laws.proofs.Granted.{BeginsSo, IsLedSo, does_from}
 use Rattle.pulsar_laws.proofs.Holding.{GoesSo, begins_holds, holds, holds_in, told_holds}
 use Rattle.pulsar_laws.proofs.Holding as holding
-use Rattle.pulsar_laws.proofs.Natures.{StaysSo, is_leaving}
+use Rattle.pulsar_laws.proofs.Arcs.{StaysSo}
+use Rattle.pulsar_laws.proofs.Natures.{is_leaving}
 use Rattle.pulsar_laws.proofs.Once.{ends_once_lem}
 use Rattle.pulsar_laws.proofs.Owned.{starts_own}
 use Rattle.pulsar_laws.proofs.Begun.{has_begun}
@@ -50,9 +30,6 @@ use Rattle.pulsar_laws.proofs.Turns.{pend_kept, pending}
 use Rattle.pulsar_laws.proofs.Servers.{server_does}
 use Rattle.pulsar_laws.proofs.Consuming.{is_modest}
 use Rattle.pulsar_laws.proofs.Same.{same_self}
-
-none_some : {A : Type 0} {x : A} → None ≡ Some x → ⊥
-none_some {A} {x} h = cc
 
 -- one that waits for the turn of this topic producer, or is past all turns
 abbrev pub IsAt : ℕ → Option Plan → Type 0
@@ -111,25 +88,6 @@ self_same t = same_self (Call t)
 
 starts_one : (t : ℕ) (p : Procedure) → start_of t (Starts (Call t) p) ≡ 1
 starts_one t p = ap (λ b. cond b 1 0) (self_same t)
-
--- one that has a plan has begun
-pub stood_begun : (o : Options) (log : List Entry) (t : ℕ) (p : Plan) → (view o log).stand (Call t) ≡ Some p → 1 ≤ counted (start_of t) log
-stood_begun o [] t p h = absurd cc
-stood_begun o (Begins e ∷ log) t p h = stood_begun o log t p (sym (begun_same (λ v. v.stand (Call t)) e (view o log) refl) ∙ h)
-stood_begun o (Then (Starts who q) ∷ log) t p h = elim (cases_Bool (is_same (Call t) who)) [
-  | inl e ↦ rw e (omega arith)
-  | inr e ↦ (let k : 1 ≤ counted (start_of t) log = stood_begun o log t p (rw e at h) in omega (arith, k))
-]
-stood_begun o (Then (Told n) ∷ log) t p h = elim (cases_Bool (is_same (Call t) n.who)) [
-  | inl e ↦ was ((view o log).stand (Call t)) (λ q f. stood_begun o log t q f) refl (rw e at h)
-  | inr e ↦ (let k : 1 ≤ counted (start_of t) log = stood_begun o log t p (rw e at h) in omega (arith, k))
-]
-  where
-    was : (row : Option Plan) → ((q : Plan) → (view o log).stand (Call t) ≡ Some q → 1 ≤ counted (start_of t) log) → (view o log).stand (Call t) ≡ row →
-        stays_some (told_some row n.outcome) ≡ Some p → 1 ≤ counted (start_of t) log + 0
-    was None more e f = absurd cc
-    was (Some q) more e f = let k : 1 ≤ counted (start_of t) log = more q e in omega (arith, k)
-stood_begun o (Then a ∷ log) t p h = let k : 1 ≤ counted (start_of t) log = stood_begun o log t p h in omega (arith, k)
 
 -- one that starts had not begun
 pub not_begun : (o : Options) (log : List Entry) (t : ℕ) (p : Procedure) → IsRun o (Then (Starts (Call t) p) ∷ log) → 1 ≤ counted (start_of t) log → ⊥

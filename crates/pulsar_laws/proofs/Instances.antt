@@ -1,7 +1,7 @@
 -- The laws of all runs, at the client's rules.
+use Rattle.pulsar_laws.proofs.RunWords.{rules}
 use Rattle.pulsar_run.proofs.Effects as effects
 use Rattle.pulsar_run.proofs.Unique as unique
-use Rattle.pulsar_agenda.specs.Run.{rules}
 use Rattle.pulsar_agenda.proofs.Orders.{below_order, effect_order}
 use Rattle.pulsar_laws.specs.Laws.{CausesInOrder, Determined, EffectsArranged}
 

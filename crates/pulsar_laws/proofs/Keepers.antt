@@ -1,69 +1,38 @@
 -- Those whose messages a topic producer stores, or has in a batch, wait for what becomes of them, or have ended.
-use Rattle.std.proofs.Common.{◌≡◌, inl, inr, ◌∙◌, sym, ap, subst, ℕ, ◌+◌, ◌≤◌, ◌==◌, arith, List, [], ◌∷◌, ◌++◌, refl, map, Bool, true, false, cond, Option, Some, None, Result, Ok, Err}
+use Rattle.std.proofs.Common.{◌≡◌, inl, inr, ◌∙◌, sym, ap, subst, ℕ, ◌+◌, ◌≤◌, ◌==◌, arith, List, [], ◌∷◌, ◌++◌, refl, map, Bool, true, false, cond, Option, Some, None, Ok, Err}
 use Rattle.std.proofs.lemmas.Bool.{cases_Bool}
 use Rattle.std.specs.Option.{is_some}
-use Rattle.pulsar_run.specs.Laws.{In}
+use Rattle.pulsar_laws.proofs.ActWords.{Act, Action, Batch, Call, Comes, Consumer, Does, Draw, Flush, is_same, Notice, Outcome, PassTurn, Procedure, Producer, Remake, Rings, Shut, Starts, StopAll, Store, TakeBatch, TakeTurn, Told, turn_of, Who}
+use Rattle.pulsar_laws.proofs.PlanWords.{action_of, Batches, Batching, begins, Deed, Errand, Member, News, news_of, Plan, Stored, Storing, told, Ways}
+use Rattle.pulsar_laws.proofs.RunWords.{Begins, begun_same, counted, Each, each_append, each_either, each_map, Entry, In, IsRun, Options, room_of, start_of, stays, stays_some, Then, told_some, view, View}
+use Rattle.pulsar_laws.proofs.LinkWords.{rings}
 use Rattle.pulsar_frame.specs.Batch.{EntryValues}
-use Rattle.pulsar_messages.specs.Content.{ProducerMessageValues}
-use Rattle.pulsar_session.specs.Link.{is_spent}
-use Rattle.pulsar_wire.specs.declared.error.Reason.{Reason}
-use Rattle.pulsar_plans.specs.declared.turn.Action.TheVariants as wish
-use Rattle.pulsar_plans.specs.declared.turn.Ways.{Ways}
-use Rattle.pulsar_producer.specs.Batch.{batch_of, entries_in, member_of}
-use Rattle.pulsar_producer.specs.Batching as batches
-use Rattle.pulsar_producer.specs.Plans as produce
-use Rattle.pulsar_producer.specs.Storage.{Item, SingleMessage, Flush as FlushItem, is_ready}
+use Rattle.pulsar_messages.specs.Claims.{is_spent}
+use Rattle.pulsar_searches.specs.declared.turn.Action.TheVariants as wish
+use Rattle.pulsar_outgoing.specs.Batch.{member_of}
+use Rattle.pulsar_outgoing.specs.Storage.{Item, SingleMessage, Flush as FlushItem, is_ready}
 use Rattle.pulsar_producer.specs.Topic as topic
-use Rattle.pulsar_producer.specs.declared.batch.Member.{Member}
-use Rattle.pulsar_producer.specs.declared.batch.Member.TheVariants as member
-use Rattle.pulsar_producer.specs.declared.batching.Batching.{Batching as Batches}
+use Rattle.pulsar_outgoing.specs.Storage as topic_low
+use Rattle.pulsar_outgoing.specs.declared.batch.Member.TheVariants as member
 use Rattle.pulsar_producer.specs.declared.batching.Batching.TheVariants as batching
-use Rattle.pulsar_producer.specs.declared.deed.Deed.{Deed}
 use Rattle.pulsar_producer.specs.declared.deed.Deed.TheVariants as deed
-use Rattle.pulsar_producer.specs.declared.deed.News.{News}
-use Rattle.pulsar_producer.specs.declared.deed.News.TheVariants as news
-use Rattle.pulsar_producer.specs.declared.deed.Step.TheVariants as step
-use Rattle.pulsar_producer.specs.declared.sending.Errand.{Errand}
-use Rattle.pulsar_calls.specs.declared.act.Act.{Act}
-use Rattle.pulsar_calls.specs.declared.act.Act.TheVariants.{Comes, Starts, Told, Does}
-use Rattle.pulsar_calls.specs.declared.act.Action.{Action}
-use Rattle.pulsar_calls.specs.declared.act.Action.TheVariants.{TakeTurn, PassTurn, Draw, Remake, Shut, Store, Flush, TakeBatch, StopAll}
-use Rattle.pulsar_calls.specs.declared.act.Alarm.TheVariants.{Batch}
-use Rattle.pulsar_calls.specs.declared.act.Notice.{Notice}
-use Rattle.pulsar_calls.specs.declared.act.Outcome.{Outcome}
+use Rattle.pulsar_outgoing.specs.declared.news.News.TheVariants as news
 use Rattle.pulsar_calls.specs.declared.act.Outcome.TheVariants as outcome
-use Rattle.pulsar_calls.specs.declared.act.Part.TheVariants.{Rings}
-use Rattle.pulsar_calls.specs.declared.act.Procedure.{Procedure}
-use Rattle.pulsar_calls.specs.declared.act.Procedure.TheVariants as procedure
-use Rattle.pulsar_calls.specs.declared.act.Verdict.{Verdict}
-use Rattle.pulsar_calls.specs.declared.act.Who.{Who}
-use Rattle.pulsar_calls.specs.declared.act.Who.TheVariants.{Call, Producer, Consumer}
-use Rattle.pulsar_procedures.specs.declared.plan.Plan.{Plan}
-use Rattle.pulsar_procedures.specs.declared.plan.Plan.TheVariants.{Batching, Stored, Storing}
-use Rattle.pulsar_procedures.specs.declared.plan.Turn.{Turn}
-use Rattle.pulsar_procedures.specs.declared.plan.Turn.TheVariants.{Stays, Gives}
 use Rattle.pulsar_producer_table.specs.declared.table.Topic.{Topic}
-use Rattle.pulsar_tables.specs.Alarms.{rings}
-use Rattle.pulsar_laws.specs.Laws.{counted, start_of}
-use Rattle.pulsar_procedures.specs.Plan.{action_of, batches_on, begins, news_of, overrides, told}
+use Rattle.pulsar_laws.proofs.Lists.{in_append, in_each}
+use Rattle.pulsar_laws.proofs.Standing.{stood_begun}
+use Rattle.pulsar_laws.proofs.Arcs.{Arc, BatchArc, Begun, batch_sends, batches_go, begins_batch, by_arcs, by_begun, taken_starts}
+use Rattle.pulsar_laws.proofs.Cases.{cond_so, none_some}
 use Rattle.pulsar_laws.specs.ProducerLaws.{acts_on, drawn_by, rung_by, shut_by, topic_acts}
 use Rattle.pulsar_producer_table.specs.Producers.{next_batch_at, numbers_at}
-use Rattle.pulsar_agenda.specs.Run.{Entry, Begins, Then, IsRun, view}
-use Rattle.pulsar_tables.specs.View.{Options, View, room_of, stays, stays_some, told_some}
-use Rattle.pulsar_calls.specs.Who.{is_same, turn_of}
-use Rattle.pulsar_agenda.proofs.Acts.{Each, begun_same, each_append, each_either, each_map}
 use Rattle.pulsar_laws.proofs.Batchers.{batcher_does}
 use Rattle.pulsar_laws.proofs.Fitting.{stores_so}
 use Rattle.pulsar_laws.proofs.Granted.{GivenBy, does_fit, granted_by, grants_given, is_grant}
-use Rattle.pulsar_laws.proofs.Natures.{Goes, KindBegun, KindOf, StaysSo, begins_goes, told_goes}
 use Rattle.pulsar_laws.proofs.Once.{ends_once_lem}
-use Rattle.pulsar_laws.proofs.Sources.{in_append, in_each, in_one}
+use Rattle.pulsar_laws.proofs.Sources.{in_one}
 use Rattle.pulsar_laws.proofs.Topics.{topics_alone_lem}
 use Rattle.pulsar_laws.proofs.Servers.{server_does}
 use Rattle.pulsar_laws.proofs.Consuming.{is_modest}
-
-none_some : {A : Type 0} {x : A} → None ≡ Some x → ⊥
-none_some {A} {x} h = cc
 
 -- WHERE ONE STANDS THAT STORES A MESSAGE: it ends with what becomes of it
 
@@ -86,27 +55,6 @@ settled_told plan u h = absurd cc
 pub settled_some : (row : Option Plan) (u : Outcome) → ends_settled row ≡ true → ends_settled (stays_some (told_some row u)) ≡ true
 settled_some None u h = refl
 settled_some (Some plan) u h = settled_told plan u h
-
-told_was : (row : Option Plan) (u : Outcome) (plan : Plan) → stays_some (told_some row u) ≡ Some plan → (old : Plan) × (row ≡ Some old)
-told_was None u plan h = absurd (none_some h)
-told_was (Some old) u plan h = (old, refl)
-
--- one that has a plan has begun
-stands_began : (o : Options) (log : List Entry) (t : ℕ) (plan : Plan) → (view o log).stand (Call t) ≡ Some plan → 1 ≤ counted (start_of t) log
-stands_began o [] t plan h = absurd (none_some h)
-stands_began o (Begins e ∷ log) t plan h = stands_began o log t plan (sym (begun_same (λ v. v.stand (Call t)) e (view o log) refl) ∙ h)
-stands_began o (Then (Starts who p) ∷ log) t plan h = elim (cases_Bool (is_same (Call t) who)) [
-  | inl e ↦ rw e (omega arith)
-  | inr e ↦ (let k : 1 ≤ counted (start_of t) log = stands_began o log t plan (rw e at h) in rw e (omega (arith, k)))
-]
-stands_began o (Then (Told n) ∷ log) t plan h = elim (cases_Bool (is_same (Call t) n.who)) [
-  | inl e ↦
-      (let was = told_was ((view o log).stand (Call t)) n.outcome plan (rw e at h) in
-      let k : 1 ≤ counted (start_of t) log = stands_began o log t was.0 was.1 in
-      omega (arith, k))
-  | inr e ↦ (let k : 1 ≤ counted (start_of t) log = stands_began o log t plan (rw e at h) in omega (arith, k))
-]
-stands_began o (Then a ∷ log) t plan h = let k : 1 ≤ counted (start_of t) log = stands_began o log t plan h in omega (arith, k)
 
 pub record Keeps (o : Options) (log : List Entry) (t : ℕ) : Type 0 where
   pub began : 1 ≤ counted (start_of t) log
@@ -136,7 +84,7 @@ store_keeps : (o : Options) (log : List Entry) (t n : ℕ) (entry : EntryValues)
 store_keeps o log t n entry run =
     let k = does_fit o log (Call t) (Store n entry) refl run in
     let s = stores_so k.0 n entry k.1 in
-    record { began = stands_began o log t k.0 k.2; waits = ap ends_settled (k.2 ∙ ap Some s.1) }
+    record { began = stood_begun o log t k.0 k.2; waits = ap ends_settled (k.2 ∙ ap Some s.1) }
 
 -- WHAT IS STORED
 
@@ -227,10 +175,6 @@ record KeptIn (P : ℕ → Type 0) (v : topic.Seen) : Type 0 where
   waits : Each (Each (OfItem P)) v.cut
 
 module _ (P : ℕ → Type 0) where
-  either_kept : (b : Bool) (u v : topic.Seen) → KeptIn P u → KeptIn P v → KeptIn P (cond b u v)
-  either_kept true u v p q = p
-  either_kept false u v p q = q
-
   takes_kept : (r : Option ℕ) (t : ℕ) (v : topic.Seen) → KeptIn P v → KeptIn P (topic.takes_in r t v)
   takes_kept None t v k = record { stored = k.stored; waits = k.waits }
   takes_kept (Some other) t v k = record { stored = k.stored; waits = k.waits }
@@ -242,22 +186,23 @@ module _ (P : ℕ → Type 0) where
   stores_kept x v p k =
       let u : topic.Seen = record v { storage = record v.storage { items = v.storage.items ++ x ∷ [] } } in
       let more : KeptIn P u = record { stored = each_append (OfItem P) v.storage.items (x ∷ []) k.stored (p, tt); waits = k.waits } in
-      either_kept (is_ready u.storage) (topic.cuts u) u (cuts_kept u more) more
+      cond_so (KeptIn P) (is_ready u.storage) (topic.cuts u) u (cuts_kept u more) more
 
   left_kept : (c : List (List Item)) (v : topic.Seen) → Each (Each (OfItem P)) c → KeptIn P v → KeptIn P (topic.left_of c v)
   left_kept [] v p k = record { stored = k.stored; waits = k.waits }
   left_kept (b ∷ bs) v p k = record { stored = k.stored; waits = p.1 }
 
-  after_kept : (act : topic.Act) (v : topic.Seen) → ((t : ℕ) (entry : EntryValues) → act ≡ topic.Stores t entry → P t) → KeptIn P v → KeptIn P (topic.after act v)
+  after_kept : (act : topic.Act) (v : topic.Seen) → ((t : ℕ) (entry : EntryValues) → act ≡ topic.Stores t entry → P t) → KeptIn P v →
+      KeptIn P (topic.after act v)
   after_kept (topic.Takes t) v p k = takes_kept v.holder t v k
   after_kept topic.Passes v p k = record { stored = k.stored; waits = k.waits }
   after_kept topic.Draws v p k =
-      either_kept (is_spent v.next) v (record v { next = v.next + 1 }) k (record { stored = k.stored; waits = k.waits })
+      cond_so (KeptIn P) (is_spent v.next) v (record v { next = v.next + 1 }) k (record { stored = k.stored; waits = k.waits })
   after_kept (topic.Remakes l given) v p k = record { stored = k.stored; waits = k.waits }
   after_kept topic.Closes v p k = record { stored = tt; waits = k.waits }
   after_kept (topic.Stores t entry) v p k = stores_kept (SingleMessage t entry) v (p t entry refl) k
-  after_kept (topic.Flushes t) v p k = either_kept (topic.is_settled v) v (topic.stores (FlushItem t) v) k (stores_kept (FlushItem t) v tt k)
-  after_kept topic.Cuts v p k = either_kept (topic.is_nothing v.storage.items) v (topic.cuts v) k (cuts_kept v k)
+  after_kept (topic.Flushes t) v p k = cond_so (KeptIn P) (topic.is_settled v) v (topic.stores (FlushItem t) v) k (stores_kept (FlushItem t) v tt k)
+  after_kept topic.Cuts v p k = cond_so (KeptIn P) (topic_low.is_nothing v.storage.items) v (topic.cuts v) k (cuts_kept v k)
   after_kept topic.TakesBatch v p k = left_kept v.cut v k.waits k
   after_kept topic.Halts v p k = record { stored = tt; waits = tt }
 
@@ -320,84 +265,31 @@ module _ (P : ℕ → Type 0) where
   members_so (SingleMessage t entry ∷ items) k = (k.0, members_so items k.1)
   members_so (FlushItem t ∷ items) k = (tt, members_so items k.1)
 
-  sends_so : (ms : List Member) (count : ℕ) (x : produce.Sent) → Each (OfMember P) ms → StateSo P (batches.sends ms count x).state
-  sends_so ms count (step.Stays s d) k = k
-  sends_so ms count (step.Gives (Ok reply)) k = tt
-  sends_so ms count (step.Gives (Err f)) k = tt
-
-  batch_so : (e : Errand) (ms : List Member) (count : ℕ) (r : Result ProducerMessageValues Reason) → Each (OfMember P) ms →
-      StateSo P (batches.sends_batch e ms count r).state
-  batch_so e ms count (Ok m) k = sends_so ms count (produce.send_begins e m) k
-  batch_so e ms count (Err r) k = tt
-
-  starts_so : (e : Errand) (ms : List Member) (xs : List EntryValues) → Each (OfMember P) ms → StateSo P (batches.starts_with e ms xs).state
-  starts_so e ms [] k = tt
-  starts_so e ms (x ∷ xs) k = batch_so e ms _ (batch_of (x ∷ xs)) k
-
-  resting_so : (e : Errand) (n : News) → StateSo P (batches.in_resting e n).state
-  resting_so e news.Ready = tt
-  resting_so e _ = tt
-
-  taking_so : (e : Errand) (n : News) → NewsSo P n → StateSo P (batches.in_taking e n).state
-  taking_so e (news.HasBatch (Some items)) k = starts_so e (map member_of items) (entries_in items) (members_so items k)
-  taking_so e (news.HasBatch None) k = tt
-  taking_so e _ k = tt
-
-  told_so : (w : Ways) (e : Errand) (b : Batches) (n : News) → StateSo P b → NewsSo P n → StateSo P (batches.told w e b n).state
-  told_so w e batching.Resting n k h = resting_so e n
-  told_so w e batching.Taking n k h = taking_so e n h
-  told_so w e (batching.Sending ms count s) n k h = sends_so ms count (produce.send_told w e s n) k
-  told_so w e batching.Settling n k h = tt
-
-  halted_so : (b : Batches) → StateSo P (batches.halted b).state
-  halted_so batching.Resting = tt
-  halted_so batching.Taking = tt
-  halted_so (batching.Sending ms count s) =
-      elim (batches.is_sent_send s) as (λ c. StateSo P (batches.cuts_off c ms count).state) [ true ↦ tt | false ↦ tt ]
-  halted_so batching.Settling = tt
-
-  -- a turn that stays with batches has such a state
-  abbrev TurnSo : Turn Plan Verdict → Type 0
-  TurnSo (Stays (Batching w e b) action) = StateSo P b
-  TurnSo _ = Unit {0}
-
-  either_turn : (c : Bool) (t u : Turn Plan Verdict) → TurnSo t → TurnSo u → TurnSo (cond c t u)
-  either_turn true t u p q = p
-  either_turn false t u p q = q
-
-  batch_turn : (w : Ways) (e : Errand) (b : Batches) (u : Outcome) → StateSo P b → NewsSo P (news_of u) → TurnSo (told (Batching w e b) u)
-  batch_turn w e b u k h =
-      either_turn (overrides u) (batches_on w e (batches.halted b)) (batches_on w e (batches.told w e b (news_of u))) (halted_so b)
-      (told_so w e b (news_of u) k h)
+  batch_so : {w : Ways} {e : Errand} {b q : Batches} {y : News} {d : Deed} → BatchArc w e b y q d → StateSo P b → NewsSo P y → StateSo P q
+  batch_so (taken_starts {items}) k h = members_so items h
+  batch_so (batch_sends e) k h = k
+  batch_so _ k h = tt
 
 -- what a row says of a plan of batches
 abbrev pub RowSo : (ℕ → Type 0) → Option Plan → Type 0
 RowSo P (Some (Batching w e b)) = StateSo P b
 RowSo P _ = Unit {0}
 
-turn_row : (P : ℕ → Type 0) (turn : Turn Plan Verdict) → TurnSo P turn → RowSo P (stays turn)
-turn_row P (Gives verdict) k = tt
-turn_row P (Stays (Batching w e b) action) k = k
-turn_row P (Stays plan action) k = tt
+module _ (P : ℕ → Type 0) where
+  arc_row : {p q : Plan} {u : Outcome} {a : Action} → Arc p u q a → RowSo P (Some p) → NewsSo P (news_of u) → RowSo P (Some q)
+  arc_row (batches_go d e) k h = batch_so P e k h
+  arc_row _ k h = tt
 
--- no other plan becomes one of batches
-goes_turn : (P : ℕ → Type 0) (kind : Plan → Bool) (turn : Turn Plan Verdict) → ((w : Ways) (e : Errand) (b : Batches) → kind (Batching w e b) ≡ false) →
-    StaysSo (Goes kind) turn → TurnSo P turn
-goes_turn P kind (Gives verdict) other k = tt
-goes_turn P kind (Stays (Batching w e b) action) other k = (let f : true ≡ false = sym k.0 ∙ other w e b in absurd cc)
-goes_turn P kind (Stays plan action) other k = tt
+  begun_row : {p : Procedure} {q : Plan} {a : Action} → Begun p q a → RowSo P (Some q)
+  begun_row begins_batch = tt
+  begun_row _ = tt
 
-told_turn : (P : ℕ → Type 0) (plan : Plan) (u : Outcome) → RowSo P (Some plan) → NewsSo P (news_of u) → TurnSo P (told plan u)
-told_turn P (Batching w e b) u k h = batch_turn P w e b u k h
-told_turn P plan u k h = goes_turn P (KindOf plan) (told plan u) (λ w e b. refl) (told_goes plan u)
+  begins_row : (p : Procedure) → RowSo P (stays (begins p))
+  begins_row p = by_begun (λ t. RowSo P (stays t)) p (λ q a e. begun_row e) (λ v e. tt)
 
-begins_turn : (P : ℕ → Type 0) (p : Procedure) → TurnSo P (begins p)
-begins_turn P (procedure.Batch w e) = tt
-begins_turn P p = goes_turn P (KindBegun p) (begins p) (λ w e b. refl) (begins_goes p)
-
-some_row : (P : ℕ → Type 0) (row : Option Plan) (u : Outcome) → RowSo P row → NewsSo P (news_of u) → RowSo P (stays_some (told_some row u))
-some_row P None u k h = tt
-some_row P (Some plan) u k h = turn_row P (told plan u) (told_turn P plan u k h)
+  some_row : (row : Option Plan) (u : Outcome) → RowSo P row → NewsSo P (news_of u) → RowSo P (stays_some (told_some row u))
+  some_row None u k h = tt
+  some_row (Some plan) u k h = by_arcs (λ t. RowSo P (stays t)) plan u (λ q a e. arc_row e k h) (λ v e. tt)
 
 row_map : (P Q : ℕ → Type 0) (row : Option Plan) → ((t : ℕ) → P t → Q t) → RowSo P row → RowSo Q row
 row_map P Q None f k = tt
@@ -440,7 +332,7 @@ batch_keeps o (Then a ∷ log) w run =
   where
     next : (a : Act) → IsRun o (Then a ∷ log) → RowSo (Keeps o log) ((view o log).stand w) → RowSo (Keeps o log) ((view o (Then a ∷ log)).stand w)
     next (Starts who p) r k = elim (is_same w who) as (λ b. RowSo (Keeps o log) (cond b (stays (begins p)) ((view o log).stand w))) [
-      | true ↦ turn_row (Keeps o log) (begins p) (begins_turn (Keeps o log) p)
+      | true ↦ begins_row (Keeps o log) p
       | false ↦ k
     ]
     next (Told n) r k =

@@ -1,46 +1,21 @@
 -- What one is told last: that the client is stopped, or what became of a batch; and what a plan does then.
 use Rattle.std.proofs.Common.{◌≡◌, ◌⊎◌, inl, inr, ◌∙◌, sym, ap, subst, ℕ, ◌+◌, List, ◌∷◌, ◌++◌, refl, map, Bool, true, false, Option, Some, None, [], Ok, Err}
-use Rattle.pulsar_run.specs.Run.{rest_of}
-use Rattle.pulsar_session.specs.Failures.{Failure, OfConnection}
-use Rattle.pulsar_calls.specs.declared.act.Act.{Act}
-use Rattle.pulsar_calls.specs.declared.act.Act.TheVariants.{Comes, Starts, Told, Does, Answers}
-use Rattle.pulsar_calls.specs.declared.act.Action.TheVariants.{Rest, TakeBatch, Tell, TellAll}
-use Rattle.pulsar_calls.specs.declared.act.End.TheVariants.{Stops}
-use Rattle.pulsar_calls.specs.declared.act.LinkAct.TheVariants.{Ends}
-use Rattle.pulsar_calls.specs.declared.act.Makes.{Makes}
-use Rattle.pulsar_calls.specs.declared.act.Makes.TheVariants.{Nothing}
-use Rattle.pulsar_calls.specs.declared.act.Notice.{Notice}
-use Rattle.pulsar_calls.specs.declared.act.Outcome.{Outcome}
-use Rattle.pulsar_calls.specs.declared.act.Part.{Part}
-use Rattle.pulsar_calls.specs.declared.act.Part.TheVariants.{ToLink}
-use Rattle.pulsar_calls.specs.declared.act.Procedure.{Procedure}
-use Rattle.pulsar_calls.specs.declared.act.Verdict.{Verdict}
-use Rattle.pulsar_calls.specs.declared.act.Who.{Who}
-use Rattle.pulsar_calls.specs.declared.act.Who.TheVariants.{Call}
-use Rattle.pulsar_procedures.specs.declared.plan.Plan.{Plan}
-use Rattle.pulsar_procedures.specs.declared.plan.Turn.{Turn}
-use Rattle.pulsar_procedures.specs.declared.plan.Turn.TheVariants.{Stays, Gives}
-use Rattle.pulsar_plans.specs.declared.turn.Ways.{Ways}
-use Rattle.pulsar_procedures.specs.Plan.{batches_on, fault_of, told, told_to, verdict, halted_with}
-use Rattle.pulsar_tables.specs.Rules.{follows, follows_some}
-use Rattle.pulsar_tables.specs.View.{told_some, stays, stays_some}
-use Rattle.pulsar_producer.specs.declared.sending.Sending.{Sending as Send}
-use Rattle.pulsar_producer.specs.declared.sending.Errand.{Errand}
-use Rattle.pulsar_procedures.specs.declared.plan.Plan.TheVariants.{Batching, Leaving, Reporting, Sending, Stored, Storing, Visiting}
-use Rattle.pulsar_procedures.specs.declared.plan.At.TheVariants as at
-use Rattle.pulsar_producer.specs.Batch.{cut_report, reports_from}
+use Rattle.pulsar_laws.proofs.ActWords.{Act, Answers, Call, Comes, Does, Ends, Makes, Nothing, Notice, Outcome, Part, Procedure, Rest, Share, Starts, Stops, TakeBatch, Tell, TellAll, Told, ToLink, Verdict, Who}
+use Rattle.pulsar_laws.proofs.PlanWords.{Batches, batches_on, Batching, Errand, Gives, Leaving, Member, Plan, Reporting, Sending as Send, Stays, Stored, Storing, told, told_to, Turn, verdict, Visiting, Ways}
+use Rattle.pulsar_laws.proofs.RunWords.{Each, each_append, each_map, each_rest, follows, follows_some, rest_of, stays, stays_some, told_some}
+use Rattle.pulsar_laws.proofs.LinkWords.{Failure, OfConnection}
+use Rattle.pulsar_plans.specs.Plan.{fault_of, halted_with}
+use Rattle.pulsar_plans.specs.declared.plan.Plan.TheVariants.{Sending}
+use Rattle.pulsar_plans.specs.declared.plan.At.TheVariants as at
+use Rattle.pulsar_outgoing.specs.Batch.{cut_report, reports_from}
 use Rattle.pulsar_producer.specs.Batching as batches
-use Rattle.pulsar_producer.specs.declared.batch.Fate.TheVariants as fate
-use Rattle.pulsar_producer.specs.declared.batch.Member.{Member}
-use Rattle.pulsar_producer.specs.declared.batch.Member.TheVariants as member
-use Rattle.pulsar_producer.specs.declared.batching.Batching.{Batching as Batches}
+use Rattle.pulsar_outgoing.specs.declared.batch.Fate.TheVariants as fate
+use Rattle.pulsar_outgoing.specs.declared.batch.Member.TheVariants as member
 use Rattle.pulsar_producer.specs.declared.batching.Batching.TheVariants as batching
-use Rattle.pulsar_producer.specs.declared.deed.News.TheVariants as news
-use Rattle.pulsar_calls.specs.declared.act.Share.{Share}
+use Rattle.pulsar_outgoing.specs.declared.news.News.TheVariants as news
 use Rattle.pulsar_calls.specs.declared.act.Outcome.TheVariants as outcome
 use Rattle.pulsar_calls.specs.declared.act.Procedure.TheVariants as procedure
 use Rattle.pulsar_producer.specs.declared.sending.Sending.TheVariants as send
-use Rattle.pulsar_agenda.proofs.Acts.{Each, each_append, each_map, each_rest}
 use Rattle.pulsar_laws.proofs.Fitting.{Leaves, Spot, spot}
 use Rattle.pulsar_laws.proofs.Keepers.{OfMember, RowSo, StateSo, ends_settled}
 use Rattle.pulsar_laws.proofs.Spots.{is_calm, spot_of}

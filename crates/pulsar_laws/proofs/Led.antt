@@ -1,29 +1,14 @@
 -- What one does comes right behind the start of its plan, or the outcome that leads to it.
 use Rattle.std.proofs.Common.{◌≡◌, ◌⊎◌, inl, inr, ◌∙◌, sym, ap, subst, ℕ, ◌-◌, ◌^◌, List, [], ◌∷◌, ◌++◌, refl, Bool, true, false, cond, Option, Some, None}
-use Rattle.pulsar_run.specs.Run.{rest}
-use Rattle.pulsar_session.specs.Failures.{Exhausted}
-use Rattle.pulsar_calls.specs.declared.act.Act.{Act}
-use Rattle.pulsar_calls.specs.declared.act.Act.TheVariants.{Comes, Starts, Told, Does, Answers}
-use Rattle.pulsar_calls.specs.declared.act.Action.{Action}
-use Rattle.pulsar_calls.specs.declared.act.Action.TheVariants.{Rest}
-use Rattle.pulsar_calls.specs.declared.act.Notice.{Notice}
-use Rattle.pulsar_calls.specs.declared.act.Part.TheVariants.{Calls}
-use Rattle.pulsar_calls.specs.declared.act.Procedure.{Procedure}
-use Rattle.pulsar_calls.specs.declared.act.Who.{Who}
-use Rattle.pulsar_calls.specs.declared.act.Who.TheVariants.{Call}
-use Rattle.pulsar_calls.specs.declared.act.Verdict.{Verdict}
-use Rattle.pulsar_procedures.specs.declared.plan.Plan.{Plan}
-use Rattle.pulsar_procedures.specs.declared.plan.Turn.{Turn}
-use Rattle.pulsar_procedures.specs.declared.plan.Turn.TheVariants.{Stays, Gives}
-use Rattle.pulsar_calls.specs.Content.{Asked, lacks_tickets, shares}
-use Rattle.pulsar_laws.specs.Laws.{Deed, Acted, Answered, ComesLate, DeedsFollow, IsToldSo, Leads, StartsSo, act_of}
-use Rattle.pulsar_procedures.specs.Plan.{begins, fails, told}
-use Rattle.pulsar_tables.specs.Rules.{at_once, follows, follows_some, left_with, performs, starts}
-use Rattle.pulsar_agenda.specs.Run.{Entry, Begins, Then, IsRun, agenda, view}
-use Rattle.pulsar_tables.specs.View.{Options, View, told_some, ways_of}
-use Rattle.pulsar_agenda.proofs.Acts.{Each, each_map, first_case, is_served, late}
+use Rattle.pulsar_laws.proofs.ActWords.{Act, Action, Answers, Asked, Call, Calls, Comes, Does, lacks_tickets, Notice, Procedure, Rest, shares, Starts, Told, Verdict, Who}
+use Rattle.pulsar_laws.proofs.PlanWords.{begins, fails, Gives, Plan, Stays, told, Turn}
+use Rattle.pulsar_laws.proofs.RunWords.{agenda, Answered, at_once, Begins, Each, each_map, Entry, first_case, follows, follows_some, is_served, IsRun, left_with, Options, performs, rest, starts, Then, told_some, view, View, ways_of}
+use Rattle.pulsar_laws.proofs.LinkWords.{Exhausted}
+use Rattle.pulsar_laws.proofs.Arcs.{begun_arc, told_arc}
+use Rattle.pulsar_laws.specs.Laws.{Deed, Acted, ComesLate, DeedsFollow, IsToldSo, Leads, StartsSo, act_of}
+use Rattle.pulsar_client.proofs.Acts.{late}
 use Rattle.pulsar_laws.proofs.Follow.{NoDeed, follows_run, is_deed, left_no_deed, left_plain, performs_none, quiet_no_deed, starts_none}
-use Rattle.pulsar_laws.proofs.Natures.{Goes, KindBegun, KindOf, StaysSo, TellsSo, begins_goes, told_goes}
+use Rattle.pulsar_laws.proofs.Natures.{TellsSo, arc_tells, begun_tells}
 use Rattle.pulsar_laws.proofs.Quiet.{IsQuiet, comes_quiet}
 
 is_one : (w : Who) (d : Deed) → is_deed (act_of w d) ≡ true
@@ -119,9 +104,9 @@ pub tells_so : (o : Options) (log : List Entry) (w : Who) (action : Action) → 
 tells_so o log w action run =
     let k = deeds_follow_lem o log w (Acted action) run in
     elim k.3 [
-      | inl s ↦ (subst (StaysSo (Goes (KindBegun s.0))) s.2.1 (begins_goes s.0)).1
+      | inl s ↦ begun_tells {p = s.0} {q = s.2.0} (begun_arc s.2.1)
       | inr m ↦ elim m [
-        | inl t ↦ (subst (StaysSo (Goes (KindOf t.1))) t.4.1 (told_goes t.1 t.0)).1
+        | inl t ↦ arc_tells {p = t.1} {q = t.4.0} {u = t.0} (told_arc t.4.1)
         | inr late ↦ (let f : Acted action ≡ Answered _ = late.5 in absurd cc)
       ]
     ]

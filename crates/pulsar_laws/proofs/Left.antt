@@ -1,22 +1,16 @@
 -- What a verdict gives rise to: the plans of batches of a producer that was built, and the plan that serves a consumer.
 use Rattle.std.proofs.Common.{ℕ, List, [], ◌∷◌, map, Bool, Option, Some, None}
-use Rattle.pulsar_plans.specs.declared.turn.Ways.{Ways}
-use Rattle.pulsar_producer.specs.Storage.{is_batching}
-use Rattle.pulsar_producer.specs.declared.content.Built.{Built}
-use Rattle.pulsar_producer.specs.declared.sending.Errand.{Errand}
-use Rattle.pulsar_calls.specs.declared.act.Act.{Act}
-use Rattle.pulsar_calls.specs.declared.act.Act.TheVariants.{Starts}
-use Rattle.pulsar_calls.specs.declared.act.Makes.{Makes}
+use Rattle.pulsar_laws.proofs.ActWords.{Act, Makes, Starts, ticket_of, Who}
+use Rattle.pulsar_laws.proofs.PlanWords.{Built, Errand, Ways}
+use Rattle.pulsar_laws.proofs.RunWords.{Each, each_either, left_with}
+use Rattle.pulsar_outgoing.specs.Storage.{is_batching}
 use Rattle.pulsar_calls.specs.declared.act.Makes.TheVariants.{Consumer, Producer}
 use Rattle.pulsar_calls.specs.declared.act.Procedure.TheVariants as procedure
-use Rattle.pulsar_calls.specs.declared.act.Who.{Who}
 use Rattle.pulsar_calls.specs.declared.act.Who.TheVariants as who
 use Rattle.pulsar_calls.specs.declared.content.Building.{Building}
 use Rattle.pulsar_calls.specs.declared.content.Joining.{Joining}
-use Rattle.pulsar_calls.specs.Who.{ticket_of}
-use Rattle.pulsar_tables.specs.Reading.{serves_by}
-use Rattle.pulsar_tables.specs.Rules.{batches_by, batches_from, left_with}
-use Rattle.pulsar_agenda.proofs.Acts.{Each, each_either}
+use Rattle.pulsar_acts.specs.Reading.{serves_by}
+use Rattle.pulsar_acts.specs.Rules.{batches_by, batches_from}
 
 parts_each : (P : Act → Type 0) (w : Ways) (block : Bool) (bs : List Built) →
     ((e : Errand) → P (Starts (who.Producer e.producer) (procedure.Batch w e))) → Each P (map (batches_by w block) bs)

@@ -22,6 +22,16 @@ pub mod BatchTold
 pub mod BatchSent
 pub mod Closed
 pub mod Stores
+pub mod ActWords
+pub mod PlanWords
+pub mod RunWords
+pub mod LinkWords
+pub mod Cases
+pub mod Lists
+pub mod AtOnce
+pub mod Standing
+pub mod ProducerArcs
+pub mod Arcs
 pub mod Takers
 pub mod Flushing
 pub mod Settled

@@ -1,43 +1,27 @@
 -- A consumer is what was done to it since it was made.
-use Rattle.std.proofs.Common.{◌≡◌, ◌≤◌, ℕ, ◌+◌, ◌∙◌, sym, ap, subst, List, [], ◌∷◌, ◌++◌, refl, arith, Bool, true, false, ◌&&◌, ◌||◌, cond, Option, Some, None, inl, inr, ◌==◌, append_assoc}
+use Rattle.std.proofs.Common.{◌≡◌, ◌≤◌, ℕ, ◌+◌, ◌∙◌, sym, ap, subst, List, [], ◌∷◌, ◌++◌, refl, arith, Bool, true, false, ◌&&◌, cond, Option, Some, None, inl, inr, ◌==◌}
 use Rattle.std.proofs.lemmas.Bool.{and_parts, cases_Bool}
-use Rattle.std.specs.Option.{is_some, option_map}
+use Rattle.std.specs.Option.{option_map}
+use Rattle.pulsar_laws.proofs.ActWords.{Act, Answers, Arrival, Ask, Call, Calls, Comes, Consumer, Does, Ends, FailConsumer, FindConsumer, Heard, is_same, lacks_tickets, Makes, Polls, Producer, Reads, Revive, shares, StopAll, TakeFlow, TakeNumber, ticket_of, ToLink, Verdict, Who}
+use Rattle.pulsar_laws.proofs.RunWords.{Begins, begun, begun_live, consumers_after, consumers_made, counted, EndsOnce, Entry, is_live, IsRun, may_call, member_on, Options, setup_of, Then, view, View}
+use Rattle.pulsar_laws.proofs.LinkWords.{answer_at, arrival_at, closed_consumer, closing, Fault, is_asked, is_body, Reply, Seat, url_at}
 use Rattle.url.specs.Parts.{Parts}
-use Rattle.pulsar_link.specs.Messages.{Reply, is_body}
-use Rattle.pulsar_link.specs.Request.{closed_consumer}
-use Rattle.pulsar_session.specs.Failures.{Fault}
-use Rattle.pulsar_session.specs.Link.{is_spent}
+use Rattle.pulsar_messages.specs.Claims.{is_spent}
 use Rattle.pulsar_consumer.specs.Frames.{frame_in}
-use Rattle.pulsar_consumer.specs.Topic as reader
-use Rattle.pulsar_consumer.specs.Topic.{Act as Done, Lives, Hears, Loses, Fails, Ends as Over, Polls as Polled, Asks, Seen, Setup, after, fresh, lives_on, of_raw, seen}
-use Rattle.pulsar_consumer.specs.declared.polled.Ending.TheVariants.{Closed, TopicEnded, Stopped}
-use Rattle.pulsar_calls.specs.declared.act.Act.{Act}
-use Rattle.pulsar_calls.specs.declared.act.Act.TheVariants.{Comes, Does, Answers}
-use Rattle.pulsar_calls.specs.declared.act.Action.TheVariants.{Ask, TakeNumber, FindConsumer, TakeFlow, Revive, FailConsumer, StopAll}
-use Rattle.pulsar_calls.specs.declared.act.Arrival.{Arrival}
+use Rattle.pulsar_consumer.specs.Topic.{Act as Done, Hears, Loses, Fails, Ends as Over, Polls as Polled, Asks, Seen, Setup, after, fresh, lives_on, of_raw, seen}
+use Rattle.pulsar_incoming.specs.declared.polled.Ending.TheVariants.{Closed, TopicEnded}
 use Rattle.pulsar_calls.specs.declared.act.Arrival.TheVariants as arrivals
-use Rattle.pulsar_calls.specs.declared.act.LinkAct.TheVariants.{Reads, Ends}
-use Rattle.pulsar_calls.specs.declared.act.Makes.{Makes}
 use Rattle.pulsar_calls.specs.declared.act.Makes.TheVariants as makes
-use Rattle.pulsar_calls.specs.declared.act.Part.TheVariants.{Calls, ToLink, Polls}
-use Rattle.pulsar_calls.specs.declared.act.Verdict.{Verdict}
-use Rattle.pulsar_calls.specs.declared.act.Who.{Who}
-use Rattle.pulsar_calls.specs.declared.act.Who.TheVariants.{Call, Consumer, Producer}
-use Rattle.pulsar_calls.specs.Content.{Heard, lacks_tickets, shares}
-use Rattle.pulsar_calls.specs.Who.{is_same, ticket_of}
 use Rattle.pulsar_consumer_table.specs.Consumers as consumer
-use Rattle.pulsar_consumer_table.specs.Consumers.{Consumers, Member, closes, hears, hears_frame, loses_by, member_after, seeks, subscribed_on, waits_so}
+use Rattle.pulsar_consumer_table.specs.Consumers.{Consumers, Member, hears, hears_frame, loses_by, member_after, seeks, subscribed_on, waits_so}
 use Rattle.pulsar_consumer_table.specs.declared.row.Sought.{Sought}
 use Rattle.pulsar_consumer_table.specs.declared.row.Sought.TheVariants.{Found, Gone, Later}
-use Rattle.pulsar_tables.specs.View.{Options, Seat, View, answer_at, arrival_at, begun, begun_live, closing, consumers_after, consumers_left, consumers_made, hears_ask, is_asked, is_live, joins_as, may_call, member_on, setup_of, url_at}
-use Rattle.pulsar_agenda.specs.Run.{Entry, Begins, Then, IsRun, view}
+use Rattle.pulsar_acts.specs.View.{hears_ask, joins_as}
+use Rattle.pulsar_laws.proofs.Cases.{none_some}
 use Rattle.pulsar_laws.proofs.Ticketed.{consumer_ticket}
-use Rattle.pulsar_laws.specs.ConsumerLaws.{ConsumersAlone, arrival_does, close_does, does_to, done_since, done_to, frame_does, loss_does, made_as, made_with, making_does, subscription_does}
-use Rattle.pulsar_laws.specs.Laws.{EndsOnce, counted, end_of}
+use Rattle.pulsar_laws.specs.ConsumerLaws.{ConsumersAlone, arrival_does, does_to, done_since, done_to, frame_does, loss_does, made_as, made_with, making_does, subscription_does}
+use Rattle.pulsar_laws.specs.Laws.{end_of}
 use Rattle.pulsar_laws.proofs.Members.{called_rows, left_rows, numbered_rows}
-
-none_some : {A : Type 0} {x : A} → None ≡ Some x → ⊥
-none_some {A} {x} h = cc
 
 -- WHAT ACTS MAKE OF WHAT IS SEEN
 
@@ -204,10 +188,6 @@ no_end t who n h = elim (cases_Bool (is_same (Call t) who)) [
   | inl e ↦ (let k : n + 1 ≡ 0 = subst (λ b. n + cond b 1 0 ≡ 0) e h in absurd (omega (arith, k)))
   | inr e ↦ e
 ]
-
-no_verdict : (t : ℕ) (a : Act) → ((who : Who) (verdict : Verdict) → a ≡ Answers who verdict → is_same (Call t) who ≡ false) →
-    (who : Who) (verdict : Verdict) → a ≡ Answers who verdict → is_same (Call t) who ≡ false
-no_verdict t a k = k
 
 unmade : (o : Options) (t : ℕ) (log : List Entry) → counted (end_of t) log ≡ 0 → (view o log).consumers.rows t ≡ None
 unmade o t [] h = refl

@@ -1,26 +1,18 @@
 -- A call is made where the user asks for it.
-use Rattle.std.proofs.Common.{◌≡◌, ◌⊎◌, inl, inr, ◌∙◌, ap, subst, ℕ, ◌+◌, List, [], ◌∷◌, refl, Bool, true, false, cond, Option, map}
-use Rattle.pulsar_run.specs.Laws.{Arises, In, InOne, InThisStep}
+use Rattle.std.proofs.Common.{◌≡◌, inl, inr, ap, subst, ℕ, ◌+◌, List, [], ◌∷◌, refl, Bool, true, false, cond, Option, map}
+use Rattle.pulsar_laws.proofs.ActWords.{Act, Asked, Call, Calls, Comes, lacks_tickets, Notice, Part, Procedure, shares, Starts, Told}
+use Rattle.pulsar_laws.proofs.RunWords.{Arises, at_once, Begins, called, causes, Entry, further, In, InOne, InThisStep, IsRun, joins, Options, parts, rules, starts, StartsIn, Then, view}
 use Rattle.pulsar_run.proofs.Arising.{acts_arise_lem}
-use Rattle.pulsar_session.specs.Link.{is_spent}
-use Rattle.pulsar_calls.specs.declared.act.Act.{Act}
-use Rattle.pulsar_calls.specs.declared.act.Act.TheVariants.{Comes, Starts, Told}
-use Rattle.pulsar_calls.specs.declared.act.Notice.{Notice}
-use Rattle.pulsar_calls.specs.declared.act.Part.{Part}
-use Rattle.pulsar_calls.specs.declared.act.Part.TheVariants.{Calls}
-use Rattle.pulsar_calls.specs.declared.act.Procedure.{Procedure}
-use Rattle.pulsar_calls.specs.declared.act.Who.TheVariants.{Call}
-use Rattle.pulsar_calls.specs.Content.{Asked, lacks_tickets, shares}
+use Rattle.pulsar_messages.specs.Claims.{is_spent}
+use Rattle.pulsar_laws.proofs.Lists.{in_each, in_map}
 use Rattle.pulsar_laws.specs.Laws.{CallsAreMade}
 use Rattle.pulsar_producer_table.specs.Producers.{advice}
-use Rattle.pulsar_tables.specs.Rules.{at_once, call_part, called, causes, further, joins, parts, starts}
-use Rattle.pulsar_agenda.specs.Run.{Entry, Begins, Then, IsRun, rules, view}
-use Rattle.pulsar_tables.specs.View.{Options}
-use Rattle.pulsar_agenda.proofs.Acts.{StartsIn, late, starts_in}
-use Rattle.pulsar_agenda.proofs.Raising.{IsRaised, OfStart, may, raises}
-use Rattle.pulsar_laws.proofs.Sources.{in_each, in_map, step_more, step_runs, step_some}
+use Rattle.pulsar_acts.specs.Rules.{call_part}
+use Rattle.pulsar_client.proofs.Acts.{late, starts_in}
+use Rattle.pulsar_client.proofs.Raising.{IsRaised, OfStart, may, raises}
+use Rattle.pulsar_laws.proofs.Sources.{step_more, step_runs, step_some}
 use Rattle.pulsar_laws.proofs.Ticketed.{not_spent}
-use Rattle.pulsar_agenda.proofs.Single.{call_comes}
+use Rattle.pulsar_client.proofs.Single.{call_comes}
 
 -- A CALL IS MADE
 

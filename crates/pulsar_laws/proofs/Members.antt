@@ -1,38 +1,32 @@
 -- What acts leave of the consumers: which keep the rows as they are, and which keep one that no subscription of it is live.
-use Rattle.std.proofs.Common.{◌≡◌, ◌∙◌, sym, ap, subst, ℕ, List, [], ◌∷◌, ◌++◌, refl, Bool, true, false, ◌&&◌, cond, ◌==◌, Option, Some, None, ◌⊎◌, inl, inr, ◌+◌}
+use Rattle.std.proofs.Common.{◌≡◌, ◌∙◌, sym, ap, subst, ℕ, List, [], ◌∷◌, refl, Bool, true, false, cond, ◌==◌, Option, Some, None, inl, inr, ◌+◌}
 use Rattle.std.specs.List.{flat_map}
 use Rattle.std.specs.Option.{option_map, option_to_list, is_some}
-use Rattle.pulsar_link.specs.Messages.{Reply, is_body}
-use Rattle.pulsar_link.specs.Request.{named_consumer}
-use Rattle.pulsar_session.specs.Failures.{Fault}
+use Rattle.pulsar_laws.proofs.ActWords.{Arrival, Asked, Call, Consumer, Notice, Producer, Who}
+use Rattle.pulsar_laws.proofs.RunWords.{Each, each_append, each_flat, In}
+use Rattle.pulsar_laws.proofs.LinkWords.{Fault, is_body, Reply}
+use Rattle.pulsar_exchange.specs.Request.{named_consumer}
 use Rattle.pulsar_consumer.specs.Topic as reader
-use Rattle.pulsar_consumer.specs.Topic.{Hears, Loses, Live, Seen, first_of, gives, is_due, is_on, link_of, lives_on, first_due, counts_first, is_message}
-use Rattle.pulsar_consumer.specs.Topic.{ends as reader_ends, loses as reader_loses, Ends as Over}
+use Rattle.pulsar_consumer.specs.Topic.{Hears, Loses, Live, Seen, first_of, gives, is_due, is_on, lives_on, first_due, counts_first, ends as reader_ends, loses as reader_loses, Ends as Over}
+use Rattle.pulsar_frame.specs.Items.{is_message, Item}
 use Rattle.pulsar_consumer.specs.Frames.{frame_in}
-use Rattle.pulsar_consumer.specs.declared.polled.Ending.{Ending}
-use Rattle.pulsar_consumer.specs.declared.polled.Ending.TheVariants.{LinkLost, TopicEnded}
+use Rattle.pulsar_incoming.specs.declared.polled.Ending.{Ending}
+use Rattle.pulsar_incoming.specs.declared.polled.Ending.TheVariants.{LinkLost, TopicEnded}
 use Rattle.pulsar_consumer.proofs.Histories.{counted_same}
 use Rattle.pulsar_consumer.proofs.Permits.{gives_dead}
 use Rattle.pulsar_calls.specs.Content as content
-use Rattle.pulsar_calls.specs.Content.{Asked}
-use Rattle.pulsar_calls.specs.declared.act.Arrival.{Arrival}
 use Rattle.pulsar_calls.specs.declared.act.Arrival.TheVariants as arrivals
-use Rattle.pulsar_calls.specs.declared.act.Notice.{Notice}
-use Rattle.pulsar_calls.specs.declared.act.Who.{Who}
-use Rattle.pulsar_calls.specs.declared.act.Who.TheVariants.{Call, Consumer, Producer}
 use Rattle.pulsar_calls.specs.declared.act.Word.TheVariants as word
 use Rattle.pulsar_consumer_table.specs.Consumers as consumer
 use Rattle.pulsar_consumer_table.specs.Consumers.{Consumers, Member, at_row, called_on, drew, ends_on, hears, hears_frame, holds, loses_by, member_after, names_in, next_free, numbered, numbering, opened_on, over_rows}
 use Rattle.pulsar_consumer_table.specs.declared.numbers.Numbering.{Numbering}
 use Rattle.pulsar_consumer_table.specs.declared.numbers.Numbering.TheVariants.{Has, InUse, Spent}
 use Rattle.pulsar_consumer_table.specs.Notices.{due_at, due_to, lost_at, word_to}
-use Rattle.pulsar_tables.specs.View.{consumers_left}
-use Rattle.pulsar_agenda.proofs.Acts.{Each, each_append, each_flat}
-use Rattle.pulsar_run.specs.Laws.{In}
-use Rattle.pulsar_link.specs.Items.{Item}
+use Rattle.pulsar_acts.specs.View.{consumers_left}
 use Rattle.url.specs.Parts.{Parts}
 use Rattle.pulsar_wire.specs.Sink.{capped}
-use Rattle.pulsar_laws.proofs.Sources.{in_append}
+use Rattle.pulsar_laws.proofs.Lists.{in_append}
+use Rattle.pulsar_laws.proofs.Cases.{cond_so}
 
 -- WHAT KEEPS ALL ROWS
 
@@ -95,9 +89,6 @@ not_on link None none = refl
 not_on link (Some l) none = absurd cc
 
 -- what an act makes of one of which none is live, where that needs one
-either_gone : (b : Bool) (v w : Seen) → v.engine.live ≡ None → w.engine.live ≡ None → (cond b v w).engine.live ≡ None
-either_gone true v w p q = p
-either_gone false v w p q = q
 
 lost_gone : (v : Seen) → (reader_loses v).engine.live ≡ None
 lost_gone v = elim v.is_raw as (λ b. (cond b (reader_ends LinkLost v) (record v { engine = record v.engine { live = None } })).engine.live ≡ None)
@@ -109,24 +100,20 @@ hears_gone_at l r m k =
     ap (λ b. (cond b (record m.seen { engine = reader.hears (frame_in r) m.seen.engine }) m.seen).engine.live) off ∙ k
 
 loses_gone_at : (l : ℕ) (m : Member) → IsGone m → IsGone (member_after (Loses l) m)
-loses_gone_at l m k = either_gone (lives_on l m.seen) (reader_loses m.seen) m.seen (lost_gone m.seen) k
+loses_gone_at l m k = cond_so (λ z. z.engine.live ≡ None) (lives_on l m.seen) (reader_loses m.seen) m.seen (lost_gone m.seen) k
 
 ends_gone_at : (l : ℕ) (why : Ending) (m : Member) → IsGone m → IsGone (ends_on l why m)
 ends_gone_at l why m k =
     elim (lives_on l m.seen) as (λ b. (cond b (member_after (Over why) m) m).seen.engine.live ≡ None) [ true ↦ refl | false ↦ k ]
 
-either_member : (b : Bool) (m n : Member) → IsGone m → IsGone n → IsGone (cond b m n)
-either_member true m n p q = p
-either_member false m n p q = q
-
 frame_gone : (l : ℕ) (r : Reply) (m : Member) → IsGone m → IsGone (hears_frame l r m)
 frame_gone l r m k =
-    either_member (is_body 9 r.content.body) (member_after (Hears l (frame_in r)) m) _ (hears_gone_at l r m k)
-    (either_member (is_body 27 r.content.body) (ends_on l TopicEnded m) _ (ends_gone_at l TopicEnded m k)
-    (either_member (is_body 16 r.content.body) (member_after (Loses l) m) m (loses_gone_at l m k) k))
+    cond_so IsGone (is_body 9 r.content.body) (member_after (Hears l (frame_in r)) m) _ (hears_gone_at l r m k)
+    (cond_so IsGone (is_body 27 r.content.body) (ends_on l TopicEnded m) _ (ends_gone_at l TopicEnded m k)
+    (cond_so IsGone (is_body 16 r.content.body) (member_after (Loses l) m) m (loses_gone_at l m k) k))
 
 pub heard_gone : (l : ℕ) (a : Arrival) (m : Member) → IsGone m → IsGone (hears l a m)
-heard_gone l (arrivals.Gives n r) m k = either_member (m.seen.number == n) (hears_frame l r m) m (frame_gone l r m k) k
+heard_gone l (arrivals.Gives n r) m k = cond_so IsGone (m.seen.number == n) (hears_frame l r m) m (frame_gone l r m k) k
 heard_gone l _ m k = k
 
 pub loss_gone : (l : ℕ) (cause : Option Fault) (m : Member) → IsGone m → IsGone (loses_by l cause m)

@@ -1,45 +1,31 @@
 -- No plan asks to acknowledge: only a procedure that begins so does.
-use Rattle.std.proofs.Common.{◌≡◌, ◌⊎◌, ◌∙◌, ℕ, ◌==◌, List, [], ◌∷◌, refl, Bool, true, false, ◌&&◌, cond, Result, Ok, Err}
+use Rattle.std.proofs.Common.{◌≡◌, ℕ, ◌==◌, List, [], refl, Bool, true, false, ◌&&◌, cond, Result, Ok, Err}
+use Rattle.pulsar_laws.proofs.PlanWords.{Command, Denies, Heard as Heard', Later, Looking, Making, Naming, Says, SearchTurn, Sought, Ways, Wish}
+use Rattle.pulsar_laws.proofs.LinkWords.{Failure, Fault, Named, OfConnection, Place, Words}
 use Rattle.pulsar_messages.specs.Words as words
-use Rattle.pulsar_messages.specs.Words.{Words}
-use Rattle.pulsar_session.specs.Failures.{Failure, Fault, OfConnection}
-use Rattle.pulsar_session.specs.Reply.{Reply as Content}
-use Rattle.pulsar_plans.specs.Address.{Named, Place}
-use Rattle.pulsar_plans.specs.Backoff.{allow_retry}
-use Rattle.pulsar_plans.specs.Plans as search
-use Rattle.pulsar_plans.specs.Plans.{is_lost, is_partition, is_retryable}
-use Rattle.pulsar_plans.specs.Replies.{count_in, place_heard}
-use Rattle.pulsar_plans.specs.declared.count.Counting.{Counting}
-use Rattle.pulsar_plans.specs.declared.count.Counting.TheVariants as count
-use Rattle.pulsar_plans.specs.declared.look.Looking.{Looking}
-use Rattle.pulsar_plans.specs.declared.look.Looking.TheVariants as look
-use Rattle.pulsar_plans.specs.declared.look.Search.{Search as Place'}
-use Rattle.pulsar_plans.specs.declared.making.Command.{Command}
-use Rattle.pulsar_plans.specs.declared.making.Making.{Making}
-use Rattle.pulsar_plans.specs.declared.making.Making.TheVariants as make
-use Rattle.pulsar_plans.specs.declared.names.Naming.{Naming}
-use Rattle.pulsar_plans.specs.declared.names.Naming.TheVariants as name
-use Rattle.pulsar_plans.specs.declared.plan.Plan.{Plan as Search}
-use Rattle.pulsar_plans.specs.declared.plan.Plan.TheVariants as searching
-use Rattle.pulsar_plans.specs.declared.plan.Procedure.{Procedure as Sought}
-use Rattle.pulsar_plans.specs.declared.plan.Procedure.TheVariants as sought
-use Rattle.pulsar_plans.specs.declared.replies.Heard.{Heard}
-use Rattle.pulsar_plans.specs.declared.replies.Heard.TheVariants.{Says, Later, Denies}
-use Rattle.pulsar_plans.specs.declared.replies.Pointed.{Pointed}
-use Rattle.pulsar_plans.specs.declared.replies.Pointed.TheVariants.{Redirects, Serves}
-use Rattle.pulsar_plans.specs.declared.retry.Retrying.{Retrying}
-use Rattle.pulsar_plans.specs.declared.retry.Retrying.TheVariants as retry
-use Rattle.pulsar_plans.specs.declared.turn.Action.{Action as Wish}
-use Rattle.pulsar_plans.specs.declared.turn.Action.TheVariants as wish
-use Rattle.pulsar_plans.specs.declared.turn.Outcome.{Outcome as Heard'}
-use Rattle.pulsar_plans.specs.declared.turn.Outcome.TheVariants as told_in
-use Rattle.pulsar_plans.specs.declared.turn.Turn.{Turn as SearchTurn}
-use Rattle.pulsar_plans.specs.declared.turn.Turn.TheVariants as search_turn
-use Rattle.pulsar_plans.specs.declared.turn.Ways.{Ways}
-use Rattle.pulsar_calls.specs.declared.act.Action.TheVariants.{Ask}
-use Rattle.pulsar_procedures.specs.declared.plan.Plan.TheVariants.{Getting}
-use Rattle.pulsar_procedures.specs.declared.plan.Turn.TheVariants.{Stays, Gives}
-use Rattle.pulsar_procedures.specs.Plan.{begins, told}
+use Rattle.pulsar_frame.specs.Reply.{Reply as Content}
+use Rattle.pulsar_addresses.specs.Backoff.{allow_retry}
+use Rattle.pulsar_searches.specs.Plans as search
+use Rattle.pulsar_addresses.specs.Address as search_low
+use Rattle.pulsar_searches.specs.Plans.{is_lost, is_partition, is_retryable}
+use Rattle.pulsar_searches.specs.Replies.{count_in, place_heard}
+use Rattle.pulsar_searches.specs.declared.count.Counting.{Counting}
+use Rattle.pulsar_searches.specs.declared.count.Counting.TheVariants as count
+use Rattle.pulsar_searches.specs.declared.look.Looking.TheVariants as look
+use Rattle.pulsar_searches.specs.declared.look.Search.{Search as Place'}
+use Rattle.pulsar_searches.specs.declared.making.Making.TheVariants as make
+use Rattle.pulsar_searches.specs.declared.names.Naming.TheVariants as name
+use Rattle.pulsar_searches.specs.declared.plan.Plan.{Plan as Search}
+use Rattle.pulsar_searches.specs.declared.plan.Plan.TheVariants as searching
+use Rattle.pulsar_searches.specs.declared.plan.Procedure.TheVariants as sought
+use Rattle.pulsar_searches.specs.declared.replies.Heard.{Heard}
+use Rattle.pulsar_searches.specs.declared.replies.Pointed.{Pointed}
+use Rattle.pulsar_searches.specs.declared.replies.Pointed.TheVariants.{Redirects, Serves}
+use Rattle.pulsar_searches.specs.declared.retry.Retrying.{Retrying}
+use Rattle.pulsar_searches.specs.declared.retry.Retrying.TheVariants as retry
+use Rattle.pulsar_searches.specs.declared.turn.Action.TheVariants as wish
+use Rattle.pulsar_searches.specs.declared.turn.Outcome.TheVariants as told_in
+use Rattle.pulsar_searches.specs.declared.turn.Turn.TheVariants as search_turn
 use Rattle.pulsar_laws.specs.ConsumerLaws.{is_ack}
 
 -- SEARCHES, AND COMMANDS THAT ASK FOR NO ACKNOWLEDGEMENT
@@ -147,7 +133,7 @@ names_mild w t (name.Counting c) u =
 names_mild w t (name.Whole l) u = and_mild Any Any (search.look_told w t l u) name.Whole _ (λ s p. tt) (look_mild w t l u) (λ a. tt)
 names_mild w t (name.Part l p) u =
     and_mild Any Any (search.look_told w p.name l u) (λ l. name.Part l p) _ (λ s p. tt) (look_mild w p.name l u)
-    (λ place. names_left_mild w t p.count p.left (search.name_found p.found p.name place))
+    (λ place. names_left_mild w t p.count p.left (search_low.name_found p.found p.name place))
 
 pub answered_mild : (w : Ways) (n l : ℕ) (r : Result Content Fault) → MildTurn Any (search.made_answered w n l r)
 answered_mild w n l (Ok r) = tt

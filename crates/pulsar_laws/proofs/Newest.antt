@@ -3,22 +3,15 @@ use Rattle.std.proofs.Common.{◌≡◌, ◌∙◌, ap, ℕ, List, [], ◌∷◌
 use Rattle.std.proofs.lemmas.Bool.Decides.{nat_tests}
 use Rattle.std.proofs.lemmas.Grind.{common_steps}
 use Rattle.std.specs.Str.{bytes_eq}
+use Rattle.pulsar_laws.proofs.ActWords.{Comes, Dials, Does, Get, StopAll, ToLink, Who}
+use Rattle.pulsar_laws.proofs.RunWords.{Begins, begun, begun_live, begun_same, Then, Turned, turned, view, View}
+use Rattle.pulsar_laws.proofs.LinkWords.{address_key, Base, Becomes, Change, is_reachable, IsOver, Nobody, Pause, Remains, Runs, Series}
 use Rattle.pulsar_requests.specs.Waits.{later_of}
-use Rattle.pulsar_calls.specs.declared.act.Act.TheVariants.{Comes, Does, Dials}
-use Rattle.pulsar_calls.specs.declared.act.Action.TheVariants.{Get, StopAll}
-use Rattle.pulsar_calls.specs.declared.act.Part.TheVariants.{ToLink}
-use Rattle.pulsar_calls.specs.declared.act.Who.{Who}
-use Rattle.pulsar_tables.specs.declared.addresses.Pause.{Pause}
-use Rattle.pulsar_tables.specs.declared.addresses.Series.{Series}
-use Rattle.pulsar_tables.specs.declared.addresses.Series.TheVariants.{Nobody, Runs}
 use Rattle.pulsar_calls.specs.Content.{Ticked}
 use Rattle.pulsar_laws.specs.Laws.{ClockIs}
 use Rattle.pulsar_laws.specs.AddressLaws.{SeriesIsNewest, newest_turn, turn_of, turn_on, turn_over}
-use Rattle.pulsar_tables.specs.Links.{Change, Remains, Becomes, IsOver}
-use Rattle.pulsar_agenda.specs.Run.{Begins, Then, view}
-use Rattle.pulsar_tables.specs.View.{Base, Turned, View, base_on, base_over, base_turned, begun, begun_live, nobody, turned, waits_for, waits_on}
-use Rattle.pulsar_plans.specs.Address.{address_key, is_reachable}
-use Rattle.pulsar_agenda.proofs.Acts.{begun_same}
+use Rattle.pulsar_acts.specs.View.{base_on, waits_for, waits_on}
+use Rattle.pulsar_links.specs.Seats.{base_over, base_turned, nobody}
 
 -- THE CLOCK
 
@@ -75,7 +68,8 @@ series_is_newest_lem o (Then (Does who (Get p)) ∷ log) key =
     let b : Base = (view o log).addresses.base key in
     got_is (is_reachable p && bytes_eq (address_key p) key) b (waits_for b.series who b.waiting) (newest_turn o key log) (series_is_newest_lem o log key)
 series_is_newest_lem o (Then (Does who StopAll) ∷ log) key =
-    stopped_is (waits_on (view o log).addresses (view o log).alarms key) ((view o log).addresses.base key) (newest_turn o key log) (series_is_newest_lem o log key)
+    stopped_is (waits_on (view o log).addresses (view o log).alarms key) ((view o log).addresses.base key) (newest_turn o key log)
+    (series_is_newest_lem o log key)
 series_is_newest_lem o (Then (Dials p starter retries) ∷ log) key =
     dialed_is (bytes_eq (address_key p) key) ((view o log).addresses.base key) (Runs starter retries (view o log).links.started) (newest_turn o key log)
     (series_is_newest_lem o log key)

@@ -2,19 +2,15 @@
 use Rattle.std.proofs.Common.{◌≡◌, ℕ, List, [], ◌∷◌, refl, map, Bool, true, false, Option, Some, None}
 use Rattle.std.specs.List.{cons_option, filter_map, flat_map}
 use Rattle.std.specs.Option.{option_map}
-use Rattle.pulsar_messages.specs.Words.{Words}
-use Rattle.pulsar_session.specs.Failures.{Fault}
+use Rattle.pulsar_laws.proofs.ActWords.{Drains, End, Ends, LinkAct, Opens, Pings, Queued, Reads, Shown}
+use Rattle.pulsar_laws.proofs.RunWords.{Each, each_append}
+use Rattle.pulsar_laws.proofs.LinkWords.{closed_by, Fault, Seat, Words}
 use Rattle.pulsar_session.specs.Link as session
 use Rattle.pulsar_session.specs.Link.{Asks, Seen, came, ends, frame_at, written}
-use Rattle.pulsar_calls.specs.declared.act.End.{End}
-use Rattle.pulsar_calls.specs.declared.act.LinkAct.{LinkAct}
-use Rattle.pulsar_calls.specs.declared.act.LinkAct.TheVariants.{Opens, Reads, Drains, Pings, Ends}
 use Rattle.pulsar_calls.specs.declared.effect.Settlement.TheVariants as settlement
-use Rattle.pulsar_calls.specs.Content.{Shown, Queued, Write, Settles, Close}
-use Rattle.pulsar_tables.specs.Effects.{asked_at, given_at}
-use Rattle.pulsar_tables.specs.Links.{after, close, closed_by, effects, ended, is_own_end, lost, new_places, queues, queues_at, settled_in, settles, write}
-use Rattle.pulsar_tables.specs.View.{Seat}
-use Rattle.pulsar_agenda.proofs.Acts.{Each, each_append}
+use Rattle.pulsar_calls.specs.Content.{Write, Settles, Close}
+use Rattle.pulsar_links.specs.LinkEffects.{asked_at, given_at}
+use Rattle.pulsar_links.specs.Links.{after, close, effects, ended, is_own_end, lost, new_places, queues, queues_at, settled_in, settles, write}
 
 abbrev pub link_of : Shown → Option ℕ
 link_of (Queued k place bytes) = Some k
@@ -30,7 +26,8 @@ frames_of : (k : ℕ) (s : Seen) (ps : List ℕ) → Each (IsOf k) (filter_map (
 frames_of k s [] = tt
 frames_of k s (p ∷ ps) = by (frame_at p s) (frames_of k s ps)
   where
-    by : (o : Option (List ℕ)) → Each (IsOf k) (filter_map (queues_at k s) ps) → Each (IsOf k) (cons_option (option_map (Queued k p) o) (filter_map (queues_at k s) ps))
+    by : (o : Option (List ℕ)) → Each (IsOf k) (filter_map (queues_at k s) ps) →
+        Each (IsOf k) (cons_option (option_map (Queued k p) o) (filter_map (queues_at k s) ps))
     by None more = more
     by (Some f) more = (refl, more)
 
@@ -52,7 +49,8 @@ close_of k false = tt
 pub ended_of : (k : ℕ) (end : End) (now : ℕ) (cause : Option Fault) (s : Seen) → Each (IsOf k) (ended k end now cause s)
 ended_of k end now None s = tt
 ended_of k end now (Some cause) s =
-    each_append (IsOf k) (map (lost k end now s) (ends s)) (close k (is_own_end end)) (each_of k (lost k end now s) (ends s) (λ p. refl)) (close_of k (is_own_end end))
+    each_append (IsOf k) (map (lost k end now s) (ends s)) (close k (is_own_end end)) (each_of k (lost k end now s) (ends s) (λ p. refl))
+    (close_of k (is_own_end end))
 
 effects_of : (k : ℕ) (x : LinkAct) (now : ℕ) (s : Seen) → Each (IsOf k) (effects k x now s)
 effects_of k Opens now s = queues_of k s (after Opens now s)

@@ -4,38 +4,16 @@ use Rattle.std.proofs.Common.{◌≡◌, ℕ, suc, ◌+◌, ◌-◌, ◌^◌, �
 use Rattle.std.proofs.lemmas.Bool.{cases_Bool}
 use Rattle.std.proofs.lemmas.Bool.Decides.{nat_tests}
 use Rattle.std.proofs.lemmas.Grind.{common_steps}
-use Rattle.pulsar_run.specs.Run.{rest}
-use Rattle.pulsar_session.specs.Link.{is_spent}
-use Rattle.pulsar_plans.specs.declared.turn.Ways.{Ways}
-use Rattle.pulsar_producer.specs.declared.sending.Errand.{Errand}
-use Rattle.pulsar_calls.specs.declared.act.Act.{Act}
-use Rattle.pulsar_calls.specs.declared.act.Act.TheVariants.{Comes, Starts, Told, Does, Answers}
-use Rattle.pulsar_calls.specs.declared.act.Action.{Action}
-use Rattle.pulsar_calls.specs.declared.act.Action.TheVariants.{Rest}
-use Rattle.pulsar_calls.specs.declared.act.Notice.{Notice}
-use Rattle.pulsar_calls.specs.declared.act.Outcome.{Outcome}
-use Rattle.pulsar_calls.specs.declared.act.Part.TheVariants.{Calls}
-use Rattle.pulsar_calls.specs.declared.act.Makes.{Makes}
-use Rattle.pulsar_calls.specs.declared.act.Procedure.{Procedure}
+use Rattle.pulsar_laws.proofs.ActWords.{Act, Action, Answers, Asked, Call, Calls, Comes, Consumer, Does, Heard, is_same, lacks_tickets, Makes, Notice, Outcome, Procedure, Producer, Refusal, Rest, shares, Starts, Told, Verdict, Who}
+use Rattle.pulsar_laws.proofs.PlanWords.{begins, Errand, Gives, Plan, Stays, told, Turn, Ways}
+use Rattle.pulsar_laws.proofs.RunWords.{agenda, at_once, Begins, begun_same, called, Chosen, counted, does, Each, EndsOnce, Entry, first, first_case, follows, follows_some, is_served, IsRun, left_with, Options, parts_of, rest, shares_of, shares_unless, start_of, starts, StartsIn, stays, stays_some, Then, told_some, view, View, ways_of, why_no_sends}
+use Rattle.pulsar_messages.specs.Claims.{is_spent}
 use Rattle.pulsar_calls.specs.declared.act.Procedure.TheVariants.{Batch, Serve}
-use Rattle.pulsar_calls.specs.declared.act.Refusal.{Refusal}
-use Rattle.pulsar_calls.specs.declared.act.Verdict.{Verdict}
-use Rattle.pulsar_calls.specs.declared.act.Who.{Who}
-use Rattle.pulsar_calls.specs.declared.act.Who.TheVariants.{Call, Consumer, Producer}
-use Rattle.pulsar_procedures.specs.declared.plan.Plan.{Plan}
-use Rattle.pulsar_procedures.specs.declared.plan.Turn.{Turn}
-use Rattle.pulsar_procedures.specs.declared.plan.Turn.TheVariants.{Stays, Gives}
 use Rattle.pulsar_messages.specs.Content.{ProducerMessageValues}
 use Rattle.pulsar_calls.specs.Content as content
-use Rattle.pulsar_calls.specs.Content.{Asked, Heard, lacks_tickets, shares}
-use Rattle.pulsar_laws.specs.Laws.{EndsOnce, counted, end_of, start_of}
-use Rattle.pulsar_procedures.specs.Plan.{begins, told}
+use Rattle.pulsar_laws.specs.Laws.{end_of}
 use Rattle.pulsar_producer_table.specs.Producers.{Producers, routed}
-use Rattle.pulsar_tables.specs.Rules.{at_once, called, does, follows, follows_some, left_with, parts_of, shares_of, shares_unless, starts, why_no_sends}
-use Rattle.pulsar_agenda.specs.Run.{Entry, Begins, Then, IsRun, agenda, first, view}
-use Rattle.pulsar_tables.specs.View.{Chosen, Options, View, stays, stays_some, told_some, ways_of}
-use Rattle.pulsar_calls.specs.Who.{is_same}
-use Rattle.pulsar_agenda.proofs.Acts.{Each, StartsIn, begun_same, first_case, is_served, starts_in}
+use Rattle.pulsar_client.proofs.Acts.{starts_in}
 use Rattle.pulsar_laws.proofs.Follow.{same_is}
 use Rattle.pulsar_laws.proofs.Left.{left_each}
 use Rattle.pulsar_laws.proofs.Quiet.{IsQuiet, comes_quiet, performs_quiet}
@@ -248,7 +226,8 @@ calls_on o log asked advice t k fits =
       | inl e ↦ record {
         begun = rw ds (rw e (omega (arith, b)));
         ended = λ low. (let c = ended_before o log a t k fits low in
-            rw (ds, de) (rw e (late_end (is_same (Call t) (Call (2 ^ 64 - 1))) (counted (end_of t) log) (due (start_of t) xs) (due (end_of t) xs) (alive (v.stand (Call t)))
+            rw (ds, de)
+            (rw e (late_end (is_same (Call t) (Call (2 ^ 64 - 1))) (counted (end_of t) log) (due (start_of t) xs) (due (end_of t) xs) (alive (v.stand (Call t)))
             (drawn t n)
             (apart (Call t) (2 ^ 64 - 1) low refl) c)));
       }

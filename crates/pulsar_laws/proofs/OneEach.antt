@@ -5,31 +5,16 @@ use Rattle.std.proofs.lemmas.Slice.Eq.{bytes_eq-Decides}
 use Rattle.std.specs.List.{list_any}
 use Rattle.std.specs.Option.{option_map}
 use Rattle.std.specs.Str.{bytes_eq}
-use Rattle.pulsar_messages.specs.Words.{Words}
-use Rattle.pulsar_plans.specs.Address.{Place, address_key, is_reachable}
-use Rattle.pulsar_session.specs.Failures.{Fault}
-use Rattle.pulsar_calls.specs.declared.act.Act.{Act}
-use Rattle.pulsar_calls.specs.declared.act.Act.TheVariants.{Comes, Does, Dials}
-use Rattle.pulsar_calls.specs.declared.act.Action.TheVariants.{Get, Ask, StopAll}
-use Rattle.pulsar_calls.specs.declared.act.Alarm.{Alarm}
-use Rattle.pulsar_calls.specs.declared.act.Alarm.TheVariants.{Retry, Wake, Batch, KeepAlive, CheckIdle}
-use Rattle.pulsar_calls.specs.declared.act.Arrival.{Arrival}
+use Rattle.pulsar_laws.proofs.ActWords.{Act, Alarm, Arrival, Ask, Batch, Bytes, CheckIdle, Comes, Dials, Does, Drains, Ends, Get, Heard, KeepAlive, LinkAct, Opens, Pings, Reads, Retry, Rings, StopAll, ToLink, Wake, Who}
+use Rattle.pulsar_laws.proofs.RunWords.{after, Begins, begun, begun_live, Chosen, dialed, Entry, is_live, IsRun, link_got, live_begun, Options, Then, Turned, turned, turned_by, view, View}
+use Rattle.pulsar_laws.proofs.LinkWords.{address_key, Base, Becomes, Change, closed_by, Fault, got_at, is_reachable, IsOver, Nobody, Pause, Pauses, Place, Remains, rings, Runs, Seat, seat_asked, seat_fed, seat_got, Series, Serves, took, took_end, took_some, Words}
 use Rattle.pulsar_calls.specs.declared.act.Arrival.TheVariants.{Readied}
-use Rattle.pulsar_calls.specs.declared.act.LinkAct.{LinkAct}
-use Rattle.pulsar_calls.specs.declared.act.LinkAct.TheVariants.{Opens, Reads, Drains, Pings, Ends}
-use Rattle.pulsar_calls.specs.declared.act.Part.TheVariants.{ToLink, Rings}
-use Rattle.pulsar_calls.specs.declared.act.Who.{Who}
-use Rattle.pulsar_tables.specs.declared.addresses.Pause.{Pause}
-use Rattle.pulsar_tables.specs.declared.addresses.Series.{Series}
-use Rattle.pulsar_tables.specs.declared.addresses.Series.TheVariants.{Nobody, Runs, Pauses, Serves}
-use Rattle.pulsar_tables.specs.Alarms.{rings}
-use Rattle.pulsar_calls.specs.Content.{Heard, Bytes}
+use Rattle.pulsar_laws.proofs.Cases.{none_some, some_is}
 use Rattle.pulsar_laws.specs.Laws.{base_of}
 use Rattle.pulsar_laws.specs.AddressLaws.{Attempted, AttemptsFollow, Begun, OneLinkEach, names_link}
-use Rattle.pulsar_tables.specs.Links.{Change, Remains, Becomes, IsOver, arrival, change_at, change_by, change_in, closed_by}
-use Rattle.pulsar_agenda.specs.Run.{Entry, Begins, Then, IsRun, view}
-use Rattle.pulsar_tables.specs.View.{Chosen, Base, Options, Seat, Turned, View, after, base_on, base_turned, begun, begun_live, dialed, got_at, is_for, is_live, is_to_follow, link_got, live_begun, may_retry, nobody, pause_for, pause_on, pause_put, pause_rung, pause_with, seat_asked, seat_fed, seat_got, took, took_end, took_some, turned, turned_by, waits_for, waits_on}
-use Rattle.pulsar_laws.proofs.Alone.{no_some, some_is}
+use Rattle.pulsar_links.specs.Links.{arrival, change_at, change_by, change_in}
+use Rattle.pulsar_acts.specs.View.{base_on, is_to_follow, pause_for, pause_on, pause_rung, waits_for, waits_on}
+use Rattle.pulsar_links.specs.Seats.{base_turned, is_for, may_retry, nobody, pause_put, pause_with}
 
 abbrev series_at : View → List ℕ → Series
 series_at v key = (v.addresses.base key).series
@@ -125,30 +110,34 @@ module _ (v w : View) (k : ℕ) (seat : Seat) (t : Turns v w k seat) (is : Is v)
   turned_is = record { pauses = pauses_on; links = links_on }
 
 -- another attempt follows only where the link is over, and for its address
-pause_is : (o : Chosen) (x : LinkAct) (change : Change) (p : Place) (s : Series) (q : Pause) → pause_for o x change p s ≡ Some q → (change ≡ IsOver) × (q.address ≡ p)
+pause_is : (o : Chosen) (x : LinkAct) (change : Change) (p : Place) (s : Series) (q : Pause) → pause_for o x change p s ≡ Some q →
+    (change ≡ IsOver) × (q.address ≡ p)
 pause_is o (Ends end) IsOver p s q h = (refl, by (may_retry o.connection.max_retries end s) h)
   where
     by : (r : Option (Who × ℕ)) → option_map (pause_with p) r ≡ Some q → q.address ≡ p
-    by None e = absurd (no_some e)
+    by None e = absurd (none_some e)
     by (Some r) e = sym (ap (λ (x : Pause). x.address) (some_is e))
-pause_is o (Ends end) Remains p s q h = absurd (no_some h)
-pause_is o (Ends end) Becomes p s q h = absurd (no_some h)
-pause_is o Opens change p s q h = absurd (no_some h)
-pause_is o Reads change p s q h = absurd (no_some h)
-pause_is o (Drains most) change p s q h = absurd (no_some h)
-pause_is o Pings change p s q h = absurd (no_some h)
+pause_is o (Ends end) Remains p s q h = absurd (none_some h)
+pause_is o (Ends end) Becomes p s q h = absurd (none_some h)
+pause_is o Opens change p s q h = absurd (none_some h)
+pause_is o Reads change p s q h = absurd (none_some h)
+pause_is o (Drains most) change p s q h = absurd (none_some h)
+pause_is o Pings change p s q h = absurd (none_some h)
 
 -- a link that stays is named by what then runs for its address
-read_named : (k : ℕ) (a : Arrival) (pause : Option Pause) (b : Base) → names_link k b.series ≡ true → names_link k (base_turned k (change_in a) pause b).series ≡ true
+read_named : (k : ℕ) (a : Arrival) (pause : Option Pause) (b : Base) → names_link k b.series ≡ true →
+    names_link k (base_turned k (change_in a) pause b).series ≡ true
 read_named k Readied pause b n = own_link k
 read_named k _ pause b n = n
 
-ended_named : (k : ℕ) (cause : Option Fault) (seat later : Seat) (pause : Option Pause) (b : Base) → took_end cause seat ≡ Some later → names_link k b.series ≡ true →
+ended_named : (k : ℕ) (cause : Option Fault) (seat later : Seat) (pause : Option Pause) (b : Base) → took_end cause seat ≡ Some later →
+    names_link k b.series ≡ true →
     (later.address ≡ seat.address) × (names_link k (base_turned k (change_at cause) pause b).series ≡ true)
 ended_named k None seat later pause b h n = (sym (ap (λ (s : Seat). s.address) (some_is h)), n)
-ended_named k (Some cause) seat later pause b h n = absurd (no_some h)
+ended_named k (Some cause) seat later pause b h n = absurd (none_some h)
 
-took_named : (k : ℕ) (x : LinkAct) (now : ℕ) (seat later : Seat) (pause : Option Pause) (b : Base) → took x now seat ≡ Some later → names_link k b.series ≡ true →
+took_named : (k : ℕ) (x : LinkAct) (now : ℕ) (seat later : Seat) (pause : Option Pause) (b : Base) → took x now seat ≡ Some later →
+    names_link k b.series ≡ true →
     (later.address ≡ seat.address) × (names_link k (base_turned k (change_by x now seat.seen) pause b).series ≡ true)
 took_named k Reads now seat later pause b h n = (sym (ap (λ (s : Seat). s.address) (some_is h)), read_named k (arrival seat.seen) pause b n)
 took_named k (Ends end) now seat later pause b h n = ended_named k (closed_by end now seat.seen) seat later pause b h n
@@ -168,7 +157,7 @@ module _ (v : View) (k : ℕ) (x : LinkAct) where
     live = λ l seat h. elim (cases_Bool (l == k)) [
       | inl d ↦ (let none : v.links.live l ≡ None = ap v.links.live (eqb-true l k d) ∙ e in
           let took : took_some x v.now (v.links.live l) ≡ Some seat = (rw d at h) in
-          absurd (no_some (sym (ap (took_some x v.now) none) ∙ took)))
+          absurd (none_some (sym (ap (took_some x v.now) none) ∙ took)))
       | inr d ↦ (seat, (rw d at h), refl)
     ];
   }
@@ -183,7 +172,8 @@ module _ (v : View) (k : ℕ) (x : LinkAct) where
     turn : turned v act ≡ Some t
     turn = ap (option_map (turned_by v.chosen v.addresses v.now k x)) e
 
-    series_is : (key : List ℕ) → series_at w key ≡ (cond (bytes_eq t.key key) (base_turned k t.change t.pause (v.addresses.base key)) (v.addresses.base key)).series
+    series_is : (key : List ℕ) →
+        series_at w key ≡ (cond (bytes_eq t.key key) (base_turned k t.change t.pause (v.addresses.base key)) (v.addresses.base key)).series
     series_is key = ap (λ u. (base_on u key (v.addresses.base key)).series) turn
 
     own_series : series_at w t.key ≡ (base_turned k t.change t.pause (v.addresses.base t.key)).series
@@ -236,7 +226,7 @@ same_kept : (row : Option Seat) → Kept row row
 same_kept row seat h = (seat, h, refl)
 
 map_kept : (f : Seat → Seat) (row : Option Seat) → ((s : Seat) → (f s).address ≡ s.address) → Kept row (option_map f row)
-map_kept f None same seat h = absurd (no_some h)
+map_kept f None same seat h = absurd (none_some h)
 map_kept f (Some r) same seat h = (r, refl, sym (same r) ∙ ap (λ (s : Seat). s.address) (some_is h))
 
 either_kept : (b : Bool) (row x y : Option Seat) → Kept row x → Kept row y → Kept row (cond b x y)
@@ -279,7 +269,7 @@ asks_same v who k request = record {
 }
 
 unless_rung : (b : Bool) (row : Option Pause) (p : Pause) → cond b None row ≡ Some p → row ≡ Some p
-unless_rung true row p h = absurd (no_some h)
+unless_rung true row p h = absurd (none_some h)
 unless_rung false row p h = h
 
 rung_left : (b : Bool) (a : Alarm) (l : ℕ) (row : Option Pause) (p : Pause) → pause_rung b a l row ≡ Some p → row ≡ Some p
@@ -316,7 +306,8 @@ follows_for v key (e ∷ es) h = elim (either_is (is_to_follow v.addresses key e
     for_some l None set g = absurd cc
     for_some l (Some p) set g = (l, p, set, g)
 
-    by : (a : Alarm) → is_to_follow v.addresses key a ≡ true → (l : ℕ) × (p : Pause) × (v.addresses.pause l ≡ Some p) × (bytes_eq (address_key p.address) key ≡ true)
+    by : (a : Alarm) → is_to_follow v.addresses key a ≡ true →
+        (l : ℕ) × (p : Pause) × (v.addresses.pause l ≡ Some p) × (bytes_eq (address_key p.address) key ≡ true)
     by (Retry l) g = for_some l (v.addresses.pause l) refl g
     by (Wake who) g = absurd cc
     by (Batch n) g = absurd cc
@@ -325,13 +316,14 @@ follows_for v key (e ∷ es) h = elim (either_is (is_to_follow v.addresses key e
 
 stops : (v : View) (who : Who) → Is v → Is (after (Does who StopAll) v)
 stops v who is = record {
-  pauses = λ l p h. absurd (no_some h);
+  pauses = λ l p h. absurd (none_some h);
   links = λ l seat h.
       let key : List ℕ = address_key seat.address in
       elim (cases_Bool (waits_on v.addresses v.alarms key)) [
         | inl e ↦
             (let f = follows_for v key v.alarms e in
-            none_paused l f.0 (series_at v key) (is.links l seat h) (ap (series_at v) (sym (same_key (address_key f.1.address) key f.3)) ∙ is.pauses f.0 f.1 f.2))
+            none_paused l f.0 (series_at v key) (is.links l seat h)
+            (ap (series_at v) (sym (same_key (address_key f.1.address) key f.3)) ∙ is.pauses f.0 f.1 f.2))
         | inr e ↦ ap (λ b. names_link l (cond b nobody (v.addresses.base key)).series) e ∙ is.links l seat h
       ];
 }
@@ -347,7 +339,9 @@ dials : (v : View) (p : Place) (starter : Who) (retries : ℕ) → IsFree v p �
 dials v p starter retries free is = record {
   pauses = λ l q h. elim (cases_Bool (bytes_eq (address_key p) (address_key q.address))) [
     | inl e ↦ absurd (free.unset l q h (same_key (address_key p) (address_key q.address) e))
-    | inr e ↦ ap (λ b. (cond b (record { series = Runs starter retries n; waiting = (v.addresses.base (address_key q.address)).waiting }) (v.addresses.base (address_key q.address))).series) e
+    | inr e ↦ ap
+        (λ b. (cond b (record { series = Runs starter retries n; waiting = (v.addresses.base (address_key q.address)).waiting })
+        (v.addresses.base (address_key q.address))).series) e
         ∙ is.pauses l q h
   ];
   links = λ l seat h. elim (cases_Bool (l == n)) [
@@ -364,7 +358,9 @@ dials v p starter retries free is = record {
 
     here : (l : ℕ) (seat : Seat) → (l == n) ≡ true → dialed v.chosen n v.now p ≡ seat → names_link l (series_at w (address_key seat.address)) ≡ true
     here l seat e is_it = subst (λ (s : Seat). names_link l (series_at w (address_key s.address)) ≡ true) is_it
-        (ap (λ b. names_link l (cond b (record { series = Runs starter retries n; waiting = (v.addresses.base (address_key p)).waiting }) (v.addresses.base (address_key p))).series)
+        (ap (λ b. names_link l
+        (cond b (record { series = Runs starter retries n; waiting = (v.addresses.base (address_key p)).waiting })
+        (v.addresses.base (address_key p))).series)
         (own_key (address_key p))
         ∙ eq-eqb n l (sym (eqb-true l n e)))
 
@@ -392,7 +388,7 @@ paused_free v p k e none is = record {
   unset = λ l q h same.
       (let one : Pauses k ≡ Pauses l = sym e ∙ ap (series_at v) same ∙ is.pauses l q h in
       let link : k ≡ l = cc in
-      no_some (sym none ∙ ap v.addresses.pause link ∙ h));
+      none_some (sym none ∙ ap v.addresses.pause link ∙ h));
 }
 
 module _ (o : Options) (p : Place) (starter : Who) (n : ℕ) where
@@ -409,7 +405,8 @@ module _ (o : Options) (p : Place) (starter : Who) (n : ℕ) where
       (ap (λ b. cond (b && (l == l)) None (v.addresses.pause l)) rung ∙ ap (λ b. cond b None (v.addresses.pause l)) (own_link l))
       (still v (after (Comes (Rings (Retry l))) v) (rings_same v (Retry l)) is)
 
-  attempted_free : (e : Entry) (older : List Entry) → Attempted o p starter n (e ∷ older) → Is (view o older) → Is (view o (e ∷ older)) → IsFree (view o (e ∷ older)) p
+  attempted_free : (e : Entry) (older : List Entry) → Attempted o p starter n (e ∷ older) → Is (view o older) → Is (view o (e ∷ older)) →
+      IsFree (view o (e ∷ older)) p
   attempted_free e older a was is = elim a.3 [
     | inl b ↦ subst (λ x. IsFree (view o (x ∷ older)) p) (sym (entry ∙ b.0.0))
         (begun_free older (refl, b.0.1, ap (λ xs. (base_of (view o xs) p).series) rest ∙ b.0.2) (subst (λ x. Is (view o (x ∷ older))) (entry ∙ b.0.0) is))
@@ -442,7 +439,7 @@ more o e log k is = record { is = is; was = λ x older same. (let rest : log ≡
 
 both : AttemptsFollow → (o : Options) (log : List Entry) → IsRun o log → Both o log
 both follow o [] run = record {
-  is = record { pauses = λ l p h. absurd (no_some h); links = λ l seat h. absurd (no_some h) };
+  is = record { pauses = λ l p h. absurd (none_some h); links = λ l seat h. absurd (none_some h) };
   was = λ e older same. absurd cc;
 }
 both follow o (Begins e ∷ log) run =
@@ -459,7 +456,8 @@ both follow o (Then (Does who (Get p)) ∷ log) run =
     more o (Then (Does who (Get p))) log k (still (view o log) (after (Does who (Get p)) (view o log)) (gets_same (view o log) who p) k.is)
 both follow o (Then (Does who (Ask l request)) ∷ log) run =
     let k = both follow o log run.0 in
-    more o (Then (Does who (Ask l request))) log k (still (view o log) (after (Does who (Ask l request)) (view o log)) (asks_same (view o log) who l request) k.is)
+    more o (Then (Does who (Ask l request))) log k
+    (still (view o log) (after (Does who (Ask l request)) (view o log)) (asks_same (view o log) who l request) k.is)
 both follow o (Then (Does who StopAll) ∷ log) run =
     let k = both follow o log run.0 in
     more o (Then (Does who StopAll)) log k (stops (view o log) who k.is)

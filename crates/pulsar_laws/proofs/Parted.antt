@@ -1,51 +1,30 @@
 -- Parts of calls: whose they are. A call with parts has the next ticket, and its parts have those behind it.
-use Rattle.std.proofs.Common.{◌≡◌, ◌⊎◌, inl, inr, ◌∙◌, sym, ap, subst, ℕ, ◌+◌, ◌-◌, ◌^◌, ◌<◌, ◌≤◌, ◌==◌, arith, List, [], ◌∷◌, ◌++◌, refl, drop, length, Bool, true, false, ◌&&◌, cond, Option, Some, None}
+use Rattle.std.proofs.Common.{◌≡◌, ◌⊎◌, inl, inr, ◌∙◌, sym, ap, subst, ℕ, ◌+◌, ◌-◌, ◌<◌, ◌≤◌, ◌==◌, arith, List, [], ◌∷◌, ◌++◌, refl, drop, length, Bool, true, false, cond, Option, Some, None}
 use Rattle.std.proofs.lemmas.Bool.{cases_Bool, eqb-true}
 use Rattle.std.proofs.lemmas.Bool.Decides.{nat_tests}
 use Rattle.std.specs.Option.{is_some}
 use Rattle.std.specs.Prelude.{not}
-use Rattle.pulsar_link.specs.Request.{named_producer}
+use Rattle.pulsar_laws.proofs.ActWords.{Act, Asked, Call, Calls, Checks, Comes, Flushes, is_same, lacks_tickets, Link, next_advice, Procedure, Refusal, Share, shares, Starts, Who}
+use Rattle.pulsar_laws.proofs.PlanWords.{Errand, Sought, Ways}
+use Rattle.pulsar_laws.proofs.RunWords.{asks_raw, asks_topics, Begins, begun_same, builds_with, checks, Chosen, closes, Each, Entry, flushes, flushes_all, from_base, gathers, In, InThisStep, IsRun, may_call, Options, parts_of, procedure_for, produces, produces_from, searches, sends, sends_as, sends_by, shares_of, shares_unless, started, starts, stores_as, Then, unless, unless_refused, view, View, ways_of, why_no_raw, why_no_sends}
+use Rattle.pulsar_laws.proofs.LinkWords.{Place}
 use Rattle.pulsar_messages.specs.Content.{ProducerMessageValues}
-use Rattle.pulsar_plans.specs.Address.{Place}
-use Rattle.pulsar_plans.specs.declared.plan.Procedure.{Procedure as Sought}
-use Rattle.pulsar_plans.specs.declared.plan.Procedure.TheVariants as sought
-use Rattle.pulsar_plans.specs.declared.turn.Ways.{Ways}
+use Rattle.pulsar_searches.specs.declared.plan.Procedure.TheVariants as sought
 use Rattle.pulsar_frame.specs.Batch.{EntryValues}
-use Rattle.pulsar_producer.specs.Batch.{entry_of}
-use Rattle.pulsar_producer.specs.Wanted.{ProducerWanted}
-use Rattle.pulsar_producer.specs.declared.sending.Errand.{Errand}
-use Rattle.pulsar_run.specs.Laws.{In, InThisStep}
-use Rattle.pulsar_calls.specs.declared.act.Act.{Act}
-use Rattle.pulsar_calls.specs.declared.act.Act.TheVariants.{Comes, Starts}
-use Rattle.pulsar_calls.specs.declared.act.Part.TheVariants.{Calls}
-use Rattle.pulsar_calls.specs.declared.act.Place.TheVariants.{Link}
-use Rattle.pulsar_calls.specs.declared.act.Procedure.{Procedure}
+use Rattle.pulsar_outgoing.specs.Batch.{entry_of}
+use Rattle.pulsar_outgoing.specs.Wanted.{ProducerWanted}
 use Rattle.pulsar_calls.specs.declared.act.Procedure.TheVariants as procedure
-use Rattle.pulsar_calls.specs.declared.act.Refusal.{Refusal}
 use Rattle.pulsar_calls.specs.declared.act.Refusal.TheVariants as refusal
-use Rattle.pulsar_calls.specs.declared.act.Round.TheVariants.{Checks, Flushes}
 use Rattle.pulsar_calls.specs.declared.act.Says.TheVariants as says
-use Rattle.pulsar_calls.specs.declared.act.Share.{Share}
-use Rattle.pulsar_calls.specs.declared.act.Who.{Who}
-use Rattle.pulsar_calls.specs.declared.act.Who.TheVariants.{Call}
 use Rattle.pulsar_calls.specs.Content as content
-use Rattle.pulsar_calls.specs.Content.{Asked, lacks_tickets, shares}
-use Rattle.pulsar_laws.specs.Laws.{started}
+use Rattle.pulsar_laws.proofs.Cases.{none_some}
 use Rattle.pulsar_producer_table.specs.Producers.{Producers, advice, batches_in, errand_of, numbers_at, routed, why_not}
-use Rattle.pulsar_calls.specs.Content.{next_advice}
-use Rattle.pulsar_tables.specs.Rules.{asks_raw, asks_topics, builds_with, call_part, checks, closes, flushes, flushes_all, from_base, gathers, is_taken, parts_of, procedure_for, produces, produces_from, searches, sends, sends_as, sends_by, shares_of, shares_unless, starts, stores_as, unless, unless_refused, why_no_sends, why_no_raw}
-use Rattle.pulsar_agenda.specs.Run.{Entry, Begins, Then, IsRun, view}
-use Rattle.pulsar_tables.specs.View.{Chosen, Options, View, may_call, ways_of}
-use Rattle.pulsar_calls.specs.Who.{is_same}
-use Rattle.pulsar_agenda.proofs.Acts.{Each, begun_same}
+use Rattle.pulsar_acts.specs.Rules.{call_part}
 use Rattle.pulsar_laws.proofs.Follow.{same_is}
 use Rattle.pulsar_laws.proofs.Granted.{in_each}
 use Rattle.pulsar_laws.proofs.Made.{calls_are_made_lem}
 use Rattle.pulsar_laws.proofs.Sharing.{share_in}
 use Rattle.pulsar_laws.proofs.Consuming.{humble_call, is_humble}
-
-none_some : {A : Type 0} {x : A} → None ≡ Some x → ⊥
-none_some {A} {x} h = cc
 
 -- PROCEDURES THAT ARE NO PARTS AND HAVE NONE
 
@@ -245,7 +224,8 @@ head_of v advised (content.Producer wanted) =
 head_of v advised (content.Send t m) =
     may_of v.calls.drawn 0 v.calls.drawn (may_call v.calls) (sends v.chosen v.producers (next_advice advised) t m)
     (unless_of v.calls.drawn 0 v.calls.drawn (why_not v.producers t) (sends_as v.chosen v.producers None (next_advice advised) t m)
-    (send_of v.calls.drawn 0 v.calls.drawn (batches_in (v.producers.built t)) m (ways_of v.chosen) (errand_of (next_advice advised) m (v.producers.built t)) refl refl))
+    (send_of v.calls.drawn 0 v.calls.drawn (batches_in (v.producers.built t)) m (ways_of v.chosen) (errand_of (next_advice advised) m (v.producers.built t))
+    refl refl))
 head_of v advised (content.SendAll t ms) =
     may_of v.calls.drawn (length ms) v.calls.drawn (may_call v.calls) (gathers v.calls v.producers t ms)
     (unless_of v.calls.drawn (length ms) v.calls.drawn (why_not v.producers t) (procedure.Gather (v.calls.drawn + 1) (length ms))

@@ -5,6 +5,10 @@ use Rattle.std.proofs.lemmas.Bool.Decides.{nat_tests}
 use Rattle.std.specs.Prelude.{pos, ◌/◌, ◌%◌}
 use Rattle.std.specs.Int.{w64, cast_unsigned}
 use Rattle.std.specs.Option.{option_map}
+use Rattle.pulsar_laws.proofs.ActWords.{Act, Action, Ask, Consumer, Does, is_same, Notice, Outcome, Procedure, Starts, TakeFlow, Told, Verdict, Who}
+use Rattle.pulsar_laws.proofs.PlanWords.{begins, Gives, Plan, Serving, Stays, told, Turn, Ways}
+use Rattle.pulsar_laws.proofs.RunWords.{agenda, Begins, begun_same, EndsOnce, Entry, first, follows, follows_some, IsRun, notice, Options, stays, stays_some, Then, told_some, view}
+use Rattle.pulsar_laws.proofs.LinkWords.{answer_at, Seat, Words}
 use Rattle.pulsar_wire.specs.declared.error.ConnectionError.TheVariants as error
 use Rattle.pulsar_wire.specs.Command.{command_spelling}
 use Rattle.pulsar_wire.specs.Row.{Int32, Uint32, Uint64, ◌&◌, entry, key, message_entry, spelling, varint, varint_in, with_length}
@@ -13,63 +17,30 @@ use Rattle.pulsar_frame.specs.Frame.{counted_bytes, frame_bytes}
 use Rattle.pulsar_frame.specs.Message.{MessageValues}
 use Rattle.pulsar_frame.proofs.Written.{length-counted_bytes}
 use Rattle.pulsar_messages.specs.Words as words
-use Rattle.pulsar_messages.specs.Words.{Words}
 use Rattle.pulsar_session.specs.declared.states.Asked.TheVariants as placed
 use Rattle.pulsar_session.specs.Link as session
-use Rattle.pulsar_session.specs.Link.{Seen, answer_of, fits, frame_for, has_room, is_ready, message_of, number_for, place_in, ticked}
+use Rattle.pulsar_session.specs.Link.{Seen, answer_of, fits, has_room, is_ready, message_of, place_in, ticked}
 use Rattle.pulsar_consumer.specs.Topic.{Asks, Live, asked, link_of, first_in, seen}
 use Rattle.pulsar_consumer.proofs.Histories.{raw_asks_for_nothing}
-use Rattle.pulsar_plans.specs.declared.turn.Ways.{Ways}
-use Rattle.pulsar_calls.specs.declared.act.Act.{Act}
-use Rattle.pulsar_calls.specs.declared.act.Act.TheVariants.{Starts, Told, Does}
-use Rattle.pulsar_calls.specs.declared.act.Action.{Action}
-use Rattle.pulsar_calls.specs.declared.act.Action.TheVariants.{Ask, TakeFlow}
-use Rattle.pulsar_calls.specs.declared.act.Notice.{Notice}
-use Rattle.pulsar_calls.specs.declared.act.Outcome.{Outcome}
 use Rattle.pulsar_calls.specs.declared.act.Outcome.TheVariants as outcome
-use Rattle.pulsar_calls.specs.declared.act.Procedure.{Procedure}
 use Rattle.pulsar_calls.specs.declared.act.Procedure.TheVariants as procedure
-use Rattle.pulsar_calls.specs.declared.act.Verdict.{Verdict}
-use Rattle.pulsar_calls.specs.declared.act.Who.{Who}
-use Rattle.pulsar_calls.specs.declared.act.Who.TheVariants.{Consumer}
-use Rattle.pulsar_calls.specs.declared.act.Word.{Word}
 use Rattle.pulsar_calls.specs.declared.act.Word.TheVariants as word
-use Rattle.pulsar_calls.specs.Who.{is_same}
-use Rattle.pulsar_procedures.specs.declared.plan.Plan.{Plan}
-use Rattle.pulsar_procedures.specs.declared.plan.Plan.TheVariants.{Serving}
-use Rattle.pulsar_procedures.specs.declared.plan.Turn.{Turn}
-use Rattle.pulsar_procedures.specs.declared.plan.Turn.TheVariants.{Stays, Gives}
-use Rattle.pulsar_procedures.specs.declared.service.Service.{Service}
-use Rattle.pulsar_procedures.specs.declared.service.Service.TheVariants as service
-use Rattle.pulsar_procedures.specs.Plan.{begins, in_recalling, in_resting, in_resuming, in_reviving, in_taking, overrides, resting_hears, resubscribes, told, told_service}
-use Rattle.pulsar_consumer.specs.Plans as consume
-use Rattle.pulsar_plans.specs.declared.making.Command.{Command}
-use Rattle.pulsar_plans.specs.declared.turn.Turn.TheVariants as search_turn
-use Rattle.pulsar_procedures.specs.declared.states.Resubscribing.{Resubscribing}
-use Rattle.pulsar_procedures.specs.Plan.{news_in}
+use Rattle.pulsar_plans.specs.declared.service.Service.{Service}
+use Rattle.pulsar_plans.specs.declared.service.Service.TheVariants as service
+use Rattle.pulsar_plans.specs.Plan.{told_service}
 use Rattle.pulsar_consumer_table.specs.Consumers as consumer
 use Rattle.pulsar_consumer_table.specs.Consumers.{Member, flow_at, member_after}
-use Rattle.pulsar_tables.specs.Reading.{flow_said}
-use Rattle.pulsar_tables.specs.Rules.{follows, follows_some, notice}
-use Rattle.pulsar_tables.specs.View.{Options, Seat, answer_at, stays, stays_some, told_some}
-use Rattle.pulsar_agenda.specs.Run.{Entry, Begins, Then, IsRun, agenda, first, view}
-use Rattle.pulsar_agenda.proofs.Acts.{begun_same}
+use Rattle.pulsar_acts.specs.Reading.{flow_said}
+use Rattle.pulsar_laws.proofs.Arcs.{Arc, StaysSo, due_takes, flowed_takes, is_flow, serving_rests, stays_by}
+use Rattle.pulsar_laws.proofs.Cases.{none_some, some_is}
 use Rattle.pulsar_laws.specs.ConsumerLaws.{FlowsArePlaced, done_to, place_on}
-use Rattle.pulsar_laws.specs.Laws.{EndsOnce}
-use Rattle.pulsar_laws.proofs.Consuming.{StaysSo, either_so}
 use Rattle.pulsar_laws.proofs.Ended.{seen_made}
-use Rattle.pulsar_laws.proofs.Flows.{first_at, flows_are_taken_lem, start_serves}
-use Rattle.pulsar_laws.proofs.Granted.{BeginsSo, IsLedSo, does_from}
+use Rattle.pulsar_laws.proofs.Flows.{led_by, first_at, flows_are_taken_lem, start_serves}
+use Rattle.pulsar_laws.proofs.Granted.{IsLedSo}
 use Rattle.pulsar_laws.proofs.Lone.{consumers_alone_lem}
 use Rattle.pulsar_laws.proofs.Riding.{rides}
 use Rattle.pulsar_laws.proofs.Same.{same_self, same_who}
 use Rattle.pulsar_laws.proofs.Servers.{is_server, server_stands}
-
-none_some : {A : Type 0} {x : A} → None ≡ Some x → ⊥
-none_some {A} {x} h = cc
-
-some_is : {A : Type 0} {x y : A} → Some x ≡ Some y → x ≡ y
-some_is {A} {x} {y} h = cc
 
 -- THE FRAME OF A FLOW is small
 
@@ -102,7 +73,8 @@ flow_fits id now n p =
     both (key 11 2) (with_length bytes) 10 (10 + 40) (small (8 * 11 + 2)) (both (varint (length bytes)) bytes 10 40 (small (length bytes)) (flow_small n p)) in
     let kind : length (entry 1 Int32 (pos 11)) ≤ 10 + 10 =
     both (key 1 0) (varint (cast_unsigned w64 (pos 11))) 10 10 (small (8 * 1 + 0)) (small (cast_unsigned w64 (pos 11))) in
-    let all : length (command_spelling m.command) ≤ 10 + 10 + (10 + (10 + 40)) = both (entry 1 Int32 (pos 11)) (message_entry 11 bytes) (10 + 10) (10 + (10 + 40)) kind body in
+    let all : length (command_spelling m.command) ≤ 10 + 10 + (10 + (10 + 40)) = both (entry 1 Int32 (pos 11)) (message_entry 11 bytes) (10 + 10)
+    (10 + (10 + 40)) kind body in
     let size : length (counted_bytes m) ≡ 4 + length (command_spelling m.command) + 0 = length-counted_bytes m in
     let low : length (counted_bytes m) < 2 ^ 32 = omega (arith, size, all) in
     grind (arith, nat_tests)
@@ -126,67 +98,18 @@ abbrev is_taking : Plan → Bool
 is_taking (Serving w n service.Taking) = true
 is_taking _ = false
 
-abbrev is_flow : Outcome → Bool
-is_flow (outcome.Word (word.Flow l p)) = true
-is_flow (outcome.Word word.NoFlow) = true
-is_flow _ = false
-
 -- it takes one right then, or waits as before
 abbrev TakesSo : Plan → Outcome → Plan → Action → Type 0
 TakesSo p u q a = is_taking q ≡ true → (a ≡ TakeFlow) ⊎ ((is_taking p ≡ true) × (is_flow u ≡ false))
 
-resumes_so : (p : Plan) (u : Outcome) (w : Ways) (n : ℕ) (c : Command) (x : consume.Resumes) → StaysSo (TakesSo p u) (resubscribes w n c x)
-resumes_so p u w n c (search_turn.Stays r x) = λ h. absurd cc
-resumes_so p u w n c (search_turn.Gives (Ok link)) = λ h. absurd cc
-resumes_so p u w n c (search_turn.Gives (Err f)) = λ h. absurd cc
-
-hears_so : (p : Plan) (u : Outcome) (w : Ways) (n : ℕ) (x : Word) → StaysSo (TakesSo p u) (resting_hears w n x)
-hears_so p u w n word.Over = tt
-hears_so p u w n word.Due = λ h. inl refl
-hears_so p u w n word.Lost = λ h. absurd cc
-hears_so p u w n (word.TopicEnded link) = λ h. absurd cc
-hears_so p u w n _ = λ h. absurd cc
-
-resting_so : (p : Plan) (w : Ways) (n : ℕ) (u : Outcome) → StaysSo (TakesSo p u) (in_resting w n u)
-resting_so p w n (outcome.Word x) = hears_so p (outcome.Word x) w n x
-resting_so p w n _ = λ h. absurd cc
-
-taking_so : (w : Ways) (n : ℕ) (u : Outcome) → StaysSo (TakesSo (Serving w n service.Taking) u) (in_taking w n u)
-taking_so w n (outcome.Word (word.Flow link permits)) = λ h. absurd cc
-taking_so w n (outcome.Word word.NoFlow) = λ h. absurd cc
-taking_so w n (outcome.Word _) = λ h. inr (refl, refl)
-taking_so w n _ = λ h. inr (refl, refl)
-
-recalling_so : (p : Plan) (w : Ways) (n : ℕ) (u : Outcome) → StaysSo (TakesSo p u) (in_recalling w n u)
-recalling_so p w n (outcome.Word (word.Recalled c)) = resumes_so p (outcome.Word (word.Recalled c)) w n c (consume.resume_begins w)
-recalling_so p w n (outcome.Word _) = λ h. absurd cc
-recalling_so p w n _ = λ h. absurd cc
-
-resuming_so : (p : Plan) (w : Ways) (n : ℕ) (s : Resubscribing) (u : Outcome) → StaysSo (TakesSo p u) (in_resuming w n s u)
-resuming_so p w n s outcome.Queued = λ h. absurd cc
-resuming_so p w n s outcome.InLine = λ h. absurd cc
-resuming_so p w n s (outcome.Word x) = λ h. absurd cc
-resuming_so p w n s u = resumes_so p u w n s.command (consume.resume_told w s.command s.resuming (news_in u))
-
-reviving_so : (p : Plan) (w : Ways) (n l : ℕ) (u : Outcome) → StaysSo (TakesSo p u) (in_reviving w n l u)
-reviving_so p w n l (outcome.Word word.Lives) = λ h. absurd cc
-reviving_so p w n l (outcome.Word word.Over) = λ h. absurd cc
-reviving_so p w n l (outcome.Word _) = λ h. absurd cc
-reviving_so p w n l _ = λ h. absurd cc
-
-service_so : (w : Ways) (n : ℕ) (s : Service) (u : Outcome) → StaysSo (TakesSo (Serving w n s) u) (told_service w n s u)
-service_so w n service.Resting u = resting_so (Serving w n service.Resting) w n u
-service_so w n service.Taking u = taking_so w n u
-service_so w n service.Asking u = λ h. inl refl
-service_so w n service.Recalling u = recalling_so (Serving w n service.Recalling) w n u
-service_so w n (service.Resuming s) u = resuming_so (Serving w n (service.Resuming s)) w n s u
-service_so w n (service.Reviving l) u = reviving_so (Serving w n (service.Reviving l)) w n l u
-service_so w n service.Failing u = tt
-service_so w n service.Closing u = tt
+arc_takes : {p q : Plan} {u : Outcome} {a : Action} → Arc p u q a → is_server p ≡ true → TakesSo p u q a
+arc_takes due_takes s h = inl refl
+arc_takes flowed_takes s h = inl refl
+arc_takes (serving_rests {s = service.Taking} i) s h = inr (refl, i)
+arc_takes _ s h = absurd cc
 
 server_so : (p : Plan) (u : Outcome) → is_server p ≡ true → StaysSo (TakesSo p u) (told p u)
-server_so (Serving w n s) u h = either_so (TakesSo (Serving w n s) u) (overrides u) _ _ tt (service_so w n s u)
-server_so p u h = absurd cc
+server_so p u s = stays_by (TakesSo p u) p u (λ q a k. arc_takes k s)
 
 -- only one that takes a flow asks for something where it is told of one
 flow_asks : (w : Ways) (n : ℕ) (s : Service) (l p : ℕ) (q : Plan) (k : ℕ) (r : Words) → told_service w n s (outcome.Word (word.Flow l p)) ≡ Stays q (Ask k r) →
@@ -200,7 +123,8 @@ flow_asks w n (service.Reviving j) l p q k r h = absurd cc
 flow_asks w n service.Failing l p q k r h = absurd cc
 flow_asks w n service.Closing l p q k r h = absurd cc
 
-server_asks : (b : Plan) (l p : ℕ) (q : Plan) (k : ℕ) (r : Words) → is_server b ≡ true → told b (outcome.Word (word.Flow l p)) ≡ Stays q (Ask k r) → is_taking b ≡ true
+server_asks : (b : Plan) (l p : ℕ) (q : Plan) (k : ℕ) (r : Words) → is_server b ≡ true → told b (outcome.Word (word.Flow l p)) ≡ Stays q (Ask k r) →
+    is_taking b ≡ true
 server_asks (Serving w n s) l p q k r is h = flow_asks w n s l p q k r h
 server_asks b l p q k r is h = absurd cc
 
@@ -250,7 +174,8 @@ module _ (o : Options) (log : List Entry) (n t : ℕ) (was : TakesAt o log n t) 
     | inr k ↦ (let g : true ≡ false = sym (next_flow o log n t a fits k.0 k.1) ∙ plain in cc)
   ]
 
-  turn_takes : (p : Plan) (u : Outcome) (x : Turn Plan Verdict) (q : Plan) → first (agenda o log) ≡ Some (Told (notice who u)) → (view o log).stand who ≡ Some p →
+  turn_takes : (p : Plan) (u : Outcome) (x : Turn Plan Verdict) (q : Plan) → first (agenda o log) ≡ Some (Told (notice who u)) →
+      (view o log).stand who ≡ Some p →
       told p u ≡ x → StaysSo (TakesSo p u) x → stays x ≡ Some q → is_taking q ≡ true → Takes o (Then (Told (notice who u)) ∷ log) n t
   turn_takes p u (Gives v) q fits stood leads so is h = absurd (none_some is)
   turn_takes p u (Stays y action) q fits stood leads so is h = elim (so (ap is_taking (some_is is) ∙ h)) [
@@ -292,7 +217,8 @@ told_run o log n t m run was = λ p stood h. elim (cases_Bool (is_same (Consumer
         (told_takes o log n t was m.outcome ((view o log).stand (Consumer n t)) p (run.1 ∙ ap Some (sym same)) refl
         (λ q stood. server_stands o log n t q run.0 stood) is h)
 
-    other : (p : Plan) → is_same (Consumer n t) m.who ≡ false → (view o log).stand (Consumer n t) ≡ Some p → is_taking p ≡ true → Takes o (Then (Told m) ∷ log) n t
+    other : (p : Plan) → is_same (Consumer n t) m.who ≡ false → (view o log).stand (Consumer n t) ≡ Some p → is_taking p ≡ true →
+        Takes o (Then (Told m) ∷ log) n t
     other p e stood h = elim (was p stood h) [
       | inl f ↦ (let g : Told m ≡ Does (Consumer n t) TakeFlow = some_is (sym run.1 ∙ f) in absurd cc)
       | inr k ↦
@@ -328,10 +254,6 @@ abbrev newest : List Entry → Option Act
 newest (Then a ∷ log) = Some a
 newest _ = None
 
-abbrev behind : List Entry → List Entry
-behind [] = []
-behind (e ∷ log) = log
-
 -- the flow that it is told of was due on the link of its live subscription
 pub record WasDue (o : Options) (log : List Entry) (t l p : ℕ) : Type 0 where
   pub member : Member
@@ -345,7 +267,8 @@ due_flow : (x : Option (ℕ × ℕ)) (l p : ℕ) → flow_said x ≡ word.Flow l
 due_flow None l p h = absurd cc
 due_flow (Some f) l p h = let a : f.0 ≡ l = cc in let b : f.1 ≡ p = cc in ap Some (λ i. (a i, b i))
 
-due_live : (o : Options) (log : List Entry) (t l p : ℕ) (row : Option Member) → (view o log).consumers.rows t ≡ row → flow_at row ≡ Some (l, p) → WasDue o log t l p
+due_live : (o : Options) (log : List Entry) (t l p : ℕ) (row : Option Member) → (view o log).consumers.rows t ≡ row → flow_at row ≡ Some (l, p) →
+    WasDue o log t l p
 due_live o log t l p None is h = absurd (none_some h)
 due_live o log t l p (Some m) is h = by m.seen.engine.live refl h
   where
@@ -414,15 +337,8 @@ placed_there once o log n t l m p older is run k =
 
 pub is_placed : EndsOnce → (o : Options) (log : List Entry) (n t l m p : ℕ) → IsRun o (Then (Does (Consumer n t) (Ask l (words.SendFlow m p))) ∷ log) →
     IsPlaced o log n t l m p
-is_placed once o log n t l m p run = elim (does_from o log (Consumer n t) (Ask l (words.SendFlow m p)) run) [ inl k ↦ begun k | inr k ↦ led k ]
+is_placed once o log n t l m p run = led (led_by o n t log (Ask l (words.SendFlow m p)) run (λ e. absurd cc)).0
   where
-    begun : BeginsSo o log (Consumer n t) (Ask l (words.SendFlow m p)) → IsPlaced o log n t l m p
-    begun k =
-        let r : IsRun o (Then (Starts (Consumer n t) k.procedure) ∷ k.older) = subst (IsRun o) k.is_there run.0 in
-        let is = start_serves o k.older n t k.procedure r in
-        let f : begins (procedure.Serve is.0 n) ≡ Stays k.plan (Ask l (words.SendFlow m p)) = ap begins (sym is.1) ∙ k.leads in
-        absurd cc
-
     due_here : (older : List Entry) → log ≡ Then (Told (notice (Consumer n t) (outcome.Word (word.Flow l p)))) ∷ Then (Does (Consumer n t) TakeFlow) ∷ older →
         IsRun o (Then (Told (notice (Consumer n t) (outcome.Word (word.Flow l p)))) ∷ Then (Does (Consumer n t) TakeFlow) ∷ older) → IsPlaced o log n t l m p
     due_here older is r =

@@ -1,17 +1,13 @@
 -- Effects that neither write nor queue a frame, nor give an item to a poll.
 use Rattle.std.proofs.Common.{◌≡◌, ℕ, List, [], ◌∷◌, refl, Bool, true, false, Option, Some, None}
-use Rattle.std.specs.Option.{option_map, option_to_list}
-use Rattle.pulsar_calls.specs.declared.act.Act.{Act}
-use Rattle.pulsar_calls.specs.declared.act.Act.TheVariants.{Comes, Does, Answers, Dials}
-use Rattle.pulsar_calls.specs.declared.act.Action.TheVariants.{Ask}
+use Rattle.pulsar_laws.proofs.ActWords.{Act, Answers, Ask, Call, Comes, Consumer, Dials, Does, Producer, Queued, Said, Shown, Who}
+use Rattle.pulsar_laws.proofs.RunWords.{Chosen, Turned, View}
+use Rattle.pulsar_laws.proofs.LinkWords.{Pause}
 use Rattle.pulsar_calls.specs.declared.act.Part.TheVariants as part
-use Rattle.pulsar_calls.specs.declared.act.Who.{Who}
-use Rattle.pulsar_calls.specs.declared.act.Who.TheVariants.{Call, Consumer, Producer}
-use Rattle.pulsar_tables.specs.declared.addresses.Pause.{Pause}
-use Rattle.pulsar_tables.specs.Address.{leads_to}
-use Rattle.pulsar_calls.specs.Content.{Said, Shown, Queued, Write, Hands, Faults}
-use Rattle.pulsar_tables.specs.Effects.{connects_to, effects, ends, retries, retries_on}
-use Rattle.pulsar_tables.specs.View.{Chosen, Turned, View}
+use Rattle.pulsar_links.specs.Address.{leads_to}
+use Rattle.pulsar_calls.specs.Content.{Write, Hands, Faults}
+use Rattle.pulsar_acts.specs.Effects.{effects, ends, retries, retries_on}
+use Rattle.pulsar_links.specs.LinkEffects.{connects_to}
 
 abbrev pub is_plain : Shown → Bool
 is_plain (Write l bytes) = false
@@ -23,10 +19,6 @@ is_plain _ = true
 abbrev pub ArePlain : List Shown → Type 0
 ArePlain [] = Unit {0}
 ArePlain (x ∷ xs) = (is_plain x ≡ true) × ArePlain xs
-
-some_plain : {A : Type 0} (f : A → Shown) (row : Option A) → ((x : A) → is_plain (f x) ≡ true) → ArePlain (option_to_list (option_map f row))
-some_plain f None h = tt
-some_plain f (Some x) h = (h x, tt)
 
 ends_plain : (who : Who) (said : Said) → ArePlain (ends who said)
 ends_plain (Call t) said = (refl, tt)

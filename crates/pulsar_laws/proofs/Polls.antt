@@ -1,54 +1,43 @@
 -- A consumer is polled where the user asks for it, and its polls give what has come to it, in order.
-use Rattle.std.proofs.Common.{◌≡◌, ℕ, ◌∙◌, sym, ap, subst, List, [], ◌∷◌, ◌++◌, refl, arith, map, drop, Bool, true, false, ◌&&◌, not, cond, Option, Some, None, inl, inr, ◌==◌, append_assoc, append-nil, eq-eqb}
+use Rattle.std.proofs.Common.{◌≡◌, ℕ, ◌∙◌, sym, ap, subst, List, [], ◌∷◌, ◌++◌, refl, arith, map, Bool, true, false, ◌&&◌, not, cond, Option, Some, None, inl, inr, ◌==◌, append-nil, eq-eqb}
 use Rattle.std.proofs.lemmas.Bool.{cases_Bool, eqb-true}
 use Rattle.std.proofs.lemmas.Bool.Decides.{nat_tests}
 use Rattle.std.proofs.lemmas.Grind.{common_steps}
 use Rattle.std.specs.List.{filter, flat_map}
 use Rattle.std.specs.Option.{is_some, option_map, option_to_list}
-use Rattle.pulsar_run.specs.Order.{InOrder, NoneBelow, arranged}
+use Rattle.pulsar_laws.proofs.ActWords.{Act, Arrival, Ask, Comes, Does, Ends, FailConsumer, LinkAct, Polls, Reads, Revive, Shown, StopAll, TakeFlow, ticket_of, ToLink}
+use Rattle.pulsar_laws.proofs.RunWords.{arranged, Begins, Each, each_append, each_either, each_map, EndsOnce, Entry, IsRun, Options, rules, Then, turned, view, View}
+use Rattle.pulsar_laws.proofs.LinkWords.{answer_at, arrival_at, closed_consumer, closing, Fault, is_asked, is_body, Reply, Seat, url_at, Words}
+use Rattle.pulsar_run.specs.Order.{InOrder, NoneBelow}
 use Rattle.pulsar_run.specs.Run.{in_order, steps_done, with_effects}
 use Rattle.pulsar_run.proofs.Orders.{kinds_in_order_lem}
-use Rattle.pulsar_messages.specs.Words.{Words}
-use Rattle.pulsar_session.specs.Failures.{Fault}
-use Rattle.pulsar_session.specs.Link.{is_spent}
-use Rattle.pulsar_link.specs.Items.{Item, Given, Faulty}
-use Rattle.pulsar_link.specs.Request.{closed_consumer}
-use Rattle.pulsar_calls.specs.declared.act.Act.{Act}
-use Rattle.pulsar_calls.specs.declared.act.Act.TheVariants.{Comes, Does, Answers}
-use Rattle.pulsar_calls.specs.declared.act.Action.TheVariants.{Ask, TakeFlow, Revive, FailConsumer, StopAll}
-use Rattle.pulsar_calls.specs.declared.act.Arrival.{Arrival}
+use Rattle.pulsar_messages.specs.Claims.{is_spent}
+use Rattle.pulsar_frame.specs.Items.{Item, Given, Faulty}
 use Rattle.pulsar_calls.specs.declared.act.Arrival.TheVariants as arrivals
-use Rattle.pulsar_calls.specs.declared.act.LinkAct.{LinkAct}
-use Rattle.pulsar_calls.specs.declared.act.LinkAct.TheVariants.{Reads, Ends}
-use Rattle.pulsar_calls.specs.declared.act.Makes.{Makes}
-use Rattle.pulsar_calls.specs.declared.act.Part.TheVariants.{ToLink, Polls}
-use Rattle.pulsar_calls.specs.declared.act.Who.{Who}
-use Rattle.pulsar_calls.specs.declared.act.Who.TheVariants.{Call}
-use Rattle.pulsar_calls.specs.Content.{Heard, Poll, Shown, Hands, Faults}
-use Rattle.pulsar_tables.specs.Effects.{asked_at, effect_below, effect_rank, effects, given_at, is_before3, retries_on}
-use Rattle.pulsar_laws.specs.Laws.{EndsOnce}
-use Rattle.pulsar_agenda.specs.Run.{Entry, Begins, Then, IsRun, Step, first_of, is_empty, rules, steps, view}
-use Rattle.pulsar_tables.specs.View.{Options, Seat, View, answer_at, arrival_at, closing, is_asked, turned, url_at}
-use Rattle.pulsar_calls.specs.Who.{is_same, ticket_of}
-use Rattle.pulsar_agenda.proofs.Acts.{Each, each_append, each_map, each_either}
+use Rattle.pulsar_calls.specs.Content.{Poll, Hands, Faults}
+use Rattle.pulsar_acts.specs.Effects.{effects, retries_on}
+use Rattle.pulsar_links.specs.LinkEffects.{asked_at, given_at}
+use Rattle.pulsar_calls.specs.Order.{effect_below, effect_rank, is_before3}
+use Rattle.pulsar_acts.specs.Run.{is_empty, steps}
+use Rattle.pulsar_calls.specs.Steps.{Step}
+use Rattle.pulsar_agenda.specs.Agenda.{first_of}
 use Rattle.pulsar_agenda.proofs.Orders.{effect_order}
-use Rattle.pulsar_agenda.proofs.Single.{poll_comes}
+use Rattle.pulsar_client.proofs.Single.{poll_comes}
 use Rattle.pulsar_laws.proofs.OfLink.{IsOf, asked_of, given_of}
 use Rattle.pulsar_laws.proofs.Plain.{ArePlain, effects_plain, is_plain, turned_plain}
 use Rattle.pulsar_laws.proofs.Ticketed.{consumer_ticket}
 use Rattle.url.specs.Parts.{Parts}
-use Rattle.pulsar_link.specs.Messages.{Reply, is_body}
 use Rattle.pulsar_consumer.specs.Frames.{frame_in}
 use Rattle.pulsar_consumer.specs.Topic.{Act as Done, Lives, Hears, Loses, Fails, Ends as Over, Polls as Polled, Asks, Seen, Setup, first_of as first_item, lives_on, polled_from, seen}
 use Rattle.pulsar_consumer.specs.Laws.{given, given_by as given_in, item_in, left}
-use Rattle.pulsar_consumer.specs.declared.polled.Ending.TheVariants.{Closed, TopicEnded}
-use Rattle.pulsar_consumer.specs.declared.polled.Polled.{Polled as Answer}
+use Rattle.pulsar_incoming.specs.declared.polled.Ending.TheVariants.{Closed, TopicEnded}
+use Rattle.pulsar_incoming.specs.declared.polled.Polled.{Polled as Answer}
 use Rattle.pulsar_consumer.proofs.Histories.{polls_give_arrivals, polls_give_the_next}
 use Rattle.pulsar_consumer_table.specs.Consumers.{Member, is_closed_by, polled, polled_so}
 use Rattle.pulsar_laws.specs.ConsumerLaws.{PollsAreAnswered, PollsFollow, arrival_does, does_to, done_to, frame_does, given_by, items_given, loss_does, made_with, subscription_does}
 use Rattle.pulsar_laws.proofs.Lone.{IsKept, IsMade, IsNone, RowFrom, StandsSo, begun_rows, consumers_alone_lem, row_from}
 use Rattle.pulsar_consumer.specs.Topic as reader
-use Rattle.pulsar_consumer.specs.declared.polled.Polled.TheVariants as poll
+use Rattle.pulsar_incoming.specs.declared.polled.Polled.TheVariants as poll
 
 -- A POLL IS ANSWERED
 
@@ -103,7 +92,8 @@ none_below : (t : ℕ) (x : Shown) (ys : List Shown) → Ranks t x → NoneBelow
 none_below t x [] p = tt
 none_below t x (y ∷ ys) p = by (gives_it t y) refl (none_below t x ys p)
   where
-    by : (b : Bool) → gives_it t y ≡ b → NoneBelow effect_below x (filter (gives_it t) ys) → NoneBelow effect_below x (cond b (y ∷ filter (gives_it t) ys) (filter (gives_it t) ys))
+    by : (b : Bool) → gives_it t y ≡ b → NoneBelow effect_below x (filter (gives_it t) ys) →
+        NoneBelow effect_below x (cond b (y ∷ filter (gives_it t) ys) (filter (gives_it t) ys))
     by true e k = (not_below t y x (ranks t y e) p, k)
     by false e k = k
 
@@ -111,7 +101,8 @@ filtered_order : (t : ℕ) (xs : List Shown) → InOrder effect_below (filter (g
 filtered_order t [] = tt
 filtered_order t (x ∷ xs) = by (gives_it t x) refl (filtered_order t xs)
   where
-    by : (b : Bool) → gives_it t x ≡ b → InOrder effect_below (filter (gives_it t) xs) → InOrder effect_below (cond b (x ∷ filter (gives_it t) xs) (filter (gives_it t) xs))
+    by : (b : Bool) → gives_it t x ≡ b → InOrder effect_below (filter (gives_it t) xs) →
+        InOrder effect_below (cond b (x ∷ filter (gives_it t) xs) (filter (gives_it t) xs))
     by true e k = (none_below t x xs (ranks t x e), k)
     by false e k = k
 
@@ -162,7 +153,8 @@ with_none : (t : ℕ) (xs : List Shown) (ss : List Step) → NoItems t xs → it
 with_none t xs [] p = refl
 with_none t xs (s ∷ ss) p = ap (λ items. items_given t ss ++ items) (gives_none t s.effects xs p)
 
-given_same : (o : Options) (t : ℕ) (a : Act) (log : List Entry) → NoItems t (effects (view o log) a) → items_given t (steps o (Then a ∷ log)) ≡ items_given t (steps o log)
+given_same : (o : Options) (t : ℕ) (a : Act) (log : List Entry) → NoItems t (effects (view o log) a) →
+    items_given t (steps o (Then a ∷ log)) ≡ items_given t (steps o log)
 given_same o t a log p =
     given_done t (steps_done rules o (Then a ∷ log))
     ∙ with_none t (effects (view o log) a) (steps_done rules o log) p

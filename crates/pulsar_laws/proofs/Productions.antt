@@ -1,32 +1,20 @@
 -- Where the making of a producer fails, and a send: with the fault of the news that it was told, by what a reply says, or with what it
 -- kept to tell later.
 use Rattle.std.proofs.Common.{◌≡◌, List, [], ◌∷◌, refl, Bool, true, false, cond, Option, Some, None, Result, Ok, Err}
+use Rattle.pulsar_laws.proofs.PlanWords.{Building, Built, Command, Errand, News as Granting, Making, Heard as News, Order, SearchTurn, Sending, Served, Ways}
+use Rattle.pulsar_laws.proofs.LinkWords.{Failure, Fault, Named, OfConnection}
 use Rattle.pulsar_messages.specs.Content.{ProducerMessageValues}
-use Rattle.pulsar_session.specs.Failures.{Failure, Fault, OfConnection}
-use Rattle.pulsar_session.specs.Reply.{Reply as Content, is_body}
-use Rattle.pulsar_plans.specs.Address.{Named}
-use Rattle.pulsar_plans.specs.Plans.{is_lost, look_told, made_gets, made_told, names_begins, names_told, verdict}
-use Rattle.pulsar_plans.specs.Replies.{unexpected}
-use Rattle.pulsar_plans.specs.declared.making.Command.{Command}
-use Rattle.pulsar_plans.specs.declared.making.Making.{Making}
-use Rattle.pulsar_plans.specs.declared.making.Served.{Served}
-use Rattle.pulsar_plans.specs.declared.turn.Outcome.{Outcome as News}
-use Rattle.pulsar_plans.specs.declared.turn.Outcome.TheVariants as news
-use Rattle.pulsar_plans.specs.declared.turn.Turn.{Turn as SearchTurn}
-use Rattle.pulsar_plans.specs.declared.turn.Turn.TheVariants as search_turn
-use Rattle.pulsar_plans.specs.declared.turn.Ways.{Ways}
-use Rattle.pulsar_producer.specs.Errors.{in_producer}
+use Rattle.pulsar_frame.specs.Reply.{Reply as Content, is_body}
+use Rattle.pulsar_searches.specs.Plans.{is_lost, look_told, made_gets, made_told, names_begins, names_told, verdict}
+use Rattle.pulsar_searches.specs.Replies.{unexpected}
+use Rattle.pulsar_searches.specs.declared.turn.Outcome.TheVariants as news
+use Rattle.pulsar_searches.specs.declared.turn.Turn.TheVariants as search_turn
+use Rattle.pulsar_outgoing.specs.Errors.{in_producer}
 use Rattle.pulsar_producer.specs.Plans.{Builds, Sent, build_begins, build_closes, build_made, build_next, build_told, fault_told, not_drawn, not_queued, or_else, receipt, send_ends, send_makes, send_recalls, send_remakes, send_told}
-use Rattle.pulsar_producer.specs.declared.building.Building.{Building}
 use Rattle.pulsar_producer.specs.declared.building.Building.TheVariants as build
-use Rattle.pulsar_producer.specs.declared.building.Order.{Order}
-use Rattle.pulsar_producer.specs.declared.content.Built.{Built}
-use Rattle.pulsar_producer.specs.declared.deed.News.{News as Granting}
-use Rattle.pulsar_producer.specs.declared.deed.News.TheVariants as granting
+use Rattle.pulsar_outgoing.specs.declared.news.News.TheVariants as granting
 use Rattle.pulsar_producer.specs.declared.deed.Step.{Step}
 use Rattle.pulsar_producer.specs.declared.deed.Step.TheVariants as step
-use Rattle.pulsar_producer.specs.declared.sending.Errand.{Errand}
-use Rattle.pulsar_producer.specs.declared.sending.Sending.{Sending}
 use Rattle.pulsar_producer.specs.declared.sending.Sending.TheVariants as send
 use Rattle.pulsar_laws.proofs.Searches.{Breaks, BySearch, FailsBy, Turns, look_fails, made_fails, names_begin, naming_fails}
 

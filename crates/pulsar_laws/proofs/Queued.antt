@@ -1,25 +1,25 @@
 -- The frame that is queued for a request spells it, and it is read again.
-use Rattle.std.proofs.Common.{◌≡◌, ◌∙◌, sym, ap, subst, ℕ, ◌+◌, ◌-◌, ◌<◌, ◌≤◌, arith, List, [], ◌∷◌, ◌++◌, refl, length, Bool, true, false, ◌&&◌, nat_lt, cond, Option, Some, None, Result, Ok, Err}
+use Rattle.std.proofs.Common.{◌≡◌, ◌∙◌, sym, ap, subst, ℕ, ◌+◌, ◌-◌, ◌≤◌, arith, List, [], ◌∷◌, ◌++◌, refl, length, Bool, true, false, ◌&&◌, nat_lt, cond, Option, Some, None, Result, Ok, Err}
 use Rattle.std.proofs.lemmas.Bool.Decides.{nat_tests}
 use Rattle.std.specs.Prelude.{slice_get}
-use Rattle.pulsar_wire.specs.declared.error.ConnectionError.{ConnectionError}
+use Rattle.pulsar_laws.proofs.RunWords.{calls_of, view}
+use Rattle.pulsar_laws.proofs.LinkWords.{ConnectionError, is_numbered, Words}
 use Rattle.pulsar_wire.specs.declared.error.ConnectionError.TheVariants as error
 use Rattle.pulsar_wire.specs.declared.error.Reason.TheVariants as reason
 use Rattle.pulsar_frame.proofs.Written.{read_again}
 use Rattle.pulsar_frame.specs.Frame.{settled_message}
 use Rattle.pulsar_messages.specs.Words as words
-use Rattle.pulsar_messages.specs.Words.{Words, is_numbered, when_full}
-use Rattle.pulsar_requests.specs.declared.awaited.Claim.{Claim}
+use Rattle.pulsar_messages.specs.Words.{when_full}
+use Rattle.pulsar_wire.specs.declared.awaited.Claim.{Claim}
 use Rattle.pulsar_session.specs.declared.states.Asked.TheVariants as placed
 use Rattle.pulsar_session.specs.declared.states.Stage.{Stage}
 use Rattle.pulsar_session.specs.declared.states.Stage.TheVariants.{Dialing, Handshaking, Ready, Over}
 use Rattle.pulsar_session.specs.Laws.{frames_queued, frames_written}
-use Rattle.pulsar_session.specs.Link.{Seen, after_of, answer_of, can_wait, claim, drawn, frame_at, frame_for, has_room, is_over, is_ready, is_spent, message_of, number_for, place_in, put_frame, queue, request, ticked}
+use Rattle.pulsar_session.specs.Link.{Seen, after_of, answer_of, can_wait, drawn, frame_at, frame_for, has_room, is_over, is_ready, message_of, number_for, place_in, put_frame, queue, request, ticked}
+use Rattle.pulsar_messages.specs.Claims.{claim, is_spent}
 use Rattle.pulsar_session.specs.Link as session
 use Rattle.pulsar_session.proofs.Settled.{places_count, written_in_order}
-use Rattle.pulsar_laws.specs.Laws.{calls_of}
 use Rattle.pulsar_laws.specs.ProducerLaws.{FramesAreReadAgain, QueuedAsAsked}
-use Rattle.pulsar_agenda.specs.Run.{view}
 use Rattle.pulsar_laws.proofs.Alone.{links_alone_lem}
 
 slice_end : (xs : List (List ℕ)) (x : List ℕ) → slice_get (xs ++ x ∷ []) (length xs) ≡ Some x

@@ -5,39 +5,25 @@ use Rattle.std.proofs.lemmas.Bool.Decides.{nat_tests}
 use Rattle.std.proofs.lemmas.List.Sums.{sum_by-cons}
 use Rattle.std.specs.List.{list_any}
 use Rattle.std.specs.Option.{is_some, option_map}
+use Rattle.pulsar_laws.proofs.ActWords.{Act, Ask, Consumer, Does, numbers_from, Revive, ticket_of, Who}
+use Rattle.pulsar_laws.proofs.RunWords.{Begins, Each, each_map, EndsOnce, Entry, IsRun, Options, Then, view, View}
+use Rattle.pulsar_laws.proofs.LinkWords.{answer_at, is_numbered, place_of, Seat, seat_asked}
 use Rattle.pulsar_frame.specs.Frame.{front}
 use Rattle.pulsar_messages.specs.Words as words
-use Rattle.pulsar_messages.specs.Words.{Words, is_numbered}
-use Rattle.pulsar_requests.specs.declared.awaited.Awaited.{Awaited}
+use Rattle.pulsar_wire.specs.declared.awaited.Awaited.{Awaited}
 use Rattle.pulsar_session.specs.declared.states.Asked.TheVariants as placed
 use Rattle.pulsar_session.specs.Laws.{IsInLine}
 use Rattle.pulsar_session.specs.Link.{Opens, Feeds, Takes, Asks, Drains, Closes, Seen, after as after', has_room, number_for, ticked}
 use Rattle.pulsar_consumer.specs.Topic.{link_of}
-use Rattle.pulsar_calls.specs.declared.act.Act.{Act}
-use Rattle.pulsar_calls.specs.declared.act.Act.TheVariants.{Does}
-use Rattle.pulsar_calls.specs.declared.act.Action.TheVariants.{Ask, Revive}
-use Rattle.pulsar_calls.specs.declared.act.Who.{Who}
-use Rattle.pulsar_calls.specs.declared.act.Who.TheVariants.{Consumer}
-use Rattle.pulsar_calls.specs.Content.{numbers_from}
-use Rattle.pulsar_calls.specs.Who.{ticket_of}
 use Rattle.pulsar_consumer_table.specs.Consumers.{Member}
-use Rattle.pulsar_tables.specs.View.{Options, Seat, View, answer_at, place_of, seat_asked}
-use Rattle.pulsar_agenda.specs.Run.{Entry, Begins, Then, IsRun, view}
-use Rattle.pulsar_agenda.proofs.Acts.{Each, each_map}
+use Rattle.pulsar_laws.proofs.Cases.{none_some, some_is}
 use Rattle.pulsar_laws.specs.ConsumerLaws.{Flow, FlowsAreQueued, flows_after, flows_since, is_so, permits_of, permits_where, place_on, stands, was_queued}
-use Rattle.pulsar_laws.specs.Laws.{EndsOnce}
 use Rattle.pulsar_laws.proofs.Claiming.{answer_adds, answer_grows, drains_grows, end_of_line, feeds_same, opens_grows, taken_grows}
 use Rattle.pulsar_laws.proofs.Lone.{begun_rows}
 use Rattle.pulsar_laws.proofs.Placed.{IsPlaced, is_placed}
 use Rattle.pulsar_laws.proofs.Ready.{IsAt, Keeps, in_line, more_at}
 use Rattle.pulsar_laws.proofs.Riding.{IsFresh, LinkFrom, link_from, none_from, rides_on}
 use Rattle.pulsar_laws.proofs.Stopping.{is_started}
-
-none_some : {A : Type 0} {x : A} → None ≡ Some x → ⊥
-none_some {A} {x} h = cc
-
-some_is : {A : Type 0} {x y : A} → Some x ≡ Some y → x ≡ y
-some_is {A} {x} {y} h = cc
 
 -- THE END OF THE LINE moves on
 
@@ -152,7 +138,8 @@ some_place s = by (has_room s)
 -- a flow is asked for
 asked_below : (now m p : ℕ) (who : Who) (seat : Seat) (fs : List Flow) → IsInLine seat.seen →
     answer_at now (words.SendFlow m p) (Some seat) ≡ Ok (place_on seat.seen) → AreBelow fs seat.seen →
-    AreBelow (record { place = place_of (answer_at now (words.SendFlow m p) (Some seat)); permits = p } ∷ fs) (seat_asked who now (words.SendFlow m p) seat).seen
+    AreBelow (record { place = place_of (answer_at now (words.SendFlow m p) (Some seat)); permits = p } ∷ fs)
+    (seat_asked who now (words.SendFlow m p) seat).seen
 asked_below now m p who seat fs r e h =
     let s : Seen = seat.seen in
     let w : Seen = after' (Asks now (words.SendFlow m p)) s in
@@ -210,7 +197,8 @@ module _ (once : EndsOnce) (o : Options) (log : List Entry) (t : ℕ) (was : Flo
         subst (λ b. IsAt (AreBelow (cond b (record { place = place_of (answer_at v.now (words.SendFlow m' p) (v.links.live l)); permits = p } ∷ fs) fs))
         ((view o (Then a ∷ log)).links.live k)) (sym d)
         (subst (λ j. IsAt (AreBelow (record { place = place_of (answer_at v.now (words.SendFlow m' p) (v.links.live l)); permits = p } ∷ fs))
-        ((view o (Then a ∷ log)).links.live j)) link (new l m' p n u x.seat x.live x.answer (subst (λ j. IsAt (AreBelow fs) (v.links.live j)) (sym link) (was.below m k e on)))))
+        ((view o (Then a ∷ log)).links.live j)) link (new l m' p n u x.seat x.live x.answer
+        (subst (λ j. IsAt (AreBelow fs) (v.links.live j)) (sym link) (was.below m k e on)))))
     | inr d ↦
         subst (λ b. IsAt (AreBelow (cond b (record { place = place_of (answer_at v.now (words.SendFlow m' p) (v.links.live l)); permits = p } ∷ fs) fs))
         ((view o (Then (Does (Consumer n u) (Ask l (words.SendFlow m' p))) ∷ log)).links.live k)) (sym d)

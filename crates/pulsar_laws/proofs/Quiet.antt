@@ -1,16 +1,8 @@
 -- What neither starts, does nor ends anything: all that arises but from plans and calls.
 use Rattle.std.proofs.Common.{◌≡◌, refl, Bool, true, false}
-use Rattle.pulsar_calls.specs.declared.act.Act.{Act}
-use Rattle.pulsar_calls.specs.declared.act.Act.TheVariants.{Comes, Starts, Told, Does, Answers, Dials}
-use Rattle.pulsar_calls.specs.declared.act.Action.{Action}
-use Rattle.pulsar_calls.specs.declared.act.Part.{Part}
-use Rattle.pulsar_calls.specs.declared.act.Part.TheVariants.{Calls, ToLink}
-use Rattle.pulsar_calls.specs.declared.act.Who.{Who}
-use Rattle.pulsar_calls.specs.declared.act.Who.TheVariants.{Call, Consumer, Producer}
-use Rattle.pulsar_tables.specs.Rules.{at_once, performs}
-use Rattle.pulsar_tables.specs.View.{View}
-use Rattle.pulsar_agenda.proofs.Acts.{Each, each_map}
-use Rattle.pulsar_agenda.proofs.Raising.{IsRaised, OfStart, OfVerdict, may, raises}
+use Rattle.pulsar_laws.proofs.ActWords.{Act, Action, Answers, Call, Calls, Comes, Consumer, Dials, Does, Part, Producer, Starts, Told, ToLink, Who}
+use Rattle.pulsar_laws.proofs.RunWords.{at_once, Each, each_map, performs, View}
+use Rattle.pulsar_client.proofs.Raising.{IsRaised, OfStart, OfVerdict, may, raises}
 
 abbrev pub is_quiet : Act → Bool
 is_quiet (Comes (ToLink l x)) = true

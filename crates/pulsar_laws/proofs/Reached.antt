@@ -1,46 +1,25 @@
 -- The link on which a consumer is subscribed was ready, since what was asked there was not refused.
 use Rattle.std.proofs.Common.{◌≡◌, ◌⊎◌, inl, inr, ◌∙◌, sym, ap, subst, ℕ, List, [], ◌∷◌, refl, Bool, true, false, Option, Some, None, Result, Ok, Err}
 use Rattle.std.specs.Prelude.{not}
-use Rattle.std.proofs.lemmas.Bool.{cases_Bool}
-use Rattle.pulsar_wire.specs.declared.error.ConnectionError.{ConnectionError}
-use Rattle.pulsar_messages.specs.Words.{Words}
-use Rattle.pulsar_session.specs.Failures.{Exhausted, Fault, fault}
+use Rattle.pulsar_laws.proofs.ActWords.{Act, Action, Answers, Ask, Does, is_same, Notice, Outcome, Revive, Told, Verdict, Who}
+use Rattle.pulsar_laws.proofs.PlanWords.{begins, fails, Gives, Plan, Stays, told, Turn}
+use Rattle.pulsar_laws.proofs.RunWords.{agenda, Answered, Begins, Entry, first, follows, follows_some, IsRun, notice, Options, tells, Then, told_some, view}
+use Rattle.pulsar_laws.proofs.LinkWords.{answer_at, ConnectionError, Exhausted, Fault, told_at, Words}
+use Rattle.pulsar_wire.specs.Failures.{fault}
 use Rattle.pulsar_session.specs.declared.states.Asked.{Asked as Placed}
-use Rattle.pulsar_calls.specs.declared.act.Act.{Act}
-use Rattle.pulsar_calls.specs.declared.act.Act.TheVariants.{Starts, Told, Does, Answers}
-use Rattle.pulsar_calls.specs.declared.act.Action.{Action}
-use Rattle.pulsar_calls.specs.declared.act.Action.TheVariants.{Ask, Revive}
 use Rattle.pulsar_calls.specs.declared.act.Makes.TheVariants as makes
-use Rattle.pulsar_calls.specs.declared.act.Notice.{Notice}
-use Rattle.pulsar_calls.specs.declared.act.Outcome.{Outcome}
 use Rattle.pulsar_calls.specs.declared.act.Outcome.TheVariants as outcome
-use Rattle.pulsar_calls.specs.declared.act.Procedure.{Procedure}
-use Rattle.pulsar_calls.specs.declared.act.Verdict.{Verdict}
-use Rattle.pulsar_calls.specs.declared.act.Who.{Who}
 use Rattle.pulsar_calls.specs.declared.content.Joining.{Joining}
-use Rattle.pulsar_calls.specs.Who.{is_same}
-use Rattle.pulsar_procedures.specs.declared.plan.Plan.{Plan}
-use Rattle.pulsar_procedures.specs.declared.plan.Turn.{Turn}
-use Rattle.pulsar_procedures.specs.declared.plan.Turn.TheVariants.{Stays, Gives}
-use Rattle.pulsar_procedures.specs.Plan.{begins, fails, told}
-use Rattle.pulsar_tables.specs.Rules.{follows, follows_some, notice, tells, told_at}
-use Rattle.pulsar_tables.specs.View.{Options, answer_at, stays, stays_some, told_some}
-use Rattle.pulsar_agenda.specs.Run.{Entry, Begins, Then, IsRun, agenda, first, view}
-use Rattle.pulsar_agenda.proofs.Acts.{begun_same}
-use Rattle.pulsar_laws.specs.Laws.{Answered, IsLed}
+use Rattle.pulsar_laws.proofs.Standing.{moves, run_older, stands_so}
+use Rattle.pulsar_laws.proofs.Cases.{none_some, some_is}
+use Rattle.pulsar_laws.specs.Laws.{IsLed}
 use Rattle.pulsar_laws.proofs.Receipts.{run_behind}
 use Rattle.pulsar_laws.proofs.Flows.{first_at}
 use Rattle.pulsar_laws.proofs.Granted.{BeginsSo, IsLedSo, does_from}
 use Rattle.pulsar_laws.proofs.Led.{deeds_follow_lem}
 use Rattle.pulsar_laws.proofs.Ready.{WasReady, more_ready, takes_ready}
-use Rattle.pulsar_laws.proofs.Same.{same_self, same_who}
+use Rattle.pulsar_laws.proofs.Same.{same_self}
 use Rattle.pulsar_laws.proofs.Subscribed.{From, LinkSo, MakesSo, Plain, TurnSo, Waits, asks_on, begins_plain, is_consumer, is_reviving, refuses, told_on}
-
-none_some : {A : Type 0} {x : A} → None ≡ Some x → ⊥
-none_some {A} {x} h = cc
-
-some_is : {A : Type 0} {x y : A} → Some x ≡ Some y → x ≡ y
-some_is {A} {x} {y} h = cc
 
 -- what it asks there is done next, or it is told next that this was refused
 abbrev pub Next : Options → List Entry → Who → ℕ → Type 0
@@ -96,67 +75,14 @@ asks_next o log w p l r rev = by (answer_at (view o log).now r ((view o log).lin
       ),
     )
 
-module _ (o : Options) (log : List Entry) (k : AreReached o log) where
-  -- it does something
-  does_next : (who : Who) (action : Action) (w : Who) (p : Plan) (l : ℕ) → first (agenda o log) ≡ Some (Does who action) → is_reviving p ≡ false →
-      Next o log w l → Reached o (Then (Does who action) ∷ log) w p l
-  does_next who action w p l fits rev (inl (r, next)) =
-      let f : Does w (Ask l r) ≡ Does who action = some_is (sym next ∙ fits) in
-      subst (λ x. Reached o (Then x ∷ log) w p l) f (asks_next o log w p l r rev)
-  does_next who action w p l fits rev (inr (cause, next)) =
-      (let f : Some (Told (notice w (outcome.Refused cause))) ≡ Some (Does who action) = sym next ∙ fits in absurd cc)
-
-  -- it is told something
-  turn_next : (w : Who) (p q : Plan) (u : Outcome) (t : Turn Plan Verdict) (l : ℕ) → first (agenda o log) ≡ Some (Told (notice w u)) →
-      (view o log).stand w ≡ Some p → told p u ≡ t → TurnSo p u t → stays t ≡ Some q → asks_on q ≡ Some l →
-      Reached o (Then (Told (notice w u)) ∷ log) w q l
-  turn_next w p q u (Gives v) l fits stood is so h e = absurd (none_some h)
-  turn_next w p q u (Stays x action) l fits stood is so h e = by (asks_on x) refl so.1
-    where
-      same : x ≡ q
-      same = some_is h
-
-      later : (m : ℕ) → m ≡ l → Reached o (Then (Told (notice w u)) ∷ log) w x m → Reached o (Then (Told (notice w u)) ∷ log) w q l
-      later m e r = subst (λ y. Reached o (Then (Told (notice w u)) ∷ log) w y l) same (subst (Reached o (Then (Told (notice w u)) ∷ log) w x) e r)
-
-      by : (j : Option ℕ) → asks_on x ≡ j → LinkSo p u j x action → Reached o (Then (Told (notice w u)) ∷ log) w q l
-      by None f g = absurd (none_some (sym f ∙ ap asks_on same ∙ e))
-      by (Some m) f (inl from) =
-          later m (some_is (sym f ∙ ap asks_on same ∙ e))
-          (inl (more_ready o (Then (Told (notice w u))) log m (from_ready o log w u p m fits from.1 (k.reached w p m stood from.0))))
-      by (Some m) f (inr (r, asks, rev)) =
-          later m (some_is (sym f ∙ ap asks_on same ∙ e))
-          (inr (
-            rev,
-            inl (
-              r,
-              first_at o log (Told (notice w u)) (Does w (Ask m r))
-                  (ap (λ row. follows_some w (told_some row u)) stood ∙ ap (λ t. follows w t) is ∙ ap (λ a. follows w (Stays x a)) asks),
-            ),
-          ))
-
-  told_next : (w : Who) (q : Plan) (u : Outcome) (row : Option Plan) (l : ℕ) → first (agenda o log) ≡ Some (Told (notice w u)) →
-      (view o log).stand w ≡ row → stays_some (told_some row u) ≡ Some q → asks_on q ≡ Some l → Reached o (Then (Told (notice w u)) ∷ log) w q l
-  told_next w q u None l fits stood h e = absurd (none_some h)
-  told_next w q u (Some p) l fits stood h e = turn_next w p q u (told p u) l fits stood refl (told_on p u (k.waits w p stood)) h e
-
--- ALONG A LOG
-
-none_reached : (o : Options) → AreReached o []
-none_reached o = record { waits = λ w p h. absurd (none_some h); reached = λ w p l h e. absurd (none_some h) }
-
--- where it stands as before
-same_reached : (o : Options) (log : List Entry) (a : Act) → AreReached o log → first (agenda o log) ≡ Some a →
-    ((w : Who) (l : ℕ) (p : Plan) → is_reviving p ≡ false → Next o log w l → Reached o (Then a ∷ log) w p l) →
-    ((w : Who) → (view o (Then a ∷ log)).stand w ≡ (view o log).stand w) → AreReached o (Then a ∷ log)
-same_reached o log a k fits own same = record {
-  waits = λ w p h. k.waits w p (sym (same w) ∙ h);
-  reached = λ w p l h e. by w p l (k.reached w p l (sym (same w) ∙ h) e);
-}
-  where
-    by : (w : Who) (p : Plan) (l : ℕ) → Reached o log w p l → Reached o (Then a ∷ log) w p l
-    by w p l (inl ready) = inl (more_ready o (Then a) log l ready)
-    by w p l (inr (rev, next)) = own w l p rev next
+-- it does something
+does_next : (o : Options) (log : List Entry) (who : Who) (action : Action) (w : Who) (p : Plan) (l : ℕ) → first (agenda o log) ≡ Some (Does who action) →
+    is_reviving p ≡ false → Next o log w l → Reached o (Then (Does who action) ∷ log) w p l
+does_next o log who action w p l fits rev (inl (r, next)) =
+    let f : Does w (Ask l r) ≡ Does who action = some_is (sym next ∙ fits) in
+    subst (λ x. Reached o (Then x ∷ log) w p l) f (asks_next o log w p l r rev)
+does_next o log who action w p l fits rev (inr (cause, next)) =
+    (let f : Some (Told (notice w (outcome.Refused cause))) ≡ Some (Does who action) = sym next ∙ fits in absurd cc)
 
 -- an act that is neither done nor told is not its own
 abbrev is_apart : Act → Bool
@@ -170,88 +96,69 @@ apart_next o log a w l h fits (inl (r, next)) =
 apart_next o log a w l h fits (inr (cause, next)) =
     let f : a ≡ Told (notice w (outcome.Refused cause)) = some_is (sym fits ∙ next) in let g : true ≡ false = sym h ∙ ap is_apart f in cc
 
-stays_plain : (t : Turn Plan Verdict) (q : Plan) → Plain t → stays t ≡ Some q → Waits q × (asks_on q ≡ None)
-stays_plain (Gives v) q k h = absurd (none_some h)
-stays_plain (Stays x action) q k h = subst (λ y. Waits y × (asks_on y ≡ None)) (some_is h) (k.0, k.1)
-
-turn_waits : (p : Plan) (u : Outcome) (t : Turn Plan Verdict) (q : Plan) → TurnSo p u t → stays t ≡ Some q → Waits q
-turn_waits p u (Gives v) q k h = absurd (none_some h)
-turn_waits p u (Stays x action) q k h = subst Waits (some_is h) k.0
-
-starts_reached : (o : Options) (log : List Entry) (who : Who) (pr : Procedure) → AreReached o log → first (agenda o log) ≡ Some (Starts who pr) →
-    AreReached o (Then (Starts who pr) ∷ log)
-starts_reached o log who pr k fits = record {
-  waits = λ w p h. elim (cases_Bool (is_same w who)) [
-    | inl e ↦ (stays_plain (begins pr) p (begins_plain pr) (rw e at h)).0
-    | inr e ↦ k.waits w p (rw e at h)
-  ];
-  reached = λ w p l h e. elim (cases_Bool (is_same w who)) [
-    | inl d ↦ absurd (none_some (sym (stays_plain (begins pr) p (begins_plain pr) (rw d at h)).1 ∙ e))
-    | inr d ↦ by w p l (k.reached w p l (rw d at h) e)
-  ];
-}
-  where
-    by : (w : Who) (p : Plan) (l : ℕ) → Reached o log w p l → Reached o (Then (Starts who pr) ∷ log) w p l
-    by w p l (inl ready) = inl (more_ready o (Then (Starts who pr)) log l ready)
-    by w p l (inr (rev, next)) = absurd (apart_next o log (Starts who pr) w l refl fits next)
-
-told_waits : (o : Options) (log : List Entry) (k : AreReached o log) (w : Who) (q : Plan) (u : Outcome) (row : Option Plan) → (view o log).stand w ≡ row →
-    stays_some (told_some row u) ≡ Some q → Waits q
-told_waits o log k w q u None stood h = absurd (none_some h)
-told_waits o log k w q u (Some p) stood h = turn_waits p u (told p u) q (told_on p u (k.waits w p stood)) h
-
 -- another is told something
-other_told : (o : Options) (log : List Entry) (n : Notice) (w : Who) (p : Plan) (l : ℕ) → first (agenda o log) ≡ Some (Told n) → is_same w n.who ≡ false →
-    Reached o log w p l → Reached o (Then (Told n) ∷ log) w p l
-other_told o log n w p l fits d (inl ready) = inl (more_ready o (Then (Told n)) log l ready)
-other_told o log n w p l fits d (inr (rev, inl (r, next))) = (let f : Told n ≡ Does w (Ask l r) = some_is (sym fits ∙ next) in absurd cc)
-other_told o log n w p l fits d (inr (rev, inr (cause, next))) =
+other_told : (o : Options) (log : List Entry) (n : Notice) (w : Who) (l : ℕ) → first (agenda o log) ≡ Some (Told n) → is_same w n.who ≡ false →
+    Next o log w l → ⊥
+other_told o log n w l fits d (inl (r, next)) = (let f : Told n ≡ Does w (Ask l r) = some_is (sym fits ∙ next) in cc)
+other_told o log n w l fits d (inr (cause, next)) =
     let f : Told n ≡ Told (notice w (outcome.Refused cause)) = some_is (sym fits ∙ next) in
     let g : n.who ≡ w = some_is (ap heard f) in
     let s : is_same w n.who ≡ true = ap (is_same w) g ∙ same_self w in
     let x : true ≡ false = sym s ∙ d in
-    absurd cc
+    cc
 
-told_reached : (o : Options) (log : List Entry) (n : Notice) → AreReached o log → first (agenda o log) ≡ Some (Told n) → AreReached o (Then (Told n) ∷ log)
-told_reached o log n k fits = record {
-  waits = λ w p h. elim (cases_Bool (is_same w n.who)) [
-    | inl d ↦ told_waits o log k w p n.outcome ((view o log).stand w) refl (rw d at h)
-    | inr d ↦ k.waits w p (rw d at h)
-  ];
-  reached = λ w p l h e. elim (cases_Bool (is_same w n.who)) [
-    | inl d ↦ own w p l (same_who w n.who d) (rw d at h) e
-    | inr d ↦ other_told o log n w p l fits d (k.reached w p l (rw d at h) e)
-  ];
-}
-  where
-    own : (w : Who) (p : Plan) (l : ℕ) → w ≡ n.who → stays_some (told_some ((view o log).stand w) n.outcome) ≡ Some p → asks_on p ≡ Some l →
-        Reached o (Then (Told n) ∷ log) w p l
-    own w p l s h e =
-        let is : Told (notice w n.outcome) ≡ Told n = ap (λ x. Told (notice x n.outcome)) s in
-        subst (λ x. Reached o (Then x ∷ log) w p l) is
-        (told_next o log k w p n.outcome ((view o log).stand w) l (fits ∙ ap Some (sym is)) refl h e)
+-- ALONG A LOG
+
+module _ (o : Options) (w : Who) where
+  waits_run : (log : List Entry) (p : Plan) → IsRun o log → (view o log).stand w ≡ Some p → Waits p
+  waits_run =
+      stands_so o w (IsRun o) (run_older o) (λ log p. Waits p) (λ e log p m r s k. k) (λ log q p a r e. (subst Plain e (begins_plain q)).0)
+      (λ log b u p a r s k e. (subst (TurnSo b u) e (told_on b u k)).0)
+
+  abbrev ReachedAt : List Entry → Plan → Type 0
+  ReachedAt log p = (l : ℕ) → asks_on p ≡ Some l → Reached o log w p l
+
+  more : (x : Entry) (log : List Entry) (p : Plan) → moves w x ≡ false → IsRun o (x ∷ log) → (view o log).stand w ≡ Some p → ReachedAt log p →
+      ReachedAt (x ∷ log) p
+  more x log p m run s k l h = by (k l h)
+    where
+      next_on : (x : Entry) → moves w x ≡ false → IsRun o (x ∷ log) → is_reviving p ≡ false → Next o log w l → Reached o (x ∷ log) w p l
+      next_on (Begins e) m run rev (inl (r, next)) = absurd (none_some (sym run.1 ∙ next))
+      next_on (Begins e) m run rev (inr (cause, next)) = absurd (none_some (sym run.1 ∙ next))
+      next_on (Then (Does who action)) m run rev next = does_next o log who action w p l run.1 rev next
+      next_on (Then (Told n)) m run rev next = absurd (other_told o log n w l run.1 m next)
+      next_on (Then a) m run rev next = absurd (apart_next o log a w l refl run.1 next)
+
+      by : Reached o log w p l → Reached o (x ∷ log) w p l
+      by (inl ready) = inl (more_ready o x log l ready)
+      by (inr (rev, next)) = next_on x m run rev next
+
+  -- it is told something
+  goes_on : (log : List Entry) (b : Plan) (u : Outcome) (p : Plan) (a : Action) → IsRun o (Then (Told (notice w u)) ∷ log) → (view o log).stand w ≡ Some b →
+      ReachedAt log b → told b u ≡ Stays p a → ReachedAt (Then (Told (notice w u)) ∷ log) p
+  goes_on log b u p a run s k e l h = by (asks_on p) h (subst (TurnSo b u) e (told_on b u (waits_run log b run.0 s))).1
+    where
+      by : (j : Option ℕ) → j ≡ Some l → LinkSo b u j p a → Reached o (Then (Told (notice w u)) ∷ log) w p l
+      by None f g = absurd (none_some f)
+      by (Some m) f g = subst (Reached o (Then (Told (notice w u)) ∷ log) w p) (some_is f) (at m g)
+        where
+          at : (m : ℕ) → LinkSo b u (Some m) p a → Reached o (Then (Told (notice w u)) ∷ log) w p m
+          at m (inl from) = inl (more_ready o (Then (Told (notice w u))) log m (from_ready o log w u b m run.1 from.1 (k m from.0)))
+          at m (inr (r, asks, rev)) = inr (
+            rev,
+            inl (
+              r,
+              first_at o log (Told (notice w u)) (Does w (Ask m r))
+                  (ap (λ row. follows_some w (told_some row u)) s ∙ ap (λ t. follows w t) e ∙ ap (λ x. follows w (Stays p x)) asks),
+            ),
+          )
 
 pub reached_run : (o : Options) (log : List Entry) → IsRun o log → AreReached o log
-reached_run o [] run = none_reached o
-reached_run o (Begins e ∷ log) run =
-    let k = reached_run o log run.0 in
-    let s = begun_same (λ v. v.stand) e (view o log) refl in
-    record {
-      waits = λ w p h. k.waits w p (sym (ap (λ f. f w) s) ∙ h);
-      reached = λ w p l h d. by w p l (k.reached w p l (sym (ap (λ f. f w) s) ∙ h) d);
-    }
-  where
-    by : (w : Who) (p : Plan) (l : ℕ) → Reached o log w p l → Reached o (Begins e ∷ log) w p l
-    by w p l (inl ready) = inl (more_ready o (Begins e) log l ready)
-    by w p l (inr (rev, inl (r, next))) = absurd (none_some (sym run.1 ∙ next))
-    by w p l (inr (rev, inr (cause, next))) = absurd (none_some (sym run.1 ∙ next))
-reached_run o (Then (Starts who pr) ∷ log) run = starts_reached o log who pr (reached_run o log run.0) run.1
-reached_run o (Then (Told n) ∷ log) run = told_reached o log n (reached_run o log run.0) run.1
-reached_run o (Then (Does who action) ∷ log) run =
-    let k = reached_run o log run.0 in
-    same_reached o log (Does who action) k run.1 (λ w l p rev next. does_next o log k who action w p l run.1 rev next) (λ w. refl)
-reached_run o (Then a ∷ log) run =
-    same_reached o log a (reached_run o log run.0) run.1 (λ w l p rev next. absurd (apart_next o log a w l refl run.1 next)) (λ w. refl)
+reached_run o log run = record {
+  waits = λ w p h. waits_run o w log p run h;
+  reached = λ w p l h d. stands_so o w (IsRun o) (run_older o) (ReachedAt o w) (more o w)
+      (λ log q p a r e l h. absurd (none_some (sym (subst Plain e (begins_plain q)).1 ∙ h))) (goes_on o w) log p run h l d;
+}
 
 -- SO WHERE A SUBSCRIPTION IS MADE
 
@@ -279,7 +186,8 @@ revives_ready o log w l run = elim (does_from o log w (Revive l) run) [ inl k �
         (told_ready o k.older w k.outcome k.before l r k.stood (turn_acts k.before k.outcome (told k.before k.outcome) k.plan l so k.leads))
 
 -- and for the first time
-makes_of : (p : Plan) (u : Outcome) (t : Turn Plan Verdict) (v : Verdict) (j : Joining) → TurnSo p u t → t ≡ Gives v → v.makes ≡ makes.Consumer j → From p u j.link
+makes_of : (p : Plan) (u : Outcome) (t : Turn Plan Verdict) (v : Verdict) (j : Joining) → TurnSo p u t → t ≡ Gives v → v.makes ≡ makes.Consumer j →
+    From p u j.link
 makes_of p u t v j k e m = subst (MakesSo p u) m (subst (TurnSo p u) e k)
 
 plain_makes : (t : Turn Plan Verdict) (v : Verdict) (j : Joining) → Plain t → t ≡ Gives v → v.makes ≡ makes.Consumer j → ⊥

@@ -2,31 +2,19 @@
 use Rattle.std.proofs.Common.{◌≡◌, ◌∙◌, sym, ap, subst, ℕ, ◌+◌, List, ◌∷◌, refl, drop, arith, nat_lt, Bool, true, false, ◌++◌, cond, ◌==◌, Option, Some, None, Result, Ok, Err}
 use Rattle.std.proofs.lemmas.Bool.Decides.{nat_tests}
 use Rattle.std.specs.Option.{option_map}
-use Rattle.pulsar_wire.specs.declared.error.ConnectionError.{ConnectionError}
+use Rattle.pulsar_laws.proofs.ActWords.{Act, Ask, Bytes, Comes, Dials, Does, Drains, Ends, Get, Heard, LinkAct, Opens, Pings, Reads, ToLink, Who}
+use Rattle.pulsar_laws.proofs.RunWords.{after, Begins, begun_live, begun_same, calls_of, Entry, is_live, link_got, live_begun, Options, Then, view, View}
+use Rattle.pulsar_laws.proofs.LinkWords.{answer_at, closed_by, ConnectionError, Fault, got_at, is_numbered, Seat, seat_asked, seat_fed, seat_got, SendPing, took, took_end, took_some, Words}
 use Rattle.pulsar_frame.specs.Frame.{Front, Short, Refused, Whole, front}
-use Rattle.pulsar_messages.specs.Words.{Words, SendPing, is_numbered}
 use Rattle.pulsar_requests.specs.Waits.{places}
 use Rattle.pulsar_session.specs.declared.states.Asked.{Asked as Placed}
 use Rattle.pulsar_session.specs.declared.states.Stage.{Stage}
 use Rattle.pulsar_session.specs.declared.states.Stage.TheVariants.{Ready}
-use Rattle.pulsar_session.specs.Failures.{Fault}
 use Rattle.pulsar_session.specs.Link.{Act as Act', Opens as Opens', Feeds, Takes, Asks, Drains as Drains', Closes, Seen, after as after', after_of, answer_of, answered, drawn, is_open, is_ready, moved_up, number_for, opens_in, request, settled_by, taken_in, ticked}
 use Rattle.pulsar_session.specs.Laws.{IsInLine}
 use Rattle.pulsar_session.proofs.Others.{none_stands_beside_room}
 use Rattle.pulsar_session.proofs.Pieces.{asks_for_apart, unless_stage}
-use Rattle.pulsar_calls.specs.declared.act.Act.{Act}
-use Rattle.pulsar_calls.specs.declared.act.Act.TheVariants.{Comes, Does, Dials}
-use Rattle.pulsar_calls.specs.declared.act.Action.TheVariants.{Get, Ask}
-use Rattle.pulsar_calls.specs.declared.act.LinkAct.{LinkAct}
-use Rattle.pulsar_calls.specs.declared.act.LinkAct.TheVariants.{Opens, Reads, Drains, Pings, Ends}
-use Rattle.pulsar_calls.specs.declared.act.Part.TheVariants.{ToLink}
-use Rattle.pulsar_calls.specs.declared.act.Who.{Who}
-use Rattle.pulsar_calls.specs.Content.{Heard, Bytes}
-use Rattle.pulsar_tables.specs.Links.{closed_by}
-use Rattle.pulsar_tables.specs.View.{Options, Seat, View, after, answer_at, begun_live, got_at, is_live, link_got, live_begun, seat_asked, seat_fed, seat_got, took, took_end, took_some}
-use Rattle.pulsar_agenda.specs.Run.{Entry, Begins, Then, view}
-use Rattle.pulsar_agenda.proofs.Acts.{begun_same}
-use Rattle.pulsar_laws.specs.Laws.{calls_of}
+use Rattle.pulsar_laws.proofs.Cases.{cond_so}
 use Rattle.pulsar_laws.proofs.Alone.{is_close, links_alone_lem}
 use Rattle.pulsar_laws.proofs.Early.{drawn_stage, moved_stage, ready_of}
 use Rattle.pulsar_laws.proofs.Stopping.{is_started}
@@ -38,10 +26,6 @@ IsReady v = is_ready v.stage ≡ true
 
 same_ready : (v w : Seen) → w.stage ≡ v.stage → IsReady v → IsReady w
 same_ready v w e h = ap is_ready e ∙ h
-
-either_ready : (b : Bool) (v w : Seen) → IsReady v → IsReady w → IsReady (cond b v w)
-either_ready true v w p q = p
-either_ready false v w p q = q
 
 opens_ready : (stage : Stage) (v : Seen) → is_ready stage ≡ true → IsReady v → IsReady (opens_in stage v)
 opens_ready Ready v s h = h
@@ -63,12 +47,12 @@ asked_ready (Ok id) now words v h =
 
 stays_ready : (act : Act') (v : Seen) → is_close act ≡ false → IsReady v → IsReady (after' act v)
 stays_ready (Opens' now) v c h = opens_ready v.stage (ticked now v) h h
-stays_ready (Feeds piece) v c h = either_ready (is_open v.stage) (record v { unread = v.unread ++ piece }) v h h
+stays_ready (Feeds piece) v c h = cond_so IsReady (is_open v.stage) (record v { unread = v.unread ++ piece }) v h h
 stays_ready (Takes now) v c h = taken_ready v.stage (front v.unread) (ticked now v) h h
 stays_ready (Asks now words) v c h = asked_ready (number_for (is_numbered words) v) now words (ticked now v) h
 stays_ready (Drains' most now) v c h =
     let b : Seen = record (ticked now v) { unwritten = drop most v.unwritten } in
-    either_ready (is_open v.stage) (moved_up v.line b) (ticked now v) (same_ready v (moved_up v.line b) (moved_stage v.line b) h) h
+    cond_so IsReady (is_open v.stage) (moved_up v.line b) (ticked now v) (same_ready v (moved_up v.line b) (moved_stage v.line b) h) h
 stays_ready (Closes cause) v c h = absurd cc
 
 -- A LINK, where it has not ended. What its acts keep of a connection remains so.
@@ -93,10 +77,6 @@ abbrev pub Keeps : (Seen → Type 0) → Type 0
 Keeps P = (act : Act') (v : Seen) → is_close act ≡ false → IsInLine v → P v → P (after' act v)
 
 module _ (P : Seen → Type 0) (keeps : Keeps P) where
-  either_at : (b : Bool) (x y : Option Seat) → IsAt P x → IsAt P y → IsAt P (cond b x y)
-  either_at true x y p q = p
-  either_at false x y p q = q
-
   map_at : (f : Seat → Seat) (row : Option Seat) → ((seat : Seat) → row ≡ Some seat → P seat.seen → P (f seat).seen) → IsAt P row → IsAt P (option_map f row)
   map_at f None k h = tt
   map_at f (Some seat) k h = k seat refl h
@@ -122,23 +102,24 @@ module _ (P : Seen → Type 0) (keeps : Keeps P) where
 
   got_so : (got : Option ℕ) (now l : ℕ) (row : Option Seat) → IsAt P row → IsAt P (got_at got now l row)
   got_so None now l row h = h
-  got_so (Some k) now l row h = either_at (l == k) (option_map (seat_got now) row) row (map_at (seat_got now) row (λ seat e k. k) h) h
+  got_so (Some k) now l row h = cond_so (IsAt P) (l == k) (option_map (seat_got now) row) row (map_at (seat_got now) row (λ seat e k. k) h) h
 
   fed_at : (piece : List ℕ) (row : Option Seat) → IsAt IsInLine row → IsAt P row → IsAt P (option_map (seat_fed piece) row)
   fed_at piece None r h = tt
   fed_at piece (Some seat) r h = keeps (Feeds piece) seat.seen refl r h
 
   heard_at : (e : Heard) (l : ℕ) (row : Option Seat) → IsAt IsInLine row → IsAt P row → IsAt P (live_begun e l row)
-  heard_at (Bytes k piece) l row r h = either_at (l == k) (option_map (seat_fed piece) row) row (fed_at piece row r h) h
+  heard_at (Bytes k piece) l row r h = cond_so (IsAt P) (l == k) (option_map (seat_fed piece) row) row (fed_at piece row r h) h
   heard_at e l row r h = h
 
   then_at : (v : View) (a : Act) (l : ℕ) → nat_lt l v.links.started ≡ true → IsAt IsInLine (v.links.live l) → IsAt P (v.links.live l) →
       IsAt P ((after a v).links.live l)
   then_at v (Comes (ToLink k x)) l s r h =
-      either_at (l == k) (took_some x v.now (v.links.live l)) (v.links.live l) (took_some_at x v.now (v.links.live l) r h) h
+      cond_so (IsAt P) (l == k) (took_some x v.now (v.links.live l)) (v.links.live l) (took_some_at x v.now (v.links.live l) r h) h
   then_at v (Does who (Get p)) l s r h = got_so (link_got v.addresses (Does who (Get p))) v.now l (v.links.live l) h
   then_at v (Does who (Ask k request)) l s r h =
-      either_at (l == k) (option_map (seat_asked who v.now request) (v.links.live l)) (v.links.live l) (asked_at who v.now request (v.links.live l) r h) h
+      cond_so (IsAt P) (l == k) (option_map (seat_asked who v.now request) (v.links.live l)) (v.links.live l) (asked_at who v.now request (v.links.live l) r h)
+      h
   then_at v (Dials p starter n) l s r h = let e : (l == v.links.started) ≡ false = not_next l v.links.started s in rw e h
   then_at v a l s r h = h
 

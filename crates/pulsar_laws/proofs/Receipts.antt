@@ -1,9 +1,12 @@
 -- What a reply answers was asked for by the one that is told it.
-use Rattle.std.proofs.Common.{◌≡◌, ◌⊎◌, inl, inr, ◌∙◌, sym, ap, subst, ℕ, ◌+◌, ◌<◌, ◌≤◌, ◌==◌, arith, List, [], ◌∷◌, ◌++◌, refl, filter, length, Bool, true, false, ◌&&◌, cond, Option, Some, None}
+use Rattle.std.proofs.Common.{◌≡◌, inl, inr, ◌∙◌, sym, ap, subst, ℕ, ◌+◌, ◌≤◌, ◌==◌, arith, List, [], ◌∷◌, ◌++◌, refl, filter, length, Bool, true, false, ◌&&◌, cond, Option, Some, None}
 use Rattle.std.proofs.lemmas.Bool.{cases_Bool, eqb-true}
 use Rattle.std.specs.List.{list_any}
 use Rattle.std.specs.Option.{option_map}
-use Rattle.pulsar_run.specs.Laws.{In, InThisStep}
+use Rattle.pulsar_laws.proofs.ActWords.{Act, Action, Ask, Bytes, Call, Comes, Dials, Does, Drains, Ends, Get, Heard, is_same, LinkAct, Opens, Pings, Procedure, Reads, Share, Starts, ToLink, Who}
+use Rattle.pulsar_laws.proofs.PlanWords.{Errand, Ways}
+use Rattle.pulsar_laws.proofs.RunWords.{Begins, begun_live, calls_of, Cause, counted, Each, Entry, In, InThisStep, is_live, IsRun, link_got, live_begun, Options, start_of, started, Then, view, View}
+use Rattle.pulsar_laws.proofs.LinkWords.{closed_by, got_at, is_body, Reply, Seat, seat_asked, seat_fed, seat_got, SendPing, took, took_end, took_some, Words}
 use Rattle.pulsar_wire.specs.At.{flag_at, uint64_at}
 use Rattle.pulsar_wire.specs.Command.{BodyValues}
 use Rattle.pulsar_wire.specs.Field.{◌>>=◌}
@@ -14,43 +17,27 @@ use Rattle.pulsar_frame.specs.Key.{bears_key, body_key, is_false, key, key_field
 use Rattle.pulsar_frame.specs.Message.{MessageValues}
 use Rattle.pulsar_messages.specs.Content.{ProducerMessageValues}
 use Rattle.pulsar_messages.specs.Words as words
-use Rattle.pulsar_messages.specs.Words.{Words, SendPing}
-use Rattle.pulsar_requests.specs.declared.awaited.Awaited.{Awaited}
-use Rattle.pulsar_requests.specs.declared.awaited.Awaited.TheVariants as awaited
-use Rattle.pulsar_requests.specs.declared.awaited.Claim.{Claim}
+use Rattle.pulsar_wire.specs.declared.awaited.Awaited.{Awaited}
+use Rattle.pulsar_wire.specs.declared.awaited.Awaited.TheVariants as awaited
+use Rattle.pulsar_wire.specs.declared.awaited.Claim.{Claim}
 use Rattle.pulsar_requests.specs.Waits.{Pending, places}
 use Rattle.pulsar_session.specs.declared.states.Stage.{Stage}
 use Rattle.pulsar_session.specs.declared.states.Stage.TheVariants.{Dialing, Handshaking, Ready, Over}
 use Rattle.pulsar_session.specs.Answers.{answers, is, is_number}
 use Rattle.pulsar_session.specs.Laws.{IsInLine}
-use Rattle.pulsar_session.specs.Reply.{Written, read_body}
-use Rattle.pulsar_session.specs.Link.{Came, Seen, Settles, came, came_by, came_in, claim, for_consumer, greeted_by, settled_by, unasked}
+use Rattle.pulsar_frame.specs.Reply.{Written, read_body}
+use Rattle.pulsar_session.specs.Link.{Came, Seen, Settles, came, came_by, came_in, for_consumer, greeted_by, settled_by, unasked}
+use Rattle.pulsar_messages.specs.Claims.{claim}
 use Rattle.pulsar_session.specs.Link as session
+use Rattle.pulsar_messages.specs.Claims as claims
 use Rattle.pulsar_session.proofs.Others.{none_stands_beside_room}
-use Rattle.pulsar_link.specs.Messages.{Reply, is_body, read}
-use Rattle.pulsar_plans.specs.declared.turn.Ways.{Ways}
-use Rattle.pulsar_producer.specs.declared.sending.Errand.{Errand}
-use Rattle.pulsar_calls.specs.declared.act.Act.{Act}
-use Rattle.pulsar_calls.specs.declared.act.Act.TheVariants.{Comes, Starts, Does, Dials}
-use Rattle.pulsar_calls.specs.declared.act.Action.{Action}
-use Rattle.pulsar_calls.specs.declared.act.Action.TheVariants.{Ask, Get}
-use Rattle.pulsar_calls.specs.declared.act.LinkAct.{LinkAct}
-use Rattle.pulsar_calls.specs.declared.act.LinkAct.TheVariants.{Opens, Reads, Drains, Pings, Ends}
+use Rattle.pulsar_exchange.specs.Messages.{read}
 use Rattle.pulsar_calls.specs.declared.act.Outcome.TheVariants as outcome
-use Rattle.pulsar_calls.specs.declared.act.Part.TheVariants.{ToLink}
-use Rattle.pulsar_calls.specs.declared.act.Procedure.{Procedure}
 use Rattle.pulsar_calls.specs.declared.act.Procedure.TheVariants as procedure
-use Rattle.pulsar_calls.specs.declared.act.Share.{Share}
-use Rattle.pulsar_calls.specs.declared.act.Who.{Who}
-use Rattle.pulsar_calls.specs.declared.act.Who.TheVariants.{Call}
-use Rattle.pulsar_calls.specs.Content.{Heard, Bytes}
-use Rattle.pulsar_laws.specs.Laws.{Cause, calls_of, counted, start_of, started}
-use Rattle.pulsar_tables.specs.Links.{closed_by, settled_in}
+use Rattle.pulsar_laws.proofs.Cases.{none_some}
+use Rattle.pulsar_links.specs.Links.{settled_in}
 use Rattle.pulsar_laws.specs.ProducerLaws.{ReceiptsAreOwn}
-use Rattle.pulsar_agenda.specs.Run.{Entry, Begins, Then, IsRun, view}
-use Rattle.pulsar_tables.specs.View.{Options, Seat, View, askers_left, begun_live, got_at, is_live, link_got, live_begun, seat_asked, seat_fed, seat_got, took, took_end, took_some}
-use Rattle.pulsar_calls.specs.Who.{is_same}
-use Rattle.pulsar_agenda.proofs.Acts.{Each}
+use Rattle.pulsar_links.specs.Seats.{askers_left}
 use Rattle.pulsar_laws.proofs.Alone.{links_alone_lem}
 use Rattle.pulsar_laws.proofs.Caused.{outcomes_are_caused_lem}
 use Rattle.pulsar_laws.proofs.Claiming.{IsClaimed, PendsSo, asked_so, drained_so, fed, fewer, known, opened, pinged, taken}
@@ -59,9 +46,6 @@ use Rattle.pulsar_laws.proofs.Frames.{frames_are_of_their_sends_lem}
 use Rattle.pulsar_laws.proofs.Granted.{does_from}
 use Rattle.pulsar_laws.proofs.InTurn.{self_same, stood_begun}
 use Rattle.pulsar_laws.proofs.Once.{ends_once_lem}
-
-none_some : {A : Type 0} {x : A} → None ≡ Some x → ⊥
-none_some {A} {x} h = cc
 
 -- ONE ASKED FOR WHAT WAITS FOR THIS
 
@@ -315,7 +299,7 @@ record IsSend (request : Words) (p s : ℕ) : Type 0 where
   block : Bool
   is_it : request ≡ words.Send p name s message block
 
-replies_not : (id : ℕ) (c : Claim) (p s : ℕ) → session.reply_to id ≡ Some c → c.awaits ≡ awaited.Receipt p s → ⊥
+replies_not : (id : ℕ) (c : Claim) (p s : ℕ) → claims.reply_to id ≡ Some c → c.awaits ≡ awaited.Receipt p s → ⊥
 replies_not id c p s h e =
     let f : record { awaits = awaited.Reply id; creates = false } ≡ c = cc in
     let g : awaited.Reply id ≡ awaited.Receipt p s = ap (λ x. x.awaits) f ∙ e in cc

@@ -2,52 +2,31 @@
 use Rattle.std.proofs.Common.{◌≡◌, ◌⊎◌, inl, inr, ◌∙◌, sym, ap, subst, ℕ, ◌+◌, ◌==◌, List, [], ◌∷◌, ◌++◌, refl, Bool, true, false, ◌&&◌, cond, Option, Some, None, eq-eqb, nat_lt}
 use Rattle.std.proofs.lemmas.Bool.{cases_Bool, eqb-true}
 use Rattle.std.specs.Option.{is_some, option_map}
+use Rattle.pulsar_laws.proofs.ActWords.{Act, Answers, Arrival, Ask, Bytes, Call, Comes, Dials, Does, Drains, End, Ends, FailConsumer, Get, Heard, is_same, LinkAct, Makes, Opens, Pings, Polls, Reads, Revive, StopAll, TakeFlow, ticket_of, ToLink, Who}
+use Rattle.pulsar_laws.proofs.RunWords.{after, Begins, begun, begun_live, EndsOnce, Entry, is_live, IsRun, link_got, live_begun, member_on, Options, Then, view, View}
+use Rattle.pulsar_laws.proofs.LinkWords.{answer_at, arrival_at, closed_by, closed_consumer, closing, Failure, Fault, got_at, is_asked, is_body, Reply, Seat, seat_asked, seat_fed, seat_got, took_end, took_some, url_at}
 use Rattle.url.specs.Parts.{Parts}
-use Rattle.pulsar_link.specs.Items.{Item}
-use Rattle.pulsar_link.specs.Messages.{Reply, is_body}
-use Rattle.pulsar_link.specs.Request.{closed_consumer}
-use Rattle.pulsar_session.specs.Failures.{Failure, Fault}
-use Rattle.pulsar_session.specs.Link.{is_ready, is_spent}
+use Rattle.pulsar_frame.specs.Items.{Item}
+use Rattle.pulsar_session.specs.Link.{is_ready}
+use Rattle.pulsar_messages.specs.Claims.{is_spent}
 use Rattle.pulsar_consumer.specs.Frames.{Frame, failed, frame_in}
 use Rattle.pulsar_consumer.specs.Topic as reader
-use Rattle.pulsar_consumer.specs.Topic.{Act as Done, Lives, Hears, Loses, Fails, Ends as Over, Polls as Polled, Asks, Engine, Live, Seen, Setup, after as after', asked, begins, finish, finishes, finishes_by, first_of, fresh, gives, gives_from, goes_on, half, hears as hears', is_ended, is_on, link_of, lives_on, no_items, of_raw, places, subscribed}
-use Rattle.pulsar_consumer.specs.declared.polled.Ending.{Ending}
-use Rattle.pulsar_consumer.specs.declared.polled.Ending.TheVariants.{Closed, LinkLost, NotSubscribed, Stopped, TopicEnded}
+use Rattle.pulsar_consumer.specs.Topic.{Act as Done, Lives, Hears, Loses, Fails, Ends as Over, Polls as Polled, Asks, Engine, Live, Seen, Setup, asked, begins, finish, finishes, first_of, fresh, gives, gives_from, goes_on, half, hears as hears', is_ended, is_on, link_of, lives_on, no_items, places, subscribed}
+use Rattle.pulsar_incoming.specs.declared.polled.Ending.{Ending}
+use Rattle.pulsar_incoming.specs.declared.polled.Ending.TheVariants.{Closed, LinkLost, NotSubscribed, Stopped, TopicEnded}
 use Rattle.pulsar_consumer.proofs.Held.{next_of}
 use Rattle.pulsar_consumer.proofs.Histories.{counted_same}
-use Rattle.pulsar_calls.specs.declared.act.Act.{Act}
-use Rattle.pulsar_calls.specs.declared.act.Act.TheVariants.{Comes, Does, Answers, Dials}
-use Rattle.pulsar_calls.specs.declared.act.Action.TheVariants.{Get, Ask, TakeFlow, Revive, FailConsumer, StopAll}
-use Rattle.pulsar_calls.specs.declared.act.Arrival.{Arrival}
 use Rattle.pulsar_calls.specs.declared.act.Arrival.TheVariants as arrivals
-use Rattle.pulsar_calls.specs.declared.act.End.{End}
-use Rattle.pulsar_calls.specs.declared.act.LinkAct.{LinkAct}
-use Rattle.pulsar_calls.specs.declared.act.LinkAct.TheVariants.{Opens, Reads, Drains, Pings, Ends}
-use Rattle.pulsar_calls.specs.declared.act.Makes.{Makes}
 use Rattle.pulsar_calls.specs.declared.act.Makes.TheVariants as makes
-use Rattle.pulsar_calls.specs.declared.act.Part.TheVariants.{ToLink, Polls}
-use Rattle.pulsar_calls.specs.declared.act.Who.{Who}
-use Rattle.pulsar_calls.specs.declared.act.Who.TheVariants.{Call}
 use Rattle.pulsar_calls.specs.declared.content.Joining.{Joining}
-use Rattle.pulsar_calls.specs.Content.{Heard, Bytes}
-use Rattle.pulsar_calls.specs.Who.{is_same, ticket_of}
 use Rattle.pulsar_consumer_table.specs.Consumers.{Member, is_closed_by, subscribed_on}
-use Rattle.pulsar_tables.specs.Links.{closed_by}
-use Rattle.pulsar_tables.specs.View.{Options, Seat, View, after, answer_at, arrival_at, begun, begun_live, closing, got_at, is_asked, is_live, link_got, live_begun, member_on, seat_asked, seat_fed, seat_got, took_end, took_some, url_at}
-use Rattle.pulsar_agenda.specs.Run.{Entry, Begins, Then, IsRun, view}
+use Rattle.pulsar_laws.proofs.Cases.{none_some, some_is}
 use Rattle.pulsar_laws.proofs.Ticketed.{consumer_ticket}
 use Rattle.pulsar_laws.specs.ConsumerLaws.{arrival_does, does_to, done_since, done_to, frame_does, loss_does, made_as, made_with, making_does, subscription_does}
-use Rattle.pulsar_laws.specs.Laws.{EndsOnce}
 use Rattle.pulsar_laws.proofs.Ended.{after_made}
 use Rattle.pulsar_laws.proofs.Lone.{IsKept, IsMade, IsNone, RowFrom, applied, begun_rows, none_after, row_from}
 use Rattle.pulsar_laws.proofs.Ready.{IsAt, IsReady, WasReady, more_ready}
 use Rattle.pulsar_laws.proofs.Reached.{makes_ready, revives_ready}
-
-none_some : {A : Type 0} {x : A} → None ≡ Some x → ⊥
-none_some {A} {x} h = cc
-
-some_is : {A : Type 0} {x y : A} → Some x ≡ Some y → x ≡ y
-some_is {A} {x} {y} h = cc
 
 -- WHAT ACTS MAKE OF THE LINK OF A CONSUMER
 
@@ -250,56 +229,59 @@ Rides o log m = (k : ℕ) → link_of m.seen ≡ Some k → IsLive (view o log) 
 abbrev RidesAt : Options → List Entry → ℕ → Type 0
 RidesAt o log t = (m : Member) → (view o log).consumers.rows t ≡ Some m → Rides o log m
 
-module _ (o : Options) (log : List Entry) (a : Act) (t : ℕ) (m n : Member) (was : Rides o log m) (is : n.seen ≡ applied (does_to (view o log) t m a) m.seen) where
-  abbrev v : View
-  v = view o log
+module _ (o : Options) (log : List Entry) (a : Act) (t : ℕ) (m n : Member) (was : Rides o log m) (is : n.seen ≡ applied (does_to (view o log) t m a) m.seen)
+  where
+    abbrev v : View
+    v = view o log
 
-  raw : m.seen.is_raw ≡ n.seen.is_raw
-  raw = sym (ap (λ (s : Seen). s.is_raw) is ∙ applied_raw (does_to v t m a) m.seen)
+    raw : m.seen.is_raw ≡ n.seen.is_raw
+    raw = sym (ap (λ (s : Seen). s.is_raw) is ∙ applied_raw (does_to v t m a) m.seen)
 
-  -- it rides where it rode before
-  on : (k : ℕ) → link_of m.seen ≡ Some k → ((end : End) → a ≡ Comes (ToLink k (Ends end)) → closing end v.now (v.links.live k) ≡ None) →
-      IsLive (view o (Then a ∷ log)) k × (n.seen.is_raw ≡ false → WasReady (view o (Then a ∷ log)) k)
-  on k h lasts = (stays_live v a k lasts (was k h).0, λ r. more_ready o (Then a) log k ((was k h).1 (raw ∙ r)))
+    -- it rides where it rode before
+    on : (k : ℕ) → link_of m.seen ≡ Some k → ((end : End) → a ≡ Comes (ToLink k (Ends end)) → closing end v.now (v.links.live k) ≡ None) →
+        IsLive (view o (Then a ∷ log)) k × (n.seen.is_raw ≡ false → WasReady (view o (Then a ∷ log)) k)
+    on k h lasts = (stays_live v a k lasts (was k h).0, λ r. more_ready o (Then a) log k ((was k h).1 (raw ∙ r)))
 
-  now_on : (k : ℕ) → link_of n.seen ≡ Some k → link_of (applied (does_to v t m a) m.seen) ≡ Some k
-  now_on k h = sym (ap link_of is) ∙ h
+    now_on : (k : ℕ) → link_of n.seen ≡ Some k → link_of (applied (does_to v t m a) m.seen) ≡ Some k
+    now_on k h = sym (ap link_of is) ∙ h
 
-  tame_rides : Tame (does_to v t m a) m.seen → ((k : ℕ) (end : End) → a ≡ Comes (ToLink k (Ends end)) → closing end v.now (v.links.live k) ≡ None) →
-      Rides o (Then a ∷ log) n
-  tame_rides tame lasts k h = on k (tame k (now_on k h)) (lasts k)
+    tame_rides : Tame (does_to v t m a) m.seen → ((k : ℕ) (end : End) → a ≡ Comes (ToLink k (Ends end)) → closing end v.now (v.links.live k) ≡ None) →
+        Rides o (Then a ∷ log) n
+    tame_rides tame lasts k h = on k (tame k (now_on k h)) (lasts k)
 
-  -- a subscription is made, on a link that was ready
-  again_rides : (l : ℕ) → WasReady v l → ((end : End) (k : ℕ) → a ≡ Comes (ToLink k (Ends end)) → ⊥) →
-      ((k : ℕ) → link_of (applied (does_to v t m a) m.seen) ≡ Some k → (link_of m.seen ≡ Some k) ⊎ ((k ≡ l) × IsLive v l)) → Rides o (Then a ∷ log) n
-  again_rides l ready other sub k h = elim (sub k (now_on k h)) [
-    | inl e ↦ on k e (λ end is. absurd (other end k is))
-    | inr e ↦ (
-      stays_live v a k (λ end is. absurd (other end k is)) (subst (IsLive v) (sym e.0) e.1),
-      λ r. more_ready o (Then a) log k (subst (WasReady v) (sym e.0) ready),
-    )
-  ]
+    -- a subscription is made, on a link that was ready
+    again_rides : (l : ℕ) → WasReady v l → ((end : End) (k : ℕ) → a ≡ Comes (ToLink k (Ends end)) → ⊥) →
+        ((k : ℕ) → link_of (applied (does_to v t m a) m.seen) ≡ Some k → (link_of m.seen ≡ Some k) ⊎ ((k ≡ l) × IsLive v l)) → Rides o (Then a ∷ log) n
+    again_rides l ready other sub k h = elim (sub k (now_on k h)) [
+      | inl e ↦ on k e (λ end is. absurd (other end k is))
+      | inr e ↦ (
+        stays_live v a k (λ end is. absurd (other end k is)) (subst (IsLive v) (sym e.0) e.1),
+        λ r. more_ready o (Then a) log k (subst (WasReady v) (sym e.0) ready),
+      )
+    ]
 
-  ended_rides : (l : ℕ) (end : End) (c : Option Fault) → closing end v.now (v.links.live l) ≡ c → a ≡ Comes (ToLink l (Ends end)) →
-      does_to v t m a ≡ loss_does l c → Rides o (Then a ∷ log) n
-  ended_rides l end None e at does k h =
-      let was_on : link_of m.seen ≡ Some k = (let f : link_of (applied (loss_does l None) m.seen) ≡ Some k =
-      ap (λ xs. link_of (applied xs m.seen)) (sym does) ∙ now_on k h in f) in
-      on k was_on (λ other is.
-      (let f : (l, end) ≡ (k, other) = some_is (ap ending (sym at ∙ is)) in sym (ap (λ x. closing x.1 v.now (v.links.live x.0)) f) ∙ e))
-  ended_rides l end (Some cause) e at does k h =
-      let f : link_of (applied (Loses l ∷ []) m.seen) ≡ Some k = ap (λ xs. link_of (applied xs m.seen)) (sym does) ∙ now_on k h in
-      on k (tame_loses l m.seen k f) (λ other is.
-      (let x : k ≡ l = sym (ap (λ y. y.0) (some_is (ap ending (sym at ∙ is)))) in
-      let y : true ≡ false = sym (eq-eqb k l x) ∙ loses_other l m.seen k f in absurd cc))
+    ended_rides : (l : ℕ) (end : End) (c : Option Fault) → closing end v.now (v.links.live l) ≡ c → a ≡ Comes (ToLink l (Ends end)) →
+        does_to v t m a ≡ loss_does l c → Rides o (Then a ∷ log) n
+    ended_rides l end None e at does k h =
+        let was_on : link_of m.seen ≡ Some k = (let f : link_of (applied (loss_does l None) m.seen) ≡ Some k =
+        ap (λ xs. link_of (applied xs m.seen)) (sym does) ∙ now_on k h in f) in
+        on k was_on (λ other is.
+        (let f : (l, end) ≡ (k, other) = some_is (ap ending (sym at ∙ is)) in sym (ap (λ x. closing x.1 v.now (v.links.live x.0)) f) ∙ e))
+    ended_rides l end (Some cause) e at does k h =
+        let f : link_of (applied (Loses l ∷ []) m.seen) ≡ Some k = ap (λ xs. link_of (applied xs m.seen)) (sym does) ∙ now_on k h in
+        on k (tame_loses l m.seen k f) (λ other is.
+        (let x : k ≡ l = sym (ap (λ y. y.0) (some_is (ap ending (sym at ∙ is)))) in
+        let y : true ≡ false = sym (eq-eqb k l x) ∙ loses_other l m.seen k f in absurd cc))
 
 -- a consumer that is made
-made_rides : (o : Options) (log : List Entry) (a : Act) (t l : ℕ) (s : Setup) (n : Member) → ((r : s.is_raw ≡ false) → IsLive (view o log) l → WasReady (view o log) l) →
+made_rides : (o : Options) (log : List Entry) (a : Act) (t l : ℕ) (s : Setup) (n : Member) →
+    ((r : s.is_raw ≡ false) → IsLive (view o log) l → WasReady (view o log) l) →
     ((end : End) (k : ℕ) → a ≡ Comes (ToLink k (Ends end)) → ⊥) → member_on (view o log).links.live l s ≡ n → Rides o (Then a ∷ log) n
 made_rides o log a t l s n ready other is k h =
     by ((view o log).links.live l) refl (ap (λ (m : Member). link_of m.seen) is ∙ h)
   where
-    fresh_on : (row : Option Seat) → link_of (subscribed_on l (url_at row) (record { seen = fresh s; seekers = [] })).seen ≡ Some k → (k ≡ l) × (is_some row ≡ true)
+    fresh_on : (row : Option Seat) → link_of (subscribed_on l (url_at row) (record { seen = fresh s; seekers = [] })).seen ≡ Some k →
+        (k ≡ l) × (is_some row ≡ true)
     fresh_on None g = absurd (none_some g)
     fresh_on (Some seat) g = elim (lives_link l seat.address.url (fresh s) k g) [ inl e ↦ absurd (none_some e) | inr e ↦ (e, refl) ]
 
@@ -377,7 +359,9 @@ module _ (o : Options) (log : List Entry) (t : ℕ) where
   tame_by (Comes (Polls u)) m =
       inl (tame_either (t == u) (Polled (view o log).now ∷ []) [] m.seen (tame_polled (view o log).now m.seen) (tame_none m.seen))
   tame_by (Does who (Ask l request)) m =
-      inl (tame_either (is_asked (answer_at (view o log).now request ((view o log).links.live l)) && is_closed_by (closed_consumer request) l m) (Over Closed ∷ []) []
+      inl
+      (tame_either (is_asked (answer_at (view o log).now request ((view o log).links.live l)) && is_closed_by (closed_consumer request) l m)
+      (Over Closed ∷ []) []
       m.seen (tame_over Closed m.seen) (tame_none m.seen))
   tame_by (Does who TakeFlow) m = inl (tame_either (t == ticket_of who) (Asks ∷ []) [] m.seen (tame_asks m.seen) (tame_none m.seen))
   tame_by (Does who (Revive l)) m = elim (cases_Bool (t == ticket_of who)) [
@@ -421,7 +405,8 @@ module _ (o : Options) (log : List Entry) (t : ℕ) where
 -- a consumer is on the link on which it was before, unless it is made, or subscribed again
 abbrev pub IsFresh : Options → List Entry → Act → (ticket : ℕ) → Type 0
 IsFresh o log a t =
-    ((view o log).consumers.rows t ≡ None) ⊎ ((who : Who) × (l : ℕ) × (a ≡ Does who (Revive l)) × ((t == ticket_of who && is_some ((view o log).links.live l)) ≡ true))
+    ((view o log).consumers.rows t ≡ None) ⊎
+    ((who : Who) × (l : ℕ) × (a ≡ Does who (Revive l)) × ((t == ticket_of who && is_some ((view o log).links.live l)) ≡ true))
 
 abbrev pub LinkFrom : Options → List Entry → Act → (ticket link : ℕ) → Type 0
 LinkFrom o log a t k = ((m : Member) × ((view o log).consumers.rows t ≡ Some m) × (link_of m.seen ≡ Some k)) ⊎ IsFresh o log a t

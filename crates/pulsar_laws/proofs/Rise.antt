@@ -1,18 +1,15 @@
 -- The numbers of the frames of a topic producer rise.
 use Rattle.std.proofs.Common.{◌≡◌, ◌∙◌, sym, ap, subst, ℕ, ◌+◌, ◌<◌, ◌≤◌, arith, List, [], ◌∷◌, ◌++◌, refl, Bool, true, false, cond, Option, Some, None}
+use Rattle.pulsar_laws.proofs.ActWords.{Ask, Call, Does, Draw, Told}
+use Rattle.pulsar_laws.proofs.RunWords.{Begins, begun_same, Entry, IsRun, Options, Then, view}
 use Rattle.pulsar_messages.specs.Words as words
-use Rattle.pulsar_session.specs.Link.{is_spent}
+use Rattle.pulsar_messages.specs.Claims.{is_spent}
 use Rattle.pulsar_producer.specs.Topic as topic
-use Rattle.pulsar_producer.specs.Storage.{Item, SingleMessage, Flush, is_ready, pushed}
-use Rattle.pulsar_producer.specs.Topic.{Act as Deed, Takes, Passes, Draws, Remakes, Closes, Stores, Flushes, Cuts, TakesBatch, Halts, Seen, cuts, is_nothing, is_settled, left_of, stores, takes_in}
-use Rattle.pulsar_calls.specs.declared.act.Act.TheVariants.{Told, Does}
-use Rattle.pulsar_calls.specs.declared.act.Action.TheVariants.{Ask, Draw}
-use Rattle.pulsar_calls.specs.declared.act.Who.TheVariants.{Call}
+use Rattle.pulsar_outgoing.specs.Storage.{Item, SingleMessage, Flush, is_ready, pushed, is_nothing}
+use Rattle.pulsar_producer.specs.Topic.{Act as Deed, Takes, Passes, Draws, Remakes, Closes, Stores, Flushes, Cuts, TakesBatch, Halts, Seen, cuts, is_settled, left_of, stores, takes_in}
 use Rattle.pulsar_producer_table.specs.declared.table.Topic.{Topic}
+use Rattle.pulsar_laws.proofs.Cases.{cond_so}
 use Rattle.pulsar_laws.specs.ProducerLaws.{NumbersOfFramesRise, topic_acts}
-use Rattle.pulsar_agenda.specs.Run.{Entry, Begins, Then, IsRun, view}
-use Rattle.pulsar_tables.specs.View.{Options}
-use Rattle.pulsar_agenda.proofs.Acts.{begun_same}
 use Rattle.pulsar_laws.proofs.Drawing.{drawn_run}
 use Rattle.pulsar_laws.proofs.Frames.{IsFramed, frames_are_of_their_sends_lem, framed, it}
 use Rattle.pulsar_laws.proofs.Receipts.{run_behind}
@@ -20,14 +17,10 @@ use Rattle.pulsar_laws.proofs.Topics.{all_after, row_as, topic_all}
 
 -- THE NEXT NUMBER IS NOT LESS
 
-either_next : (n : ℕ) (b : Bool) (x y : Seen) → n ≤ x.next → n ≤ y.next → n ≤ (cond b x y).next
-either_next n true x y p q = p
-either_next n false x y p q = q
-
 stores_next : (x : Item) (v : Seen) → v.next ≤ (stores x v).next
 stores_next x v =
     let w : Seen = record v { storage = pushed x v.storage } in
-    either_next v.next (is_ready w.storage) (cuts w) w (omega arith) (omega arith)
+    cond_so (λ z. v.next ≤ z.next) (is_ready w.storage) (cuts w) w (omega arith) (omega arith)
 
 left_next : (bs : List (List Item)) (v : Seen) → v.next ≤ (left_of bs v).next
 left_next [] v = omega arith
@@ -44,8 +37,8 @@ one_next Draws v = elim (is_spent v.next) as (λ b. v.next ≤ (cond b v (record
 one_next (Remakes l g) v = omega arith
 one_next Closes v = omega arith
 one_next (Stores t e) v = stores_next (SingleMessage t e) v
-one_next (Flushes t) v = either_next v.next (is_settled v) v (stores (Flush t) v) (omega arith) (stores_next (Flush t) v)
-one_next Cuts v = either_next v.next (is_nothing v.storage.items) v (cuts v) (omega arith) (omega arith)
+one_next (Flushes t) v = cond_so (λ z. v.next ≤ z.next) (is_settled v) v (stores (Flush t) v) (omega arith) (stores_next (Flush t) v)
+one_next Cuts v = cond_so (λ z. v.next ≤ z.next) (is_nothing v.storage.items) v (cuts v) (omega arith) (omega arith)
 one_next TakesBatch v = left_next v.cut v
 one_next Halts v = omega arith
 

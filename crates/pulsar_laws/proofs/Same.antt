@@ -1,9 +1,7 @@
 -- Those that have plans are told apart by kind, number and ticket.
-use Rattle.std.proofs.Common.{◌≡◌, ◌∙◌, ap, ℕ, refl, Bool, true, false, ◌&&◌, ◌==◌, eq-eqb}
+use Rattle.std.proofs.Common.{◌≡◌, ap, ℕ, refl, true, ◌&&◌, ◌==◌, eq-eqb}
 use Rattle.std.proofs.lemmas.Bool.{and_parts, eqb-true}
-use Rattle.pulsar_calls.specs.declared.act.Who.{Who}
-use Rattle.pulsar_calls.specs.declared.act.Who.TheVariants.{Call, Consumer, Producer}
-use Rattle.pulsar_calls.specs.Who.{is_same}
+use Rattle.pulsar_laws.proofs.ActWords.{Call, Consumer, is_same, Producer, Who}
 
 pub same_self : (w : Who) → is_same w w ≡ true
 same_self (Call t) = ap (λ b. b && b) (eq-eqb t t refl)

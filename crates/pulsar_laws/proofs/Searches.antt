@@ -1,46 +1,39 @@
 -- Where a search fails, and a command that is asked until it succeeds: with the fault of the news that it was told, or by what a reply says.
 use Rattle.std.proofs.Common.{◌≡◌, ◌⊎◌, inl, inr, ap, ℕ, List, [], refl, Bool, true, false, ◌&&◌, ◌||◌, cond, Option, Some, None, Result, Ok, Err, ◌==◌, ◌-◌}
 use Rattle.std.specs.Prelude.{pos}
+use Rattle.pulsar_laws.proofs.PlanWords.{Command, Denies, Later, Looking, Making, Naming, Heard as News, SearchTurn, Sought, Says as Tells, Ways}
+use Rattle.pulsar_laws.proofs.LinkWords.{Failure, Fault, Named, OfConnection, Place}
 use Rattle.pulsar_wire.specs.Field.{◌>>=◌}
 use Rattle.pulsar_wire.specs.Enumerations.{error_of}
-use Rattle.pulsar_session.specs.Failures.{DiscoveryConnection, DiscoveryFault, DiscoveryNotFound, Failure, Fault, OfConnection, OfDiscovery, Query}
-use Rattle.pulsar_session.specs.Reply.{Reply as Content, is_body}
+use Rattle.pulsar_wire.specs.Failures.{DiscoveryConnection, DiscoveryFault, DiscoveryNotFound, OfDiscovery, Query}
+use Rattle.pulsar_frame.specs.Reply.{Reply as Content, is_body}
 use Rattle.url.specs.declared.host.Host.{Host}
 use Rattle.url.specs.Parser.{Parsed, parse_url}
 use Rattle.url.specs.Parts.{Parts, nonempty_host}
-use Rattle.pulsar_plans.specs.Address.{Named, Place, at_host, place_of_parsed}
-use Rattle.pulsar_plans.specs.Backoff.{allow_retry, one_more}
-use Rattle.pulsar_plans.specs.Plans as search
-use Rattle.pulsar_plans.specs.Plans.{and_then, count_failed, count_gets, count_heard, count_told, is_lost, is_partition, is_retryable, look_begins, look_failed, look_gets, look_heard, look_pointed, look_told, made_answered, made_gets, made_told, name_found, names_left, names_of, names_told, nested, partition_name, retry_begins, retry_told, verdict}
-use Rattle.pulsar_plans.specs.Replies.{count_in, counted_of, failing, fails_by, in_discovery, is_choice, is_set, place_at, place_heard, pointed_at, query, unexpected}
-use Rattle.pulsar_plans.specs.declared.count.Counting.{Counting}
-use Rattle.pulsar_plans.specs.declared.count.Counting.TheVariants as count
-use Rattle.pulsar_plans.specs.declared.look.Looking.{Looking}
-use Rattle.pulsar_plans.specs.declared.look.Looking.TheVariants as look
-use Rattle.pulsar_plans.specs.declared.look.Search.{Search as Question}
-use Rattle.pulsar_plans.specs.declared.making.Command.{Command}
-use Rattle.pulsar_plans.specs.declared.making.Making.{Making}
-use Rattle.pulsar_plans.specs.declared.making.Making.TheVariants as make
-use Rattle.pulsar_plans.specs.declared.names.Naming.{Naming}
-use Rattle.pulsar_plans.specs.declared.names.Naming.TheVariants as name
-use Rattle.pulsar_plans.specs.declared.plan.Answer.{Answer}
-use Rattle.pulsar_plans.specs.declared.plan.Answer.TheVariants as answer
-use Rattle.pulsar_plans.specs.declared.plan.Plan.{Plan as Search}
-use Rattle.pulsar_plans.specs.declared.plan.Plan.TheVariants as plan
-use Rattle.pulsar_plans.specs.declared.plan.Procedure.{Procedure as Sought}
-use Rattle.pulsar_plans.specs.declared.plan.Procedure.TheVariants as sought
-use Rattle.pulsar_plans.specs.declared.replies.Heard.{Heard}
-use Rattle.pulsar_plans.specs.declared.replies.Heard.TheVariants.{Says as Tells, Later, Denies}
-use Rattle.pulsar_plans.specs.declared.replies.Pointed.{Pointed}
-use Rattle.pulsar_plans.specs.declared.replies.Pointed.TheVariants.{Redirects, Serves}
-use Rattle.pulsar_plans.specs.declared.retry.Retrying.{Retrying}
-use Rattle.pulsar_plans.specs.declared.retry.Retrying.TheVariants as retry
-use Rattle.pulsar_plans.specs.declared.turn.Action.TheVariants.{Wait}
-use Rattle.pulsar_plans.specs.declared.turn.Outcome.{Outcome as News}
-use Rattle.pulsar_plans.specs.declared.turn.Outcome.TheVariants as news
-use Rattle.pulsar_plans.specs.declared.turn.Turn.{Turn as SearchTurn}
-use Rattle.pulsar_plans.specs.declared.turn.Turn.TheVariants as search_turn
-use Rattle.pulsar_plans.specs.declared.turn.Ways.{Ways}
+use Rattle.pulsar_addresses.specs.Address.{at_host, place_of_parsed, name_found, in_discovery}
+use Rattle.pulsar_addresses.specs.Backoff.{allow_retry, one_more}
+use Rattle.pulsar_searches.specs.Plans as search
+use Rattle.pulsar_searches.specs.Plans.{and_then, count_failed, count_gets, count_heard, count_told, is_lost, is_partition, is_retryable, look_begins, look_failed, look_gets, look_heard, look_pointed, look_told, made_answered, made_gets, made_told, names_left, names_of, names_told, nested, partition_name, retry_begins, retry_told, verdict}
+use Rattle.pulsar_searches.specs.Replies.{count_in, counted_of, failing, fails_by, is_choice, is_set, place_at, place_heard, pointed_at, query, unexpected}
+use Rattle.pulsar_searches.specs.declared.count.Counting.{Counting}
+use Rattle.pulsar_searches.specs.declared.count.Counting.TheVariants as count
+use Rattle.pulsar_searches.specs.declared.look.Looking.TheVariants as look
+use Rattle.pulsar_searches.specs.declared.look.Search.{Search as Question}
+use Rattle.pulsar_searches.specs.declared.making.Making.TheVariants as make
+use Rattle.pulsar_searches.specs.declared.names.Naming.TheVariants as name
+use Rattle.pulsar_searches.specs.declared.plan.Answer.{Answer}
+use Rattle.pulsar_searches.specs.declared.plan.Answer.TheVariants as answer
+use Rattle.pulsar_searches.specs.declared.plan.Plan.{Plan as Search}
+use Rattle.pulsar_searches.specs.declared.plan.Plan.TheVariants as plan
+use Rattle.pulsar_searches.specs.declared.plan.Procedure.TheVariants as sought
+use Rattle.pulsar_searches.specs.declared.replies.Heard.{Heard}
+use Rattle.pulsar_searches.specs.declared.replies.Pointed.{Pointed}
+use Rattle.pulsar_searches.specs.declared.replies.Pointed.TheVariants.{Redirects, Serves}
+use Rattle.pulsar_searches.specs.declared.retry.Retrying.{Retrying}
+use Rattle.pulsar_searches.specs.declared.retry.Retrying.TheVariants as retry
+use Rattle.pulsar_searches.specs.declared.turn.Action.TheVariants.{Wait}
+use Rattle.pulsar_searches.specs.declared.turn.Outcome.TheVariants as news
+use Rattle.pulsar_searches.specs.declared.turn.Turn.TheVariants as search_turn
 use Rattle.pulsar_laws.specs.Laws.{DeniesSo}
 
 -- WHAT A REPLY SAYS TO A SEARCH

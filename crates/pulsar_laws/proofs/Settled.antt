@@ -1,39 +1,24 @@
 -- A call that stores its message does nothing else, and so it is told only what becomes of its message, or that the client is stopped.
-use Rattle.std.proofs.Common.{◌≡◌, ◌⊎◌, inl, inr, ◌∙◌, sym, ap, subst, ℕ, ◌+◌, ◌≤◌, ◌<◌, arith, List, [], ◌∷◌, ◌++◌, refl, Bool, true, false, Option, Some, None, Result, Ok, Err}
-use Rattle.std.proofs.lemmas.Bool.{cases_Bool}
-use Rattle.pulsar_run.specs.Laws.{InThisStep}
+use Rattle.std.proofs.Common.{◌≡◌, ◌⊎◌, inl, inr, ◌∙◌, sym, ap, subst, ℕ, ◌+◌, ◌≤◌, ◌<◌, arith, List, [], ◌∷◌, refl, Bool, true, false, Option, Some, None, Result, Ok, Err}
+use Rattle.pulsar_laws.proofs.ActWords.{Act, Action, Call, Consumer, Does, is_same, Notice, Outcome, Procedure, Producer, Rest, Share, Starts, Store, Tell, TellAll, Told, Verdict, Who}
+use Rattle.pulsar_laws.proofs.PlanWords.{begins, fails, Gives, News, Plan, Stays, Stored, Storing, told, Turn}
+use Rattle.pulsar_laws.proofs.RunWords.{agenda, Answered, Begins, Cause, counted, Entry, first, InThisStep, IsRun, notice, Options, start_of, started, stays, Then, View, view}
+use Rattle.pulsar_laws.proofs.LinkWords.{Failure}
 use Rattle.pulsar_wire.specs.Row.{Values}
 use Rattle.pulsar_wire.specs.Rows.{send_receipt}
 use Rattle.pulsar_frame.specs.Batch.{EntryValues}
-use Rattle.pulsar_session.specs.Failures.{Failure, Shutdown}
-use Rattle.pulsar_session.specs.Link.{is_spent}
-use Rattle.pulsar_producer.specs.declared.deed.News.{News}
-use Rattle.pulsar_producer.specs.declared.deed.News.TheVariants as news
-use Rattle.pulsar_calls.specs.declared.act.Act.{Act}
-use Rattle.pulsar_calls.specs.declared.act.Act.TheVariants.{Comes, Starts, Told, Does}
-use Rattle.pulsar_calls.specs.declared.act.Action.{Action}
-use Rattle.pulsar_calls.specs.declared.act.Action.TheVariants.{Store, Tell, TellAll, Rest}
-use Rattle.pulsar_calls.specs.declared.act.Notice.{Notice}
-use Rattle.pulsar_calls.specs.declared.act.Outcome.{Outcome}
+use Rattle.pulsar_wire.specs.Failures.{Shutdown}
+use Rattle.pulsar_messages.specs.Claims.{is_spent}
+use Rattle.pulsar_outgoing.specs.declared.news.News.TheVariants as news
 use Rattle.pulsar_calls.specs.declared.act.Outcome.TheVariants as outcome
-use Rattle.pulsar_calls.specs.declared.act.Procedure.{Procedure}
 use Rattle.pulsar_calls.specs.declared.act.Procedure.TheVariants as procedure
-use Rattle.pulsar_calls.specs.declared.act.Share.{Share}
-use Rattle.pulsar_calls.specs.declared.act.Verdict.{Verdict}
-use Rattle.pulsar_calls.specs.declared.act.Who.{Who}
-use Rattle.pulsar_calls.specs.declared.act.Who.TheVariants.{Call, Producer, Consumer}
-use Rattle.pulsar_procedures.specs.declared.plan.Plan.{Plan}
-use Rattle.pulsar_procedures.specs.declared.plan.Plan.TheVariants.{Stored, Storing}
-use Rattle.pulsar_procedures.specs.declared.plan.Turn.{Turn}
-use Rattle.pulsar_procedures.specs.declared.plan.Turn.TheVariants.{Stays, Gives}
+use Rattle.pulsar_laws.proofs.Arcs.{Arc, Begun, begins_storing, begun_arc, part_stores, stored_rests, stores, told_arc}
+use Rattle.pulsar_laws.proofs.Standing.{moves, stands_so}
+use Rattle.pulsar_laws.proofs.Lists.{in_each}
 use Rattle.pulsar_laws.specs.BatchLaws.{StoredEndsByItsBatch, TellsFate, ends_with}
-use Rattle.pulsar_laws.specs.Laws.{Answered, Cause, ComesLate, GrantsSo, IsDropped, IsToldSo, StartsSo, counted, start_of, started}
-use Rattle.pulsar_procedures.specs.Plan.{begins, fails, fault_of, in_stored, stored, told}
-use Rattle.pulsar_tables.specs.Rules.{notice}
-use Rattle.pulsar_agenda.specs.Run.{Entry, Begins, Then, IsRun, agenda, first, rest, view}
-use Rattle.pulsar_tables.specs.View.{Options, View, stays, stays_some, told_some}
-use Rattle.pulsar_calls.specs.Who.{is_same}
-use Rattle.pulsar_agenda.proofs.Acts.{begun_same}
+use Rattle.pulsar_laws.specs.Laws.{ComesLate, GrantsSo, IsDropped, IsToldSo, StartsSo}
+use Rattle.pulsar_plans.specs.Plan.{fault_of, stored}
+use Rattle.pulsar_agenda.specs.Agenda.{rest}
 use Rattle.pulsar_laws.proofs.BatchRun.{fits_first, none_first}
 use Rattle.pulsar_laws.proofs.Caused.{outcomes_are_caused_lem}
 use Rattle.pulsar_laws.proofs.Fitting.{is_settling}
@@ -41,18 +26,15 @@ use Rattle.pulsar_laws.proofs.Follow.{same_is}
 use Rattle.pulsar_laws.proofs.Gathered.{part_from}
 use Rattle.pulsar_laws.proofs.Granted.{BeginsSo, IsLedSo, does_from, tell_said, tell_settling}
 use Rattle.pulsar_laws.proofs.Idlers.{Idle, IdleBy, did_idle, idle_log, idle_older, is_idle, no_batch, no_turn_given, only_open}
-use Rattle.pulsar_laws.proofs.IdleCalls.{OnlyStarts, StartsBy, only_start}
+use Rattle.pulsar_laws.proofs.IdleCalls.{OnlyStarts, only_start}
 use Rattle.pulsar_laws.proofs.InTurn.{self_same}
 use Rattle.pulsar_laws.proofs.Led.{deeds_follow_lem}
 use Rattle.pulsar_laws.proofs.Once.{ends_once_lem}
 use Rattle.pulsar_laws.proofs.Parted.{parts_apart, parts_run}
-use Rattle.pulsar_laws.proofs.Sources.{SomeEntry, in_each, step_some}
+use Rattle.pulsar_laws.proofs.Sources.{SomeEntry, step_some}
 use Rattle.pulsar_laws.proofs.Spots.{same_self}
 use Rattle.pulsar_laws.proofs.Takers.{told_by_own}
 use Rattle.pulsar_laws.proofs.Begun.{has_begun}
-
-none_some : {A : Type 0} {x : A} → None ≡ Some x → ⊥
-none_some {A} {x} h = cc
 
 -- WHERE IT STANDS: its message is stored next, or it is told so next, or it waits
 
@@ -81,9 +63,12 @@ abbrev stays_on : Turn Plan Verdict → Bool
 stays_on (Stays p a) = true
 stays_on (Gives w) = false
 
-abbrev action_in : Turn Plan Verdict → Action
-action_in (Stays p a) = a
-action_in (Gives w) = Rest
+arc_stands : (n t : ℕ) (x : EntryValues) {p q : Plan} {u : Outcome} {a : Action} (now now' : List Act) → Arc p u q a → NextSo n t x (Some p) now →
+    NextSo n t x (Some q) now' × (is_idle a ≡ true)
+arc_stands n t x now now' stores k = (tt, refl)
+arc_stands n t x now now' part_stores k = (tt, refl)
+arc_stands n t x now now' stored_rests k = (tt, refl)
+arc_stands n t x now now' _ k = absurd k
 
 module _ (o : Options) (t n : ℕ) (share : Option Share) (x : EntryValues) where
   abbrev it : Procedure
@@ -129,100 +114,48 @@ module _ (o : Options) (t n : ℕ) (share : Option Share) (x : EntryValues) wher
   does_row log who action fits (Some Stored) k = tt
   does_row log who action fits (Some _) k = absurd k
 
-  stored_row : (s : Option Share) (log : List Entry) → Stands (stays (stored s)) log
-  stored_row None log = tt
-  stored_row (Some s) log = tt
+  abbrev RunSo : List Entry → Type 0
+  RunSo log = IsRun o log × OnlyStarts t it log
 
-  granted_row : (y : News) (log : List Entry) → Stands (stays (in_stored (outcome.Granted y))) log
-  granted_row news.Done log = tt
-  granted_row _ log = tt
+  older_so : (e : Entry) (log : List Entry) → RunSo (e ∷ log) → RunSo log
+  older_so (Begins e) log k = (k.0.0, k.1)
+  older_so (Then a) log k = (k.0.0, k.1.1)
 
-  settled_row : (u : Outcome) (log : List Entry) → Stands (stays (in_stored u)) log
-  settled_row (outcome.Settled (Ok r)) log = tt
-  settled_row (outcome.Settled (Err f)) log = tt
-  settled_row (outcome.Granted y) log = granted_row y log
-  settled_row _ log = tt
+  more : (e : Entry) (log : List Entry) (q : Plan) → moves (Call t) e ≡ false → RunSo (e ∷ log) → (view o log).stand (Call t) ≡ Some q →
+      Stands (Some q) log → Stands (Some q) (e ∷ log)
+  more (Begins e) log q m r s k = begun_row log e r.0.1 (Some q) k
+  more (Then (Does who action)) log q m r s k = does_row log who action r.0.1 (Some q) k
+  more (Then (Told y)) log q m r s k = kept log (Told y) r.0.1 refl m (Some q) k
+  more (Then (Starts who p)) log q m r s k = kept log (Starts who p) r.0.1 refl refl (Some q) k
+  more (Then a) log q m r s k = kept log a r.0.1 refl refl (Some q) k
 
-  told_row : (log : List Entry) (m : Notice) → first (agenda o log) ≡ Some (Told m) → (row : Option Plan) → Stands row log →
-      Stands (stays_some (told_some row m.outcome)) (Then (Told m) ∷ log)
-  told_row log m fits None k = tt
-  told_row log m fits (Some (Storing s)) k = elim (next_so log (Told m) fits k) [
-    | inl e ↦ (let f : false ≡ true = ap is_does e in absurd cc)
-    | inr e ↦ subst (λ u. Stands (stays (told (Storing s) u)) (Then (Told m) ∷ log)) (sym (ap told_what e)) (stored_row s (Then (Told m) ∷ log))
-  ]
-  told_row log m fits (Some Stored) k = settled_row m.outcome (Then (Told m) ∷ log)
-  told_row log m fits (Some _) k = absurd k
+  began : (log : List Entry) (p : Procedure) (q : Plan) (a : Action) → RunSo (Then (Starts (Call t) p) ∷ log) → begins p ≡ Stays q a →
+      Stands (Some q) (Then (Starts (Call t) p) ∷ log)
+  began log p q a r e =
+      subst (λ row. Stands row (Then (Starts (Call t) p) ∷ log)) (ap stays e)
+      (subst (λ z. Stands (stays (begins z)) (Then (Starts (Call t) z) ∷ log)) (sym (r.1.0 (same_self (Call t)))) ((rest (agenda o log)).now, inl refl))
 
-  began : (log : List Entry) (who : Who) (q : Procedure) → q ≡ it → Call t ≡ who → Stands (stays (begins q)) (Then (Starts who q) ∷ log)
-  began log who q is w =
-      subst (λ z. Stands (stays (begins z)) (Then (Starts who z) ∷ log)) (sym is)
-      (subst (λ y. Stands (stays (begins it)) (Then (Starts y it) ∷ log)) w ((rest (agenda o log)).now, inl refl))
-
-  then_stands : (log : List Entry) (a : Act) → IsRun o (Then a ∷ log) → StartsBy t it a → Stands ((view o log).stand (Call t)) log →
-      Stands ((view o (Then a ∷ log)).stand (Call t)) (Then a ∷ log)
-  then_stands log (Starts who q) run only k = elim (cases_Bool (is_same (Call t) who)) [
-    | inl e ↦ rw e (began log who q (only e) (same_is (Call t) who e))
-    | inr e ↦ rw e (kept log (Starts who q) run.1 refl refl ((view o log).stand (Call t)) k)
-  ]
-  then_stands log (Told m) run only k = elim (cases_Bool (is_same (Call t) m.who)) [
-    | inl e ↦ rw e (told_row log m run.1 ((view o log).stand (Call t)) k)
-    | inr e ↦ rw e (kept log (Told m) run.1 refl e ((view o log).stand (Call t)) k)
-  ]
-  then_stands log (Does who action) run only k = does_row log who action run.1 ((view o log).stand (Call t)) k
-  then_stands log (Comes p) run only k = kept log (Comes p) run.1 refl refl ((view o log).stand (Call t)) k
-  then_stands log a run only k = kept log a run.1 refl refl ((view o log).stand (Call t)) k
-
-  stands_run : (log : List Entry) → IsRun o log → OnlyStarts t it log → Stands ((view o log).stand (Call t)) log
-  stands_run [] run k = tt
-  stands_run (Begins e ∷ log) run k =
-      subst (λ row. Stands row (Begins e ∷ log)) (sym (begun_same (λ v. v.stand (Call t)) e (view o log) refl))
-      (begun_row log e run.1 ((view o log).stand (Call t)) (stands_run log run.0 k))
-  stands_run (Then a ∷ log) run k = then_stands log a run k.0 (stands_run log run.0 k.1)
+  stands_run : (log : List Entry) (q : Plan) → RunSo log → (view o log).stand (Call t) ≡ Some q → Stands (Some q) log
+  stands_run =
+      stands_so o (Call t) RunSo older_so (λ log q. Stands (Some q) log) more began
+      (λ log b u q a r s k e. (arc_stands n t x (agenda o log).now (agenda o (Then (Told (notice (Call t) u)) ∷ log)).now (told_arc e) k).0)
 
   -- WHAT IT DOES
 
-  stays_idle : (y : Turn Plan Verdict) → is_idle (action_in y) ≡ true → (q : Plan) (a : Action) → y ≡ Stays q a → is_idle a ≡ true
-  stays_idle y k q a h = sym (ap (λ z. is_idle (action_in z)) h) ∙ k
-
-  stored_idle : (s : Option Share) → is_idle (action_in (stored s)) ≡ true
-  stored_idle None = refl
-  stored_idle (Some s) = refl
-
-  storing_idle : (s : Option Share) (y : News) → is_idle (action_in (told (Storing s) (outcome.Granted y))) ≡ true
-  storing_idle s news.Done = stored_idle s
-  storing_idle s _ = refl
-
-  granted_idle : (y : News) → is_idle (action_in (told Stored (outcome.Granted y))) ≡ true
-  granted_idle news.Done = refl
-  granted_idle _ = refl
-
-  told_idle : (p : Plan) (u : Outcome) (now : List Act) → NextSo n t x (Some p) now → is_idle (action_in (told p u)) ≡ true
-  told_idle (Storing s) (outcome.Granted y) now k = storing_idle s y
-  told_idle (Storing s) _ now k = refl
-  told_idle Stored (outcome.Settled (Ok r)) now k = refl
-  told_idle Stored (outcome.Settled (Err f)) now k = refl
-  told_idle Stored (outcome.Granted y) now k = granted_idle y
-  told_idle Stored _ now k = refl
-  told_idle _ u now k = absurd k
+  begun_idle : {p : Procedure} {q : Plan} {a : Action} → Begun p q a → p ≡ it → is_idle a ≡ true
+  begun_idle begins_storing h = refl
+  begun_idle _ h = absurd cc
 
   does_idle : (log : List Entry) (a : Action) → IsRun o (Then (Does (Call t) a) ∷ log) → OnlyStarts t it log → is_idle a ≡ true
   does_idle log a run k = elim (does_from o log (Call t) a run) [ inl b ↦ begun b | inr l ↦ led l ]
     where
       begun : BeginsSo o log (Call t) a → is_idle a ≡ true
-      begun b =
-          let only : OnlyStarts t (procedure.Store n share x) (Then (Starts (Call t) b.procedure) ∷ b.older) =
-          subst (OnlyStarts t (procedure.Store n share x)) b.is_there k in
-          let is : b.procedure ≡ procedure.Store n share x = only.0 (same_self (Call t)) in
-          stays_idle (begins (procedure.Store n share x)) refl b.plan a (sym (ap begins is) ∙ b.leads)
+      begun b = begun_idle (begun_arc b.leads) ((subst (OnlyStarts t it) b.is_there k).0 (same_self (Call t)))
 
       led : IsLedSo o log (Call t) a → is_idle a ≡ true
       led l =
-          let only : OnlyStarts t (procedure.Store n share x) (Then (Told (notice (Call t) l.outcome)) ∷ l.older) =
-          subst (OnlyStarts t (procedure.Store n share x)) l.is_there k in
-          let r : IsRun o (Then (Told (notice (Call t) l.outcome)) ∷ l.older) = subst (IsRun o) l.is_there run.0 in
-          let so : NextSo n t x (Some l.before) (agenda o l.older).now =
-          subst (λ row. NextSo n t x row (agenda o l.older).now) l.stood (stands_run l.older r.0 only.1) in
-          stays_idle (told l.before l.outcome) (told_idle l.before l.outcome (agenda o l.older).now so) l.plan a l.leads
+          let r : RunSo (Then (Told (notice (Call t) l.outcome)) ∷ l.older) = (subst (IsRun o) l.is_there run.0, subst (OnlyStarts t it) l.is_there k) in
+          (arc_stands n t x (agenda o l.older).now [] (told_arc l.leads) (stands_run l.older l.before (r.0.0, r.1.1) l.stood)).1
 
   idle_by : (log : List Entry) (a : Act) → IsRun o (Then a ∷ log) → OnlyStarts t it log → IdleBy t a
   idle_by log (Does who a) run k = λ same.
@@ -284,7 +217,8 @@ step_idle o t P (Then a ∷ log) run idle (inl i) = inl (run.0, run, idle, i)
 step_idle o t P (Then a ∷ log) run idle (inr i) = inr (step_idle o t P log run.0 idle.1 i)
 
 -- it has no parts
-not_parted : (o : Options) (log : List Entry) (t n : ℕ) (share : Option Share) (x : EntryValues) (u : Outcome) → IsRun o (Then (Told (notice (Call t) u)) ∷ log) →
+not_parted : (o : Options) (log : List Entry) (t n : ℕ) (share : Option Share) (x : EntryValues) (u : Outcome) →
+    IsRun o (Then (Told (notice (Call t) u)) ∷ log) →
     started (Call t) log ≡ Some (procedure.Store n share x) → is_parted u ≡ false
 not_parted o log t n share x (outcome.Parted k f) run s =
     let p = part_from o log t k f run in
@@ -296,7 +230,8 @@ not_parted o log t n share x (outcome.Parted k f) run s =
     ])
 not_parted o log t n share x _ run s = refl
 
-told_open : (o : Options) (log : List Entry) (t n : ℕ) (share : Option Share) (x : EntryValues) (u : Outcome) → IsRun o (Then (Told (notice (Call t) u)) ∷ log) →
+told_open : (o : Options) (log : List Entry) (t n : ℕ) (share : Option Share) (x : EntryValues) (u : Outcome) →
+    IsRun o (Then (Told (notice (Call t) u)) ∷ log) →
     started (Call t) log ≡ Some (procedure.Store n share x) → OnlyStarts t (procedure.Store n share x) log → OpenSo u
 told_open o log t n share x u run s only =
     let idle : Idle t log = idle_run o t n share x log run.0 only in
@@ -398,7 +333,8 @@ stored_ends_lem o log t n share x v run s =
     let k = deeds_follow_lem o log (Call t) (Answered v) run in
     elim k.3 [ inl b ↦ begun k.0 k.1 k.2 only b | inr m ↦ elim m [ inl l ↦ led k.0 k.1 k.2 only l | inr late ↦ later k.0 k.1 late ] ]
   where
-    begun : (e : Entry) (older : List Entry) → log ≡ e ∷ older → OnlyStarts t (procedure.Store n share x) log → StartsSo (Call t) (Answered v) e → Ends o log t v
+    begun : (e : Entry) (older : List Entry) → log ≡ e ∷ older → OnlyStarts t (procedure.Store n share x) log → StartsSo (Call t) (Answered v) e →
+        Ends o log t v
     begun e older there only b =
         let at : OnlyStarts t (procedure.Store n share x) (Then (Starts (Call t) b.0) ∷ older) =
         subst (OnlyStarts t (procedure.Store n share x)) (there ∙ ap (λ y. y ∷ older) b.1) only in
@@ -422,7 +358,8 @@ stored_ends_lem o log t n share x v run s =
     ends older u there r (inr (inl settled)) (inr g) = (let f : true ≡ false = sym g.0 ∙ ap is_fatal settled.1 in absurd cc)
     ends older u there r (inr (inr stop)) (inr g) = (u, older, there, inr (stop, g.1 ∙ ap (λ y. fails (fault_of y)) stop))
 
-    led : (e : Entry) (older : List Entry) → log ≡ e ∷ older → OnlyStarts t (procedure.Store n share x) log → IsToldSo o (Call t) (Answered v) e older → Ends o log t v
+    led : (e : Entry) (older : List Entry) → log ≡ e ∷ older → OnlyStarts t (procedure.Store n share x) log → IsToldSo o (Call t) (Answered v) e older →
+        Ends o log t v
     led e older at only l =
         let u : Outcome = l.0 in
         let there : log ≡ Then (Told (notice (Call t) u)) ∷ older = at ∙ ap (λ y. y ∷ older) l.2 in
@@ -431,5 +368,5 @@ stored_ends_lem o log t n share x v run s =
         subst (OnlyStarts t (procedure.Store n share x)) there only in
         let s0 : started (Call t) older ≡ Some (procedure.Store n share x) = ap (started (Call t)) (sym there) ∙ s in
         let so : NextSo n t x (Some l.1) (agenda o older).now =
-        subst (λ row. NextSo n t x row (agenda o older).now) l.3 (stands_run o t n share x older r.0 before.1) in
+        stands_run o t n share x older l.1 (r.0, before.1) l.3 in
         ends older u there r (told_open o older t n share x u r s0 before.1) (ends_so o older t n share x l.1 u v so r.1 l.4)

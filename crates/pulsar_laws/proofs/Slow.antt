@@ -2,15 +2,16 @@
 use Rattle.std.proofs.Common.{◌≡◌, ◌∙◌, ap, ℕ, refl, ◌==◌, cond, Option, Some, None, Err, inl, inr}
 use Rattle.std.proofs.lemmas.Bool.{cases_Bool, eqb-true}
 use Rattle.std.specs.Option.{option_map}
+use Rattle.pulsar_laws.proofs.ActWords.{Who}
+use Rattle.pulsar_laws.proofs.RunWords.{View, view}
+use Rattle.pulsar_laws.proofs.LinkWords.{answer_at, closed_consumer, is_asked, place_of, Seat, seat_asked, Words}
 use Rattle.pulsar_wire.specs.declared.error.ConnectionError.TheVariants as error
-use Rattle.pulsar_messages.specs.Words.{Words}
 use Rattle.pulsar_session.proofs.Others.{slow_down_changes_nothing}
-use Rattle.pulsar_link.specs.Request.{closed_consumer, is_awaited}
-use Rattle.pulsar_calls.specs.declared.act.Who.{Who}
+use Rattle.pulsar_exchange.specs.Request.{is_awaited}
 use Rattle.pulsar_laws.specs.ProducerLaws.{SlowDownLeavesAll, seat_ticked}
-use Rattle.pulsar_agenda.specs.Run.{view}
 use Rattle.pulsar_consumer_table.specs.Consumers.{Member, closes}
-use Rattle.pulsar_tables.specs.View.{Seat, View, answer_at, asker_at, hears_ask, is_asked, place_of, seat_asked}
+use Rattle.pulsar_acts.specs.View.{hears_ask}
+use Rattle.pulsar_links.specs.Seats.{asker_at}
 
 module _ (who : Who) (now l : ℕ) (request : Words) where
   seat_slow : (row : Option Seat) → answer_at now request row ≡ Err error.SlowDown →

@@ -1,40 +1,22 @@
 -- Some acts come only with a tick, with the alarm of a sign of life, or with the idle check.
-use Rattle.std.proofs.Common.{◌≡◌, ◌⊎◌, inl, inr, sym, subst, ℕ, List, [], ◌∷◌, ◌++◌, refl, map, Bool, true, false, cond, Option, Some, None}
+use Rattle.std.proofs.Common.{◌≡◌, ◌⊎◌, inl, inr, sym, subst, ℕ, List, [], ◌∷◌, refl, map, Bool, true, false, cond, Option, Some, None}
 use Rattle.std.specs.List.{flat_map}
 use Rattle.std.specs.Option.{option_to_list}
-use Rattle.pulsar_run.specs.Laws.{Arises, In, InOne, InThisStep}
+use Rattle.pulsar_laws.proofs.ActWords.{Act, Alarm, Arrival, CheckIdle, Comes, Ends, Heard, Idles, KeepAlive, Notice, numbers_from, Overdue, Pings, Reads, Rings, Told, ToLink}
+use Rattle.pulsar_laws.proofs.RunWords.{Arises, at_once, Begins, Each, each_append, each_either, each_map, Entry, further, In, InOne, InThisStep, is_live, IsRun, joins, Options, over_each, parts, rules, Then, view, View}
+use Rattle.pulsar_laws.proofs.LinkWords.{arrival_at, over_links, Seat}
 use Rattle.pulsar_session.specs.Link.{due}
 use Rattle.pulsar_producer.specs.Routing.{Policy}
-use Rattle.pulsar_calls.specs.declared.act.Act.{Act}
-use Rattle.pulsar_calls.specs.declared.act.Act.TheVariants.{Comes, Told}
-use Rattle.pulsar_calls.specs.declared.act.Alarm.{Alarm}
-use Rattle.pulsar_calls.specs.declared.act.Alarm.TheVariants.{KeepAlive, CheckIdle}
-use Rattle.pulsar_calls.specs.declared.act.Arrival.{Arrival}
 use Rattle.pulsar_calls.specs.declared.act.Arrival.TheVariants.{Bad, Nothing}
-use Rattle.pulsar_calls.specs.declared.act.End.TheVariants.{Overdue, Idles}
-use Rattle.pulsar_calls.specs.declared.act.LinkAct.TheVariants.{Ends, Pings, Reads}
-use Rattle.pulsar_calls.specs.declared.act.Notice.{Notice}
-use Rattle.pulsar_calls.specs.declared.act.Part.TheVariants.{ToLink, Rings}
-use Rattle.pulsar_tables.specs.Alarms.{ringing}
-use Rattle.pulsar_calls.specs.Content.{Heard, Ticked}
-use Rattle.pulsar_calls.specs.Content.{numbers_from}
-use Rattle.pulsar_tables.specs.Rules.{at_once, brings, due_part, further, joins, on_link, over_links, parts, reads_on}
-use Rattle.pulsar_agenda.specs.Run.{Entry, Begins, Then, IsRun, rules, view}
-use Rattle.pulsar_tables.specs.View.{Options, Links, Seat, View, arrival_at, is_live}
-use Rattle.pulsar_agenda.proofs.Acts.{Each, each_append, each_either, each_map, over_each}
-use Rattle.pulsar_agenda.proofs.Raising.{IsRaised, raises}
+use Rattle.pulsar_links.specs.Alarms.{ringing}
+use Rattle.pulsar_calls.specs.Content.{Ticked}
+use Rattle.pulsar_acts.specs.Rules.{brings, reads_on}
+use Rattle.pulsar_links.specs.LinkRules.{due_part, on_link}
+use Rattle.pulsar_links.specs.Seats.{Links}
+use Rattle.pulsar_client.proofs.Raising.{IsRaised, raises}
+use Rattle.pulsar_laws.proofs.Lists.{in_append, in_each, in_map}
 
 -- WHAT IS IN A LIST
-
-pub in_append : {A : Type 0} (x : A) (xs ys : List A) → In x (xs ++ ys) → In x xs ⊎ In x ys
-in_append x [] ys i = inr i
-in_append x (y ∷ xs) ys (inl e) = inl (inl e)
-in_append x (y ∷ xs) ys (inr i) = elim (in_append x xs ys i) [ inl j ↦ inl (inr j) | inr j ↦ inr j ]
-
-pub in_map : {A B : Type 0} (f : A → B) (y : B) (xs : List A) → In y (map f xs) → (x : A) × In x xs × (y ≡ f x)
-in_map f y [] i = absurd i
-in_map f y (x ∷ xs) (inl e) = (x, inl refl, e)
-in_map f y (x ∷ xs) (inr i) = let k = in_map f y xs i in (k.0, inr k.1, k.2)
 
 in_flat_map : {A B : Type 0} (f : A → List B) (y : B) (xs : List A) → In y (flat_map f xs) → (x : A) × In y (f x)
 in_flat_map f y [] i = absurd i
@@ -57,11 +39,6 @@ pub in_one : {A : Type 0} (b : Bool) (x y : A) → In y (cond b (x ∷ []) []) �
 in_one true x y (inl e) = (refl, e)
 in_one true x y (inr i) = absurd i
 in_one false x y i = absurd i
-
-pub in_each : {A : Type 0} (P : A → Type 0) (x : A) (xs : List A) → In x xs → Each P xs → P x
-in_each P x [] i k = absurd i
-in_each P x (y ∷ xs) (inl e) k = subst P (sym e) k.0
-in_each P x (y ∷ xs) (inr i) k = in_each P x xs i k.1
 
 -- WHERE AN ACT COMES FROM
 

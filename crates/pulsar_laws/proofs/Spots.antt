@@ -1,31 +1,15 @@
 -- Along a run, one whose plan reports does so next, and no plan stands where a queued part of a call has not reported.
 use Rattle.std.proofs.Common.{◌≡◌, ◌∙◌, sym, ap, subst, ℕ, List, ◌∷◌, ◌++◌, refl, Bool, true, false, ◌&&◌, cond, Option, Some, None, []}
-use Rattle.std.proofs.lemmas.Bool.{eqb-true, eq-eqb}
-use Rattle.pulsar_run.specs.Run.{first_of, rest}
-use Rattle.pulsar_calls.specs.declared.act.Act.{Act}
-use Rattle.pulsar_calls.specs.declared.act.Act.TheVariants.{Starts, Told, Does}
-use Rattle.pulsar_calls.specs.declared.act.Action.{Action}
-use Rattle.pulsar_calls.specs.declared.act.Action.TheVariants.{Ask, Find, PassTurn, Rest, Shut, StopAll, Store, TakeBatch, Tell, TellAll}
-use Rattle.pulsar_calls.specs.declared.act.Notice.{Notice}
-use Rattle.pulsar_calls.specs.declared.act.Outcome.{Outcome}
+use Rattle.pulsar_laws.proofs.ActWords.{Act, Action, Ask, Does, Find, is_same, Notice, Outcome, Part, PassTurn, Procedure, Rest, Shut, Starts, StopAll, Store, TakeBatch, Tell, TellAll, Told, Verdict, Who}
+use Rattle.pulsar_laws.proofs.PlanWords.{begins, Gives, Plan, Stays, told, Turn}
+use Rattle.pulsar_laws.proofs.RunWords.{agenda, Agenda, at_once, Begins, begun_same, does, Entry, first, first_of, follows, follows_some, IsRun, none_now, Options, rest, rules, stays, stays_some, tells, Then, told_some, view, View}
+use Rattle.pulsar_laws.proofs.LinkWords.{answer_at, told_at}
 use Rattle.pulsar_calls.specs.declared.act.Outcome.TheVariants as outcome
-use Rattle.pulsar_calls.specs.declared.act.Part.{Part}
-use Rattle.pulsar_calls.specs.declared.act.Procedure.{Procedure}
-use Rattle.pulsar_calls.specs.declared.act.Verdict.{Verdict}
-use Rattle.pulsar_calls.specs.declared.act.Who.{Who}
-use Rattle.pulsar_calls.specs.declared.act.Who.TheVariants.{Call, Producer}
-use Rattle.pulsar_procedures.specs.declared.plan.Plan.{Plan}
-use Rattle.pulsar_procedures.specs.declared.plan.Turn.{Turn}
-use Rattle.pulsar_procedures.specs.declared.plan.Turn.TheVariants.{Stays, Gives}
-use Rattle.pulsar_procedures.specs.Plan.{begins, told}
 use Rattle.pulsar_producer_table.specs.Producers.{link_at, next_batch_at}
-use Rattle.pulsar_tables.specs.Rules.{at_once, does, finds, follows, follows_some, tells, told_at}
-use Rattle.pulsar_agenda.specs.Run.{Agenda, Entry, Begins, Then, IsRun, agenda, first, rules, view}
-use Rattle.pulsar_tables.specs.View.{Options, View, answer_at, stand_after, stays, stays_some, told_some}
-use Rattle.pulsar_calls.specs.Who.{is_same}
-use Rattle.pulsar_producer.specs.declared.deed.News.TheVariants as news
+use Rattle.pulsar_acts.specs.Rules.{finds}
+use Rattle.pulsar_acts.specs.View.{stand_after}
+use Rattle.pulsar_outgoing.specs.declared.news.News.TheVariants as news
 use Rattle.pulsar_calls.specs.declared.act.Procedure.TheVariants as procedure
-use Rattle.pulsar_agenda.proofs.Acts.{begun_same, none_now}
 use Rattle.pulsar_laws.proofs.Fitting.{Fits, Holds, Keeps, Leaves, Nowhere, Reports, Spot, Stores, Usual, begins_fits, fits, is_own, is_quick, is_stop, spot, told_fits}
 pub use Rattle.pulsar_laws.proofs.Same.{same_self, same_who}
 

@@ -6,67 +6,40 @@ use Rattle.std.proofs.lemmas.Bool.{cases_Bool, eqb-true}
 use Rattle.std.proofs.lemmas.Bool.Decides.{nat_tests}
 use Rattle.std.specs.List.{filter_map, flat_map}
 use Rattle.std.specs.Option.{option_map, is_some}
-use Rattle.pulsar_run.specs.Laws.{In}
-use Rattle.pulsar_run.specs.Order.{arranged, put, put_all}
-use Rattle.pulsar_run.specs.Run.{first_of, rest, rest_of}
-use Rattle.pulsar_session.specs.Failures.{Exhausted}
+use Rattle.pulsar_laws.proofs.ActWords.{Act, Alarm, Answers, Ask, Asked, Batch, below, Bytes, Call, Calls, CheckIdle, Comes, Dials, Does, Drains, Ends, Get, Heard, is_same, KeepAlive, lacks_tickets, LinkAct, Makes, next_advice, Nothing, Notice, numbers_from, opens, Opens, Outcome, Part, Pings, Polls, Procedure, Reads, Refusal, Retry, Rings, shares, Starts, StopAll, Stops, TakeBatch, Tell, TellAll, Told, ToLink, Wake, Who}
+use Rattle.pulsar_laws.proofs.PlanWords.{fails, Plan, verdict, Ways}
+use Rattle.pulsar_laws.proofs.RunWords.{after, agenda, Agenda, arranged, asks_raw, asks_topics, at_once, Begins, begun, begun_live, begun_same, builds_with, called, causes, checks, Chosen, closes, consumers_after, consumers_made, Each, each_append, each_either, each_flat, each_map, Entry, first, first_case, first_of, flushes, follows_some, from_base, gathers, In, is_live, IsRun, joins, left_with, link_got, live_begun, lost_on, may_call, none_now, notice, Options, over_each, parts_of, procedure_for, producers_made, producers_rung, produces, rest, rest_of, rules, searches, sends, shares_unless, starts, stays_some, stopped_on, tells, Then, Tickets, told_some, turned_by, unless_refused, view, View, ways_of, why_no_sends}
+use Rattle.pulsar_laws.proofs.LinkWords.{address_key, Addresses, arrival_at, Base, closing, Exhausted, got_at, Nobody, over_links, Pause, Pauses, Place, rings, Runs, Seat, Series, Serves, stop_act, tells_asker, took_some}
 use Rattle.pulsar_session.specs.Link.{ends}
-use Rattle.pulsar_plans.specs.Address.{Place, address_key}
-use Rattle.pulsar_calls.specs.declared.act.Act.{Act}
-use Rattle.pulsar_calls.specs.declared.act.Act.TheVariants.{Comes, Starts, Told, Does, Answers, Dials}
-use Rattle.pulsar_calls.specs.declared.act.Action.TheVariants.{Get, Ask, StopAll, TakeBatch, Tell, TellAll}
-use Rattle.pulsar_calls.specs.declared.act.Alarm.{Alarm}
-use Rattle.pulsar_calls.specs.declared.act.Alarm.TheVariants.{Retry, Wake, Batch, KeepAlive, CheckIdle}
-use Rattle.pulsar_calls.specs.declared.act.End.TheVariants.{Stops}
-use Rattle.pulsar_calls.specs.declared.act.LinkAct.{LinkAct}
-use Rattle.pulsar_calls.specs.declared.act.LinkAct.TheVariants.{Opens, Reads, Drains, Pings, Ends}
-use Rattle.pulsar_calls.specs.declared.act.Makes.{Makes}
-use Rattle.pulsar_calls.specs.declared.act.Makes.TheVariants.{Nothing, Client, Consumer, Producer, RawConsumer}
-use Rattle.pulsar_calls.specs.declared.act.Notice.{Notice}
-use Rattle.pulsar_calls.specs.declared.act.Outcome.{Outcome}
-use Rattle.pulsar_calls.specs.declared.act.Part.{Part}
-use Rattle.pulsar_calls.specs.declared.act.Part.TheVariants.{Calls, ToLink, Rings, Polls}
-use Rattle.pulsar_calls.specs.declared.act.Procedure.{Procedure}
-use Rattle.pulsar_calls.specs.declared.act.Who.{Who}
-use Rattle.pulsar_calls.specs.declared.act.Who.TheVariants.{Call}
-use Rattle.pulsar_tables.specs.declared.addresses.Pause.{Pause}
-use Rattle.pulsar_tables.specs.declared.addresses.Series.{Series}
-use Rattle.pulsar_tables.specs.declared.addresses.Series.TheVariants.{Nobody, Runs, Pauses, Serves}
-use Rattle.pulsar_procedures.specs.declared.plan.Plan.{Plan}
-use Rattle.pulsar_plans.specs.declared.turn.Ways.{Ways}
-use Rattle.pulsar_tables.specs.Alarms.{clear, rings}
-use Rattle.pulsar_calls.specs.Content.{Asked, Bytes, Heard, lacks_tickets, shares}
+use Rattle.pulsar_calls.specs.declared.act.Makes.TheVariants.{Client, Consumer, Producer, RawConsumer}
+use Rattle.pulsar_links.specs.Alarms.{clear}
+use Rattle.pulsar_laws.proofs.Lists.{each_arranged, each_asker, each_made, each_opens, each_put_all, in_left, in_right, into_flat}
 use Rattle.pulsar_laws.specs.Laws.{stopped}
 use Rattle.pulsar_laws.specs.AddressLaws.{NoneAfterStop}
-use Rattle.pulsar_tables.specs.Links.{line_places}
-use Rattle.pulsar_calls.specs.Content.{numbers_from}
-use Rattle.pulsar_procedures.specs.Plan.{fails, verdict}
-use Rattle.pulsar_tables.specs.Rules.{closes, gathers, asks_topics, at_once, below, builds_with, called, causes, dropped, ended_on, failed_at, failed_on, failed_over, follows_some, from_base, lost, notice, on_link, opens, over_links, procedure_for, searches, stop_act, stopped_at, stopped_with, tells, tells_asker, unless_refused, waiters_of, asks_raw, checks, flushes, joins, left_with, parts_of, produces, sends, shares_unless, starts, stopped_one, why_no_sends}
+use Rattle.pulsar_links.specs.Links.{line_places}
+use Rattle.pulsar_acts.specs.Rules.{failed_on, stopped_with, waiters_of, stopped_one}
+use Rattle.pulsar_links.specs.LinkRules.{dropped, ended_on, failed_at, failed_over, lost, on_link, stopped_at}
 use Rattle.pulsar_producer_table.specs.Notices.{stopped_all, stopped_call}
-use Rattle.pulsar_agenda.specs.Run.{Agenda, Entry, Begins, Then, IsRun, agenda, first, rules, view}
-use Rattle.pulsar_tables.specs.View.{after, Addresses, Base, Options, Links, Seat, Tickets, View, alarms_after, alarms_built, alarms_on, alarms_over, begun, begun_live, builds, calls_after, got_at, is_live, link_got, live_after, live_begun, pause_after, pause_of, pause_on, pause_put, pause_rung, told_some, took_some, turned_by, ways_of, Chosen, may_call, producers_after, producers_made, producers_rung, stand_after, stays_some, arrival_at, closing, consumers_after, consumers_made}
+use Rattle.pulsar_acts.specs.View.{alarms_after, alarms_built, alarms_on, alarms_over, builds, calls_after, live_after, pause_after, pause_of, pause_on, pause_rung, producers_after, stand_after}
+use Rattle.pulsar_links.specs.Seats.{Links, pause_put}
 use Rattle.pulsar_producer_table.specs.declared.table.Topic.{Topic}
-use Rattle.pulsar_producer.specs.Storage.{Item}
+use Rattle.pulsar_outgoing.specs.Storage.{Item}
 use Rattle.pulsar_producer.specs.Topic.{Halts, Seen, TakesBatch, left_of, next_of}
-use Rattle.pulsar_producer.specs.declared.deed.News.TheVariants as news
+use Rattle.pulsar_outgoing.specs.declared.news.News.TheVariants as news
 use Rattle.pulsar_messages.specs.Content.{ProducerMessageValues}
 use Rattle.pulsar_producer_table.specs.Producers.{Producers, called_on, changed, next_batch_at, topic_after, unsent, waiting, why_not}
-use Rattle.pulsar_calls.specs.Content.{next_advice}
-use Rattle.pulsar_calls.specs.declared.act.Refusal.{Refusal}
-use Rattle.pulsar_calls.specs.Who.{is_same}
 use Rattle.pulsar_calls.specs.declared.act.Refusal.TheVariants as refusal
 use Rattle.pulsar_calls.specs.declared.act.Outcome.TheVariants as outcome
 use Rattle.pulsar_calls.specs.declared.act.Procedure.TheVariants as procedure
-use Rattle.pulsar_plans.specs.declared.plan.Procedure.TheVariants as sought
+use Rattle.pulsar_searches.specs.declared.plan.Procedure.TheVariants as sought
 use Rattle.pulsar_calls.specs.Content as content
 use Rattle.pulsar_laws.proofs.Asked.{stop_clear}
-use Rattle.pulsar_agenda.proofs.Acts.{Each, begun_same, each_append, each_either, each_flat, each_map, first_case, none_now, over_each}
 use Rattle.pulsar_laws.proofs.Attempts.{is_dial}
 use Rattle.pulsar_laws.proofs.Keepers.{Keeps, RowSo, batch_keeps, ends_settled, settled_some}
 use Rattle.pulsar_laws.proofs.Spots.{calm_stop, same_self, same_who, spot_of}
 use Rattle.pulsar_laws.proofs.LastWords.{AreLast, batch_fine, batch_some, batch_told, calm_fine, each_last, ends_fine, ends_some, is_fine, is_last_word, is_leaving, IsLast, IsLastNotice, IsLate, IsParting, last_append, last_rest, last_some, left_fine, left_some, makes_nothing, settling_told, some_fine, taking_told}
 use Rattle.pulsar_consumer_table.specs.Notices.{heard_at, lost_at}
-use Rattle.pulsar_tables.specs.Reading.{acknowledges, leaves, lost_on, made_due, stopped_on, subscribes}
+use Rattle.pulsar_acts.specs.Reading.{acknowledges, leaves, made_due, subscribes}
 use Rattle.pulsar_consumer_table.specs.Consumers.{Consumers, Member, hears, loses_by, member_after, over_rows}
 use Rattle.pulsar_laws.proofs.Members.{Gone, called_rows, gone_map, heard_gone, left_rows, loss_gone, no_due, no_loss, poll_gone, there_each}
 use Rattle.pulsar_laws.proofs.Wording.{IsStoppedWord, is_stopped_word, rows_each, stopped_words}
@@ -77,42 +50,12 @@ use Rattle.pulsar_messages.specs.Words as words
 
 -- LISTS
 
-in_left : {A : Type 0} (x : A) (xs ys : List A) → In x xs → In x (xs ++ ys)
-in_left x [] ys h = absurd h
-in_left x (y ∷ xs) ys (inl e) = inl e
-in_left x (y ∷ xs) ys (inr h) = inr (in_left x xs ys h)
-
-in_right : {A : Type 0} (x : A) (xs ys : List A) → In x ys → In x (xs ++ ys)
-in_right x [] ys h = h
-in_right x (y ∷ xs) ys h = inr (in_right x xs ys h)
-
-in_flat : {A B : Type 0} (f : A → List B) (x : A) (y : B) (xs : List A) → In x xs → In y (f x) → In y (flat_map f xs)
-in_flat f x y [] h i = absurd h
-in_flat f x y (z ∷ xs) (inl e) i = in_left y (f z) (flat_map f xs) (subst (λ u. In y (f u)) e i)
-in_flat f x y (z ∷ xs) (inr h) i = in_right y (f z) (flat_map f xs) (in_flat f x y xs h i)
-
 in_numbers : (n start l : ℕ) → start ≤ l → nat_lt l (start + n) ≡ true → In l (numbers_from start n)
 in_numbers zero start l h k = absurd (grind (arith, nat_tests))
 in_numbers (suc n) start l h k = elim (cases_Bool (l == start)) [
   | inl e ↦ inl (eqb-true l start e)
   | inr e ↦ inr (in_numbers n (suc start) l (grind (arith, nat_tests)) (grind (arith, nat_tests)))
 ]
-
-each_put : (P : Notice → Type 0) (x : Notice) (ys : List Notice) → P x → Each P ys → Each P (put below x ys)
-each_put P x [] p q = (p, tt)
-each_put P x (y ∷ ys) p q = each_either P (below x y) (x ∷ y ∷ ys) (y ∷ put below x ys) (p, q) (q.0, each_put P x ys p q.1)
-
-each_put_all : (P : Notice → Type 0) (xs ys : List Notice) → Each P xs → Each P ys → Each P (put_all below xs ys)
-each_put_all P [] ys p q = q
-each_put_all P (x ∷ xs) ys p q = each_put_all P xs (put below x ys) p.1 (each_put P x ys p.0 q)
-
-each_arranged : (P : Notice → Type 0) (causes : List (List Notice)) → Each (Each P) causes → Each (Each P) (map (arranged below) causes)
-each_arranged P [] k = tt
-each_arranged P (ns ∷ causes) k = (each_put_all P ns [] k.0 tt, each_arranged P causes k.1)
-
-each_opens : (P : Notice → Type 0) (ns : List Notice) → Each P ns → Each (Each P) (opens ns)
-each_opens P [] k = tt
-each_opens P (n ∷ ns) k = (k, tt)
 
 -- LINKS
 
@@ -173,7 +116,8 @@ last_call : (o : Chosen) (c : Tickets) (cs : Consumers) (ps : Producers) (advice
     IsLast (Starts who (procedure_for o c cs ps advice asked))
 last_call o c cs ps advice content.Build who h = refused_unless who (not c.is_stopped) (builds_with o.outbound o.base) (ap not h)
 last_call o c cs ps advice content.Stop who h = refused_unless who (may_call c) procedure.Stop (not_open c h)
-last_call o c cs ps advice (content.Topics namespace mode) who h = refused_unless who (may_call c) (from_base o.base (asks_topics namespace mode)) (not_open c h)
+last_call o c cs ps advice (content.Topics namespace mode) who h =
+    refused_unless who (may_call c) (from_base o.base (asks_topics namespace mode)) (not_open c h)
 last_call o c cs ps advice (content.Lookup t) who h = refused_unless who (may_call c) (searches (ways_of o) (sought.Look t)) (not_open c h)
 last_call o c cs ps advice (content.Partitions t) who h = refused_unless who (may_call c) (searches (ways_of o) (sought.CountPartitions t)) (not_open c h)
 last_call o c cs ps advice (content.Brokers t) who h = refused_unless who (may_call c) (searches (ways_of o) (sought.Name t)) (not_open c h)
@@ -209,27 +153,13 @@ last_called v advice asked h =
     (last_call v.chosen v.calls v.consumers v.producers advice asked (Call v.calls.drawn) h, last_parts v advice asked h)
 
 -- whoever asked on a link that the stop ends, or waits for its address
-last_askers : (says : ℕ → Outcome) (askers : ℕ → Option Who) (places : List ℕ) → ((p : ℕ) → is_last_word (says p) ≡ true) →
-    Each IsLastNotice (filter_map (tells_asker says askers) places)
-last_askers says askers [] is = tt
-last_askers says askers (p ∷ ps) is = one (askers p) refl (last_askers says askers ps is)
-  where
-    one : (r : Option Who) → askers p ≡ r → Each IsLastNotice (filter_map (tells_asker says askers) ps) →
-        Each IsLastNotice (filter_map (tells_asker says askers) (p ∷ ps))
-    one None e more = rw e more
-    one (Some w) e more = rw e (is p, more)
-
-last_map : (u : Outcome) (ws : List Who) → is_last_word u ≡ true → Each IsLastNotice (map (λ who. notice who u) ws)
-last_map u [] is = tt
-last_map u (w ∷ ws) is = (is, last_map u ws is)
-
 last_ended : (now : ℕ) (row : Option Seat) → Each IsLastNotice (ended_on Stops now row)
 last_ended now None = tt
 last_ended now (Some seat) =
     each_append IsLastNotice (filter_map (tells_asker (lost Stops now seat.seen) seat.askers) (ends seat.seen))
     (filter_map (tells_asker (λ p. dropped Stops) seat.askers) (line_places seat.seen))
-    (last_askers (lost Stops now seat.seen) seat.askers (ends seat.seen) (λ p. refl))
-    (last_askers (λ p. dropped Stops) seat.askers (line_places seat.seen) (λ p. refl))
+    (each_asker IsLastNotice (lost Stops now seat.seen) seat.askers (λ p w. refl) (ends seat.seen))
+    (each_asker IsLastNotice (λ p. dropped Stops) seat.askers (λ p w. refl) (line_places seat.seen))
 
 last_failed : (s : Series) (ws : List Who) → Each IsLastNotice (failed_at Stops s ws)
 last_failed Nobody ws = tt
@@ -261,7 +191,7 @@ last_caused v l gone =
 
 last_at : (known : Addresses) (row : Option Pause) → Each IsLastNotice (stopped_at known row)
 last_at known None = tt
-last_at known (Some p) = last_map outcome.Stopped (known.base (address_key p.address)).waiting refl
+last_at known (Some p) = each_made IsLastNotice (λ who. notice who outcome.Stopped) (λ w. refl) (known.base (address_key p.address)).waiting
 
 last_with : (known : Addresses) (a : Alarm) → Each IsLastNotice (stopped_with known a)
 last_with known (Retry l) = last_at known (known.pause l)
@@ -434,11 +364,12 @@ module _ (o : Options) (log : List Entry) (run : IsRun o log) (k : Over o log) w
       let Q : Notice → Type 0 = IsLate (after a v).stand in
       record {
         now = last_append (after a v).stand (at_once v a) (rest g).now once (last_rest v.stand g.now g.here g.behind g.parts k.now);
-        here = each_put_all Q (joins v a) (rest g).here join (each_map P Q (rest g).here late (rest_here P g.now g.here g.behind g.parts k.here k.behind));
+        here =
+            each_put_all Q below (joins v a) (rest g).here join (each_map P Q (rest g).here late (rest_here P g.now g.here g.behind g.parts k.here k.behind));
         behind =
             each_append (Each Q) (rest g).behind (map (arranged below) (causes v a))
             (each_map (Each P) (Each Q) (rest g).behind (λ ns h. each_map P Q ns late h) (rest_behind P g.now g.here g.behind g.parts k.behind))
-            (each_arranged Q (causes v a) (lasts_late (after a v).stand (causes v a) caused));
+            (each_arranged Q below (causes v a) (lasts_late (after a v).stand (causes v a) caused));
         pauses = λ l. ap (pause_after v a l) (k.pauses l) ∙ pauses l;
         alarms = alarms;
         is_stopped = still_stopped a;
@@ -517,7 +448,8 @@ module _ (o : Options) (log : List Entry) (run : IsRun o log) (k : Over o log) w
       ∙ ap (λ cs. cs.rows t) (none_made v.links.live who verdict.makes v.consumers is))) (k.gone t))
       (λ l e. absurd cc)
   last_on (Starts who (procedure.Refuse r)) fits is =
-      goes_over (Starts who (procedure.Refuse r)) fits refl (refused_ends who r) (inl refl, tt) tt tt (λ l. refl) k.alarms (λ w. refused_fine who w r) k.bare k.gone
+      goes_over (Starts who (procedure.Refuse r)) fits refl (refused_ends who r) (inl refl, tt) tt tt (λ l. refl) k.alarms (λ w. refused_fine who w r) k.bare
+      k.gone
       (λ l e. absurd cc)
   last_on a fits is = absurd cc
 
@@ -654,7 +586,7 @@ in_over : (ls : Links) (l : ℕ) (seat : Seat) → ls.live l ≡ Some seat → n
 in_over ls l seat h lt =
     let own : In (Comes (ToLink l (Ends Stops))) (on_link stop_act ls.live l) = rw h (inl refl) in
     let below_all : nat_lt l (0 + ls.started) ≡ true = grind (arith, nat_tests) in
-    in_flat (on_link stop_act ls.live) l (Comes (ToLink l (Ends Stops))) (numbers_from 0 ls.started) (in_numbers ls.started 0 l (omega arith) below_all) own
+    into_flat (on_link stop_act ls.live) l (Comes (ToLink l (Ends Stops))) (numbers_from 0 ls.started) (in_numbers ls.started 0 l (omega arith) below_all) own
 
 over_starts : (o : Options) (log : List Entry) (who : Who) → IsRun o log → first (agenda o log) ≡ Some (Does who StopAll) →
     Over o (Then (Does who StopAll) ∷ log)
@@ -676,7 +608,7 @@ over_starts o log who run fits =
       behind =
           each_append (Each P) (rest (agenda o log)).behind (map (arranged below) (opens ((told ++ waits) ++ readers)))
           (subst (Each (Each P)) (sym clear.behind) tt)
-          (each_arranged P (opens ((told ++ waits) ++ readers))
+          (each_arranged P below (opens ((told ++ waits) ++ readers))
           (each_opens P ((told ++ waits) ++ readers) (each_map IsLastNotice P ((told ++ waits) ++ readers) (λ n is. inl is)
           (each_append IsLastNotice (told ++ waits) readers
           (each_append IsLastNotice told waits (each_flat IsLastNotice (λ e. stopped_with v.addresses e.0) v.alarms (λ e. last_with v.addresses e.0))

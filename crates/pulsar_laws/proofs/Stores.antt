@@ -1,84 +1,30 @@
 -- Only a call that begins so stores a message: its own.
-use Rattle.std.proofs.Common.{◌≡◌, ◌⊎◌, ℕ, List, [], ◌∷◌, refl, Bool, true, false, cond, Option, Some, None, Result, Ok, Err, ◌==◌}
-use Rattle.std.specs.Prelude.{◌&&◌, not}
-use Rattle.pulsar_wire.specs.Row.{Values}
-use Rattle.pulsar_wire.specs.Rows.{send_receipt}
-use Rattle.pulsar_session.specs.Failures.{Failure}
-use Rattle.pulsar_link.specs.Messages.{Reply}
-use Rattle.pulsar_link.specs.Refusals.{refused}
-use Rattle.pulsar_link.specs.Request.{is_answered, request_number}
-use Rattle.pulsar_plans.specs.Plans as search
-use Rattle.pulsar_plans.specs.declared.plan.Answer.{Answer}
-use Rattle.pulsar_plans.specs.declared.plan.Plan.{Plan as Search}
-use Rattle.pulsar_plans.specs.declared.turn.Action.{Action as Wish}
-use Rattle.pulsar_plans.specs.declared.turn.Action.TheVariants as wish
-use Rattle.pulsar_plans.specs.declared.turn.Turn.{Turn as SearchTurn}
-use Rattle.pulsar_plans.specs.declared.turn.Turn.TheVariants as search_turn
-use Rattle.pulsar_plans.specs.declared.turn.Ways.{Ways}
-use Rattle.pulsar_producer.specs.Batching as batches
-use Rattle.pulsar_producer.specs.Plans as produce
-use Rattle.pulsar_producer.specs.declared.batching.Batching.{Batching as Batches}
-use Rattle.pulsar_producer.specs.declared.batching.Goes.{Goes as Next}
-use Rattle.pulsar_producer.specs.declared.building.Building.{Building as Build}
-use Rattle.pulsar_producer.specs.declared.building.Order.{Order}
-use Rattle.pulsar_producer.specs.declared.content.Built.{Built}
-use Rattle.pulsar_producer.specs.declared.deed.Deed.{Deed}
-use Rattle.pulsar_producer.specs.declared.deed.Deed.TheVariants as deed
-use Rattle.pulsar_producer.specs.declared.deed.News.TheVariants as news
-use Rattle.pulsar_producer.specs.declared.deed.Step.{Step}
-use Rattle.pulsar_producer.specs.declared.deed.Step.TheVariants as step
-use Rattle.pulsar_producer.specs.declared.sending.Errand.{Errand}
-use Rattle.pulsar_producer.specs.declared.sending.Sending.{Sending as Send}
-use Rattle.pulsar_calls.specs.declared.act.Action.{Action}
-use Rattle.pulsar_calls.specs.declared.act.Action.TheVariants.{Store}
-use Rattle.pulsar_calls.specs.declared.act.Outcome.{Outcome}
-use Rattle.pulsar_calls.specs.declared.act.Outcome.TheVariants as outcome
-use Rattle.pulsar_calls.specs.declared.act.Place.TheVariants.{At, Link}
-use Rattle.pulsar_calls.specs.declared.act.Procedure.{Procedure}
+use Rattle.std.proofs.Common.{◌≡◌, ℕ, List, [], ◌∷◌, refl, Bool, true, false, Option, Some, None, ◌==◌, ◌∙◌, ap, subst, inl, inr, ◌+◌, drop, length}
+use Rattle.std.specs.Prelude.{not}
 use Rattle.pulsar_calls.specs.declared.act.Procedure.TheVariants as procedure
-use Rattle.pulsar_calls.specs.declared.act.Round.{Round}
-use Rattle.pulsar_calls.specs.declared.act.Round.TheVariants.{Checks, Flushes, Closes}
-use Rattle.pulsar_calls.specs.declared.act.Share.{Share}
-use Rattle.pulsar_calls.specs.declared.act.Verdict.{Verdict}
-use Rattle.pulsar_calls.specs.declared.act.Who.TheVariants.{Call}
-use Rattle.pulsar_procedures.specs.declared.plan.At.{At as Spot}
-use Rattle.pulsar_procedures.specs.declared.plan.At.TheVariants as at
-use Rattle.pulsar_procedures.specs.declared.plan.Plan.{Plan}
-use Rattle.pulsar_procedures.specs.declared.plan.Plan.TheVariants.{Building, Getting, Asking, Awaiting, Searching, Producing, Sending, Reporting, Storing, Stored, Batching, Leaving, Gathering, Shutting, Visiting, Stopping, Subscribing, Serving, Acknowledging, Departing}
-use Rattle.pulsar_procedures.specs.declared.plan.Turn.{Turn}
-use Rattle.pulsar_procedures.specs.declared.plan.Turn.TheVariants.{Stays, Gives}
-use Rattle.pulsar_procedures.specs.declared.plan.Wanted.{Wanted}
-use Rattle.pulsar_procedures.specs.Plan.{action_of, asks_of, batches_on, begins, builds, fails_in, goes, goes_on_sending, goes_round, gathers, halted, in_asking, in_awaiting, in_finding, in_passing, in_settling, in_stored, in_storing, in_turning, is_answer, is_settled, leaves, news_in, news_of, overrides, sends_stay, settled, stands, stored, told, told_at, told_batch, told_send, visited, visits, waits, wished}
-use Rattle.pulsar_producer.specs.Batching.{is_sent_send}
-use Rattle.pulsar_agenda.proofs.Acts.{Each}
-use Rattle.std.proofs.Common.{◌∙◌, ap, subst, inl, inr, ◌+◌, drop, length, ◌++◌}
 use Rattle.std.specs.Option.{is_some}
-use Rattle.pulsar_run.specs.Laws.{In, InThisStep}
+use Rattle.pulsar_laws.proofs.ActWords.{Act, Action, Asked, Call, Checks, Comes, Flushes, lacks_tickets, Link, next_advice, Outcome, Procedure, Refusal, Share, shares, Starts, Store, Verdict}
+use Rattle.pulsar_laws.proofs.PlanWords.{action_of, Batches, begins, Building as Build, Deed, Errand, Gives, News, Order, Plan, Sending as Send, Sought, Stays, told, Turn, Ways}
+use Rattle.pulsar_laws.proofs.RunWords.{asks_raw, asks_topics, Begins, builds_with, checks, Chosen, closes, Each, Entry, fails_as, flushes, flushes_all, from_base, gathers as gathers_by, In, InThisStep, IsRun, may_call, parts_of, procedure_for, produces, produces_from, searches, sends, sends_as, sends_by, share, shares_of, shares_unless, starts, stores_as, Then, unless, unless_refused, view, View, ways_of, why_no_raw, why_no_sends}
+use Rattle.pulsar_laws.proofs.LinkWords.{Place}
 use Rattle.pulsar_frame.specs.Batch.{EntryValues}
 use Rattle.pulsar_messages.specs.Content.{ProducerMessageValues}
-use Rattle.pulsar_link.specs.Request.{named_producer}
-use Rattle.pulsar_plans.specs.Address.{Place}
-use Rattle.pulsar_plans.specs.declared.plan.Procedure.{Procedure as Sought}
-use Rattle.pulsar_plans.specs.declared.plan.Procedure.TheVariants as sought
-use Rattle.pulsar_producer.specs.Batch.{entry_of}
-use Rattle.pulsar_producer.specs.Wanted.{ProducerWanted}
+use Rattle.pulsar_searches.specs.declared.plan.Procedure.TheVariants as sought
+use Rattle.pulsar_outgoing.specs.Batch.{entry_of}
+use Rattle.pulsar_outgoing.specs.Wanted.{ProducerWanted}
+use Rattle.pulsar_laws.proofs.Cases.{cond_so}
 use Rattle.pulsar_laws.specs.BatchLaws.{BringsEntry, StoredAtOnce}
-use Rattle.pulsar_calls.specs.declared.act.Act.{Act}
-use Rattle.pulsar_calls.specs.declared.act.Act.TheVariants.{Comes, Starts}
-use Rattle.pulsar_calls.specs.declared.act.Refusal.{Refusal}
 use Rattle.pulsar_calls.specs.declared.act.Refusal.TheVariants as refusal
 use Rattle.pulsar_calls.specs.declared.act.Says.TheVariants as says
 use Rattle.pulsar_calls.specs.Content as content
-use Rattle.pulsar_calls.specs.Content.{Asked, lacks_tickets, sent_by, shares}
+use Rattle.pulsar_calls.specs.Content.{sent_by}
 use Rattle.pulsar_producer_table.specs.Producers.{Producers, advice, batches_in, errand_of, numbers_at, routed, why_not}
-use Rattle.pulsar_calls.specs.Content.{next_advice}
-use Rattle.pulsar_tables.specs.Rules.{asks_raw, asks_topics, builds_with, call_part, checks, closes, fails_as, flushes, flushes_all, from_base, gathers as gathers_by, is_taken, parts_of, procedure_for, produces, produces_from, searches, sends, sends_as, sends_by, share, shares_of, shares_unless, starts, stores_as, unless, unless_refused, why_no_sends, why_no_raw}
-use Rattle.pulsar_agenda.specs.Run.{Entry, Begins, Then, IsRun, view}
-use Rattle.pulsar_tables.specs.View.{Chosen, View, may_call, ways_of}
+use Rattle.pulsar_acts.specs.Rules.{call_part}
 use Rattle.pulsar_laws.proofs.Granted.{BeginsSo, does_from, in_each}
 use Rattle.pulsar_laws.proofs.Made.{calls_are_made_lem}
-use Rattle.pulsar_laws.proofs.Natures.{StaysSo, either_so}
-use Rattle.pulsar_laws.proofs.Consuming.{IsModest, begins_modest, humble_call, is_humble, is_modest, stays_map, told_modest}
+use Rattle.pulsar_laws.proofs.Arcs.{Arc, BatchArc, Begun, StaysSo, batch_sends, batches_go, begins_storing, builds_on, by_begun, part_sends, sends as sends_on, stays_by}
+use Rattle.pulsar_laws.proofs.ProducerArcs.{BuildArc, SendArc, draws, naming_rests}
+use Rattle.pulsar_laws.proofs.Consuming.{humble_call, is_humble}
 
 abbrev is_store : Action → Bool
 is_store (Store n e) = true
@@ -87,237 +33,47 @@ is_store _ = false
 abbrev NoStore : Plan → Action → Type 0
 NoStore p a = is_store a ≡ false
 
-wish_none : (x : Wish) → is_store (wished x) ≡ false
-wish_none (wish.Get p) = refl
-wish_none (wish.Ask l request) = refl
-wish_none (wish.Wait delay) = refl
+send_none : {w : Ways} {e : Errand} {s q : Send} {y : News} {d : Deed} → SendArc w e s y q d → is_store (action_of d) ≡ false
+send_none draws = refl
+send_none _ = refl
 
-deed_none : (d : Deed) → is_store (action_of d) ≡ false
-deed_none (deed.Does x) = wish_none x
-deed_none _ = refl
+build_none : {w : Ways} {o : Order} {b q : Build} {y : News} {d : Deed} → BuildArc w o b y q d → is_store (action_of d) ≡ false
+build_none naming_rests = refl
+build_none _ = refl
 
-search_none : (w : Ways) (t : SearchTurn Search (Result Answer Failure)) → StaysSo NoStore (goes w t)
-search_none w (search_turn.Stays s x) = wish_none x
-search_none w (search_turn.Gives a) = tt
+batch_none : {w : Ways} {e : Errand} {b q : Batches} {y : News} {d : Deed} → BatchArc w e b y q d → is_store (action_of d) ≡ false
+batch_none (batch_sends k) = send_none k
+batch_none _ = refl
 
-build_none : (w : Ways) (o : Order) (b : Step Build (Result (List Built) Failure)) → StaysSo NoStore (builds w o b)
-build_none w o (step.Stays b d) = (deed_none d)
-build_none w o (step.Gives (Ok parts)) = tt
-build_none w o (step.Gives (Err f)) = tt
-
-leaves_none : (share : Option Share) (f : Failure) → StaysSo NoStore (leaves share f)
-leaves_none None f = tt
-leaves_none (Some s) f = refl
-
-halted_none : (share : Option Share) (u : Outcome) → StaysSo NoStore (halted share u)
-halted_none None u = tt
-halted_none (Some s) u = refl
-
-stay_none : (w : Ways) (e : Errand) (share : Option Share) (s : Send) (d : Deed) → StaysSo NoStore (sends_stay w e share s d)
-stay_none w e None s d = (deed_none d)
-stay_none w e (Some share) s d = either_so NoStore (is_sent_send s) _ _ refl (deed_none d)
-
-send_none : (w : Ways) (e : Errand) (share : Option Share) (x : produce.Sent) → StaysSo NoStore (goes_on_sending w e share x)
-send_none w e share (step.Stays s d) = stay_none w e share s d
-send_none w e share (step.Gives (Ok r)) = tt
-send_none w e share (step.Gives (Err f)) = leaves_none share f
-
-sending_none : (w : Ways) (e : Errand) (share : Option Share) (s : Send) (u : Outcome) → StaysSo NoStore (told_send w e share s u)
-sending_none w e share s u =
-    either_so NoStore (overrides u && not (is_sent_send s)) _ _ (halted_none share u) (send_none w e share (produce.send_told w e s (news_of u)))
-
-waits_none : (w : Wanted) → StaysSo NoStore (waits w)
-waits_none w = either_so NoStore (is_answered w.number) _ _ refl tt
-
-stands_none : (w : Wanted) → StaysSo NoStore (stands w)
-stands_none w = either_so NoStore (is_answered w.number) _ _ refl tt
-
-gathers_none : (first count left : ℕ) (failures : List (ℕ × Failure)) → StaysSo NoStore (gathers first count left failures)
-gathers_none first count left failures = either_so NoStore (left == 0) _ _ tt refl
-
--- A MESSAGE THAT IS STORED, AND BATCHES
-
-stored_none : (share : Option Share) → StaysSo NoStore (stored share)
-stored_none None = refl
-stored_none (Some s) = refl
-
-storing_none : (share : Option Share) (u : Outcome) → StaysSo NoStore (in_storing share u)
-storing_none share (outcome.Granted news.Done) = stored_none share
-storing_none share (outcome.Granted _) = tt
-storing_none share _ = tt
-
-fate_none : (f : Result (Values send_receipt) Failure) → StaysSo NoStore (settled f)
-fate_none (Ok receipt) = tt
-fate_none (Err f) = tt
-
-in_stored_none : (u : Outcome) → StaysSo NoStore (in_stored u)
-in_stored_none (outcome.Settled f) = fate_none f
-in_stored_none (outcome.Granted news.Done) = refl
-in_stored_none (outcome.Granted _) = tt
-in_stored_none _ = tt
-
-next_none : (w : Ways) (e : Errand) (x : Next) → StaysSo NoStore (batches_on w e x)
-next_none w e x = deed_none x.deed
-
-batching_none : (w : Ways) (e : Errand) (b : Batches) (u : Outcome) → StaysSo NoStore (told_batch w e b u)
-batching_none w e b u =
-    either_so NoStore (overrides u) _ _ (next_none w e (batches.halted b)) (next_none w e (batches.told w e b (news_of u)))
-
--- A ROUND
-
-visits_none : (r : Round) (n : ℕ) (left : List ℕ) → StaysSo NoStore (visits r n left)
-visits_none Checks n left = refl
-visits_none Flushes n left = refl
-visits_none Closes n left = refl
-
-round_none : (r : Round) (ns : List ℕ) → StaysSo NoStore (goes_round r ns)
-round_none r [] = tt
-round_none r (n ∷ ns) = visits_none r n ns
-
-settled_none : (r : Round) (n : ℕ) (left : List ℕ) → StaysSo NoStore (is_settled r n left)
-settled_none Checks n left = refl
-settled_none Flushes n left = round_none Flushes left
-settled_none Closes n left = refl
-
-settling_none : (r : Round) (n : ℕ) (left : List ℕ) (u : Outcome) → StaysSo NoStore (in_settling r n left u)
-settling_none r n left (outcome.Granted news.Done) = settled_none r n left
-settling_none r n left (outcome.Granted _) = tt
-settling_none r n left _ = tt
-
-turning_none : (r : Round) (n : ℕ) (left : List ℕ) (u : Outcome) → StaysSo NoStore (in_turning r n left u)
-turning_none r n left (outcome.Granted (news.HasTurn version)) = refl
-turning_none r n left (outcome.Granted _) = tt
-turning_none r n left _ = tt
-
-finding_none : (r : Round) (n : ℕ) (left : List ℕ) (u : Outcome) → StaysSo NoStore (in_finding r n left u)
-finding_none r n left (outcome.GotLink l) = refl
-finding_none r n left _ = refl
-
-asking_none : (r : Round) (n : ℕ) (left : List ℕ) (u : Outcome) → StaysSo NoStore (in_asking r n left u)
-asking_none r n left outcome.Queued = refl
-asking_none r n left outcome.InLine = refl
-asking_none r n left _ = refl
-
-passing_none : (r : Round) (n : ℕ) (left : List ℕ) (u : Outcome) → StaysSo NoStore (in_passing r n left u)
-passing_none r n left (outcome.Granted news.Done) = refl
-passing_none r n left (outcome.Granted _) = tt
-passing_none r n left _ = tt
-
-visited_none : (r : Round) (left : List ℕ) (n : ℕ) (reply : Reply) → StaysSo NoStore (visited r left n reply)
-visited_none r left n reply =
-    either_so NoStore (is_answer (request_number (asks_of r n)) reply.content.body) (goes_round r left)
-    (fails_in r (refused reply reply.content.body)) (round_none r left) tt
-
-awaiting_none : (r : Round) (n : ℕ) (left : List ℕ) (u : Outcome) → StaysSo NoStore (in_awaiting r n left u)
-awaiting_none r n left (outcome.Replied reply) = visited_none r left n reply
-awaiting_none r n left outcome.Queued = refl
-awaiting_none r n left _ = tt
-
-visit_none : (r : Round) (n : ℕ) (left : List ℕ) (x : Spot) (u : Outcome) → StaysSo NoStore (told_at r n left x u)
-visit_none r n left at.Settling u = settling_none r n left u
-visit_none r n left at.Turning u = turning_none r n left u
-visit_none r n left at.Finding u = finding_none r n left u
-visit_none r n left at.Asking u = asking_none r n left u
-visit_none r n left at.Passing u = passing_none r n left u
-visit_none r n left at.Awaiting u = awaiting_none r n left u
-
-shut_none : (ns : List ℕ) (u : Outcome) → StaysSo NoStore (told (Shutting ns) u)
-shut_none ns (outcome.Granted news.Done) = round_none Closes ns
-shut_none ns (outcome.Granted _) = tt
-shut_none ns _ = tt
-
--- CONSUMERS
-
-modest_stores : (a : Action) → is_modest a ≡ true → is_store a ≡ false
-modest_stores (Store n e) h = absurd cc
-modest_stores a h = refl
-
-modest_none : (t : Turn Plan Verdict) → StaysSo IsModest t → StaysSo NoStore t
-modest_none t k = stays_map IsModest NoStore t (λ p a m. modest_stores a m.1) k
-
--- ALL
+arc_none : {p q : Plan} {u : Outcome} {a : Action} → Arc p u q a → is_store a ≡ false
+arc_none (builds_on d k) = build_none k
+arc_none (sends_on d k) = send_none k
+arc_none (part_sends d k b) = send_none k
+arc_none (batches_go d k) = batch_none k
+arc_none _ = refl
 
 pub told_none : (plan : Plan) (u : Outcome) → StaysSo NoStore (told plan u)
-told_none Building (outcome.GotLink l) = tt
-told_none Building _ = tt
-told_none (Getting request s) (outcome.GotLink l) = refl
-told_none (Getting request s) _ = tt
-told_none (Asking w) outcome.Queued = waits_none w
-told_none (Asking w) outcome.InLine = stands_none w
-told_none (Asking w) _ = tt
-told_none (Awaiting w) (outcome.Replied r) = tt
-told_none (Awaiting w) _ = tt
-told_none (Searching w s) outcome.Queued = refl
-told_none (Searching w s) outcome.InLine = refl
-told_none (Searching w s) outcome.Cut = tt
-told_none (Searching w s) outcome.Stopped = tt
-told_none (Searching w s) u = search_none w (search.told w s (news_in u))
-told_none (Producing w o b) u = either_so NoStore (overrides u) _ _ tt (build_none w o (produce.build_told w o b (news_of u)))
-told_none (Sending w e share s) u = sending_none w e share s u
-told_none (Reporting w e) u = refl
-told_none (Storing share) u = storing_none share u
-told_none Stored u = in_stored_none u
-told_none (Batching w e b) u = batching_none w e b u
-told_none (Leaving f) u = tt
-told_none (Gathering first count left failures) (outcome.Parted t f) = gathers_none first count _ _
-told_none (Gathering first count left failures) _ = tt
-told_none (Shutting ns) u = shut_none ns u
-told_none (Visiting r n left x) u = either_so NoStore (overrides u) _ _ tt (visit_none r n left x u)
-told_none (Subscribing w o b) u = modest_none (told (Subscribing w o b) u) (told_modest (Subscribing w o b) u refl)
-told_none (Serving w n s) u = modest_none (told (Serving w n s) u) (told_modest (Serving w n s) u refl)
-told_none Acknowledging u = tt
-told_none (Departing t n) u = modest_none (told (Departing t n) u) (told_modest (Departing t n) u refl)
-told_none Stopping outcome.Stopped = tt
-told_none Stopping _ = tt
+told_none plan u = stays_by NoStore plan u (λ q a k. arc_none k)
 
 abbrev action_in : Action → Turn Plan Verdict → Action
 action_in a (Stays p b) = b
 action_in a (Gives verdict) = a
-
-abbrev stores_in : Turn Plan Verdict → Bool
-stores_in (Stays p a) = is_store a
-stores_in (Gives verdict) = false
-
-abbrev number_in : ℕ → Action → ℕ
-number_in n (Store m x) = m
-number_in n _ = n
-
-abbrev entry_in : EntryValues → Action → EntryValues
-entry_in x (Store m y) = y
-entry_in x _ = x
 
 none_stores : (t : Turn Plan Verdict) (plan : Plan) (n : ℕ) (x : EntryValues) → StaysSo NoStore t → t ≡ Stays plan (Store n x) → ⊥
 none_stores t plan n x k h = let f : true ≡ false = subst (StaysSo NoStore) h k in cc
 
 -- WHO STORES
 
-begins_store : (p : Procedure) (plan : Plan) (n : ℕ) (x : EntryValues) → begins p ≡ Stays plan (Store n x) → (share : Option Share) × (p ≡ procedure.Store n share x)
-begins_store (procedure.Store m share y) plan n x h =
-    let e : Store m y ≡ Store n x = ap (action_in (Store m y)) h in
-    (share, (λ i. procedure.Store (number_in m (e i)) share (entry_in y (e i))))
-begins_store (procedure.Build base) plan n x h = (let f : false ≡ true = ap stores_in h in absurd cc)
-begins_store procedure.Stop plan n x h = (let f : false ≡ true = ap stores_in h in absurd cc)
-begins_store (procedure.Ask (At place) request s) plan n x h = (let f : false ≡ true = ap stores_in h in absurd cc)
-begins_store (procedure.Ask (Link l) request s) plan n x h = (let f : false ≡ true = ap stores_in h in absurd cc)
-begins_store (procedure.Search w what) plan n x h = absurd (none_stores (goes w (search.begins w what)) plan n x (search_none w (search.begins w what)) h)
-begins_store (procedure.Produce w o) plan n x h =
-    absurd (none_stores (builds w o (produce.build_begins w o)) plan n x (build_none w o (produce.build_begins w o)) h)
-begins_store (procedure.Send w e share m) plan n x h =
-    absurd (none_stores (goes_on_sending w e share (produce.send_begins e m)) plan n x (send_none w e share (produce.send_begins e m)) h)
-begins_store (procedure.Batch w e) plan n x h = (let f : false ≡ true = ap stores_in h in absurd cc)
-begins_store (procedure.FailShare share r) plan n x h = (let f : false ≡ true = ap stores_in h in absurd cc)
-begins_store (procedure.Gather first count) plan n x h = absurd (none_stores (gathers first count count []) plan n x (gathers_none first count count []) h)
-begins_store (procedure.Go round ns) plan n x h = absurd (none_stores (goes_round round ns) plan n x (round_none round ns) h)
-begins_store (procedure.Close t ns) plan n x h = (let f : false ≡ true = ap stores_in h in absurd cc)
-begins_store (procedure.Subscribe w o) plan n x h =
-    absurd (none_stores (begins (procedure.Subscribe w o)) plan n x
-    (modest_none (begins (procedure.Subscribe w o)) (begins_modest (procedure.Subscribe w o) refl)) h)
-begins_store (procedure.Serve w k) plan n x h = (let f : false ≡ true = ap stores_in h in absurd cc)
-begins_store (procedure.Acknowledge link request) plan n x h =
-    absurd (none_stores (begins (procedure.Acknowledge link request)) plan n x
-    (modest_none (begins (procedure.Acknowledge link request)) (begins_modest (procedure.Acknowledge link request) refl)) h)
-begins_store (procedure.Leave t k) plan n x h = (let f : false ≡ true = ap stores_in h in absurd cc)
-begins_store (procedure.Refuse r) plan n x h = (let f : false ≡ true = ap stores_in h in absurd cc)
+begun_store : {p : Procedure} {q : Plan} {a : Action} (n : ℕ) (x : EntryValues) → Begun p q a → a ≡ Store n x →
+    (share : Option Share) × (p ≡ procedure.Store n share x)
+begun_store n x (begins_storing {n = m} {share} {x = y}) e = (share, cc)
+begun_store n x _ e = absurd cc
+
+begins_store : (p : Procedure) (plan : Plan) (n : ℕ) (x : EntryValues) → begins p ≡ Stays plan (Store n x) →
+    (share : Option Share) × (p ≡ procedure.Store n share x)
+begins_store p plan n x h =
+    by_begun (λ t. t ≡ Stays plan (Store n x) → (share : Option Share) × (p ≡ procedure.Store n share x)) p
+    (λ q a k e. begun_store n x k (ap (action_in a) e)) (λ v k e. absurd cc) h
 
 -- THE MESSAGES OF A CALL
 
@@ -335,10 +91,6 @@ StartsOne ms (Starts who p) = IsOne ms p
 StartsOne ms a = Unit {0}
 
 module _ (ms : List ProducerMessageValues) where
-  either_one : (b : Bool) (p q : Procedure) → IsOne ms p → IsOne ms q → IsOne ms (cond b p q)
-  either_one true p q x y = x
-  either_one false p q x y = y
-
   unless_one : (r : Option Refusal) (p : Procedure) → IsOne ms p → IsOne ms (unless r p)
   unless_one None p x = x
   unless_one (Some r) p x = tt
@@ -356,7 +108,7 @@ module _ (ms : List ProducerMessageValues) where
   sends_one b share m w None i = fails_one share refusal.NoPartition
   sends_one b share m None (Some e) i = fails_one share refusal.NoAddress
   sends_one b share m (Some w) (Some e) i =
-      either_one b (stores_as e.producer share (entry_of m)) (procedure.Send w e share m) (stores_one e.producer share m (entry_of m) refl i) tt
+      cond_so (IsOne ms) b (stores_as e.producer share (entry_of m)) (procedure.Send w e share m) (stores_one e.producer share m (entry_of m) refl i) tt
 
   parts_one : (o : Chosen) (ps : Producers) (of k : ℕ) (advised : List (Option ℕ)) (t : ℕ) (left : List ProducerMessageValues) →
       ((m : ProducerMessageValues) → In m left → In m ms) → Each (StartsOne ms) (shares_of o ps of k advised t left)
@@ -371,7 +123,7 @@ module _ (ms : List ProducerMessageValues) where
   unless_parts v advised t None = parts_one v.chosen v.producers v.calls.drawn (v.calls.drawn + 1) advised t ms (λ m i. i)
 
   may_one : (b : Bool) (p : Procedure) → IsOne ms p → IsOne ms (unless_refused b p)
-  may_one b p x = either_one b p (procedure.Refuse refusal.Shutdown) x tt
+  may_one b p x = cond_so (IsOne ms) b p (procedure.Refuse refusal.Shutdown) x tt
 
   base_one : (base : Option Place) (f : Place → Procedure) → ((p : Place) → IsOne ms (f p)) → IsOne ms (from_base base f)
   base_one None f h = tt
@@ -402,7 +154,7 @@ head_one : (v : View) (advised : List (Option ℕ)) (asked : Asked) →
     IsOne (messages_in (sent_by asked)) (procedure_for v.chosen v.calls v.consumers v.producers advised asked)
 head_one v advised content.Build =
     may_one [] (not v.calls.is_stopped) (builds_with v.chosen.outbound v.chosen.base)
-    (either_one [] (v.chosen.outbound == 0) (procedure.Refuse refusal.NoOutbound) (from_base v.chosen.base procedure.Build) tt
+    (cond_so (IsOne []) (v.chosen.outbound == 0) (procedure.Refuse refusal.NoOutbound) (from_base v.chosen.base procedure.Build) tt
     (base_one [] v.chosen.base procedure.Build (λ p. tt)))
 head_one v advised content.Stop = may_one [] (may_call v.calls) procedure.Stop tt
 head_one v advised (content.Topics namespace mode) =
@@ -426,13 +178,13 @@ head_one v advised (content.Flush t) =
     let b : Bool = batches_in (v.producers.built t) in
     let ns : List ℕ = numbers_at (v.producers.built t) in
     may_one [] (may_call v.calls) (flushes v.producers t)
-    (unless_one [] (why_not v.producers t) (flushes_all b ns) (either_one [] b (procedure.Go Flushes ns) (procedure.Refuse refusal.NoBatches) tt tt))
+    (unless_one [] (why_not v.producers t) (flushes_all b ns) (cond_so (IsOne []) b (procedure.Go Flushes ns) (procedure.Refuse refusal.NoBatches) tt tt))
 head_one v advised (content.CheckProducer t) =
     may_one [] (may_call v.calls) (checks v.producers t)
     (unless_one [] (why_not v.producers t) (procedure.Go Checks (numbers_at (v.producers.built t))) tt)
 head_one v advised (content.CloseProducer t) =
     may_one [] (may_call v.calls) (closes v.producers t)
-    (either_one [] (is_some (v.producers.built t)) (procedure.Close t (numbers_at (v.producers.built t))) (procedure.Refuse refusal.UnknownTicket) tt tt)
+    (cond_so (IsOne []) (is_some (v.producers.built t)) (procedure.Close t (numbers_at (v.producers.built t))) (procedure.Refuse refusal.UnknownTicket) tt tt)
 head_one v advised (content.Consumer wanted) =
     humble_one [] _ (humble_call v.chosen v.calls v.consumers v.producers advised (content.Consumer wanted) refl)
 head_one v advised (content.Ack t name id cumulative) =

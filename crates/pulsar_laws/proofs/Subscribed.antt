@@ -1,82 +1,35 @@
 -- A subscription is made on a link that takes what is asked there: one step of a plan.
-use Rattle.std.proofs.Common.{◌≡◌, ◌⊎◌, inl, inr, ◌∙◌, sym, ap, ℕ, List, [], ◌∷◌, refl, Bool, true, false, ◌&&◌, cond, Option, Some, None, Result, Ok, Err, ◌==◌}
+use Rattle.std.proofs.Common.{◌≡◌, ◌⊎◌, inl, inr, ◌∙◌, sym, ap, ℕ, List, refl, Bool, true, false, cond, Option, Some, None, Result, Ok, Err}
 use Rattle.std.specs.Prelude.{not}
-use Rattle.pulsar_wire.specs.Row.{Values}
-use Rattle.pulsar_wire.specs.Rows.{send_receipt}
-use Rattle.pulsar_session.specs.Failures.{Failure, Fault}
-use Rattle.pulsar_session.specs.Reply.{Reply as Content}
-use Rattle.pulsar_link.specs.Messages.{Reply}
-use Rattle.pulsar_link.specs.Refusals.{refused}
-use Rattle.pulsar_link.specs.Request.{Subscribed, is_answered, request_number, subscribed}
-use Rattle.pulsar_messages.specs.Words.{Words}
-use Rattle.pulsar_plans.specs.Address.{Named, Place}
-use Rattle.pulsar_plans.specs.Plans as search
-use Rattle.pulsar_plans.specs.Plans.{is_retryable}
-use Rattle.pulsar_plans.specs.declared.look.Looking.{Looking}
-use Rattle.pulsar_plans.specs.declared.making.Command.{Command}
-use Rattle.pulsar_plans.specs.declared.making.Making.{Making}
-use Rattle.pulsar_plans.specs.declared.making.Making.TheVariants as make
-use Rattle.pulsar_plans.specs.declared.making.Served.{Served}
-use Rattle.pulsar_plans.specs.declared.names.Naming.{Naming}
-use Rattle.pulsar_plans.specs.declared.plan.Answer.{Answer}
-use Rattle.pulsar_plans.specs.declared.plan.Plan.{Plan as Search}
-use Rattle.pulsar_plans.specs.declared.retry.Retrying.{Retrying}
-use Rattle.pulsar_plans.specs.declared.turn.Action.{Action as Wish}
-use Rattle.pulsar_plans.specs.declared.turn.Action.TheVariants as wish
-use Rattle.pulsar_plans.specs.declared.turn.Outcome.{Outcome as News}
-use Rattle.pulsar_plans.specs.declared.turn.Outcome.TheVariants as told_in
-use Rattle.pulsar_plans.specs.declared.turn.Turn.{Turn as SearchTurn}
-use Rattle.pulsar_plans.specs.declared.turn.Turn.TheVariants as search_turn
-use Rattle.pulsar_plans.specs.declared.turn.Ways.{Ways}
-use Rattle.pulsar_producer.specs.Batching as batches
-use Rattle.pulsar_producer.specs.Batching.{is_sent_send}
-use Rattle.pulsar_producer.specs.Plans as produce
-use Rattle.pulsar_producer.specs.declared.batching.Batching.{Batching as Batches}
-use Rattle.pulsar_producer.specs.declared.batching.Goes.{Goes as Next}
-use Rattle.pulsar_producer.specs.declared.building.Building.{Building as Build}
-use Rattle.pulsar_producer.specs.declared.building.Order.{Order}
-use Rattle.pulsar_producer.specs.declared.content.Built.{Built}
-use Rattle.pulsar_producer.specs.declared.deed.Deed.{Deed}
+use Rattle.pulsar_laws.proofs.ActWords.{Action, Ask, Makes, Outcome, Procedure, Rest, Revive, TakeFlow, Verdict, Word}
+use Rattle.pulsar_laws.proofs.PlanWords.{action_of, Asking, Awaiting, begins, Command, Deed, Gives, is_answer, Looking, Making, Naming, Heard as News, news_in, overrides, Plan, SearchTurn, Served, Serving, Stays, Subscribing, told, Turn, Ways, Wish}
+use Rattle.pulsar_laws.proofs.LinkWords.{Failure, Fault, Named, Place, Words}
+use Rattle.pulsar_frame.specs.Reply.{Reply as Content}
+use Rattle.pulsar_exchange.specs.Request.{Subscribed, subscribed}
+use Rattle.pulsar_searches.specs.Plans as search
+use Rattle.pulsar_searches.specs.declared.making.Making.TheVariants as make
+use Rattle.pulsar_searches.specs.declared.retry.Retrying.{Retrying}
+use Rattle.pulsar_searches.specs.declared.turn.Action.TheVariants as wish
+use Rattle.pulsar_searches.specs.declared.turn.Outcome.TheVariants as told_in
+use Rattle.pulsar_searches.specs.declared.turn.Turn.TheVariants as search_turn
 use Rattle.pulsar_producer.specs.declared.deed.Deed.TheVariants as deed
-use Rattle.pulsar_producer.specs.declared.deed.News.TheVariants as news
-use Rattle.pulsar_producer.specs.declared.deed.Step.{Step}
-use Rattle.pulsar_producer.specs.declared.deed.Step.TheVariants as step
-use Rattle.pulsar_producer.specs.declared.sending.Errand.{Errand}
-use Rattle.pulsar_producer.specs.declared.sending.Sending.{Sending as Send}
 use Rattle.pulsar_consumer.specs.Plans as consume
 use Rattle.pulsar_consumer.specs.declared.building.Building.{Building as ConsumerBuild}
 use Rattle.pulsar_consumer.specs.declared.building.Building.TheVariants as consumer_build
 use Rattle.pulsar_consumer.specs.declared.building.News.{News as ConsumerNews}
 use Rattle.pulsar_consumer.specs.declared.building.News.TheVariants as consumer_news
-use Rattle.pulsar_consumer.specs.declared.building.Order.{Order as ConsumerOrder}
+use Rattle.pulsar_incoming.specs.declared.orders.Order.{Order as ConsumerOrder}
 use Rattle.pulsar_consumer.specs.declared.resuming.Resuming.{Resuming}
 use Rattle.pulsar_consumer.specs.declared.resuming.Resuming.TheVariants as resume
-use Rattle.pulsar_calls.specs.declared.act.Action.{Action}
-use Rattle.pulsar_calls.specs.declared.act.Action.TheVariants.{Ask, Revive, Rest, TakeFlow}
-use Rattle.pulsar_calls.specs.declared.act.Makes.{Makes}
 use Rattle.pulsar_calls.specs.declared.act.Makes.TheVariants as makes
-use Rattle.pulsar_calls.specs.declared.act.Outcome.{Outcome}
 use Rattle.pulsar_calls.specs.declared.act.Outcome.TheVariants as outcome
-use Rattle.pulsar_calls.specs.declared.act.Place.TheVariants.{At, Link}
-use Rattle.pulsar_calls.specs.declared.act.Procedure.{Procedure}
-use Rattle.pulsar_calls.specs.declared.act.Procedure.TheVariants as procedure
-use Rattle.pulsar_calls.specs.declared.act.Round.{Round}
-use Rattle.pulsar_calls.specs.declared.act.Round.TheVariants.{Checks, Flushes, Closes}
-use Rattle.pulsar_calls.specs.declared.act.Share.{Share}
-use Rattle.pulsar_calls.specs.declared.act.Verdict.{Verdict}
-use Rattle.pulsar_calls.specs.declared.act.Word.{Word}
 use Rattle.pulsar_calls.specs.declared.act.Word.TheVariants as word
-use Rattle.pulsar_procedures.specs.declared.plan.At.{At as Spot}
-use Rattle.pulsar_procedures.specs.declared.plan.At.TheVariants as at
-use Rattle.pulsar_procedures.specs.declared.plan.Plan.{Plan}
-use Rattle.pulsar_procedures.specs.declared.plan.Plan.TheVariants.{Building, Getting, Asking, Awaiting, Searching, Producing, Sending, Reporting, Storing, Stored, Batching, Leaving, Gathering, Shutting, Visiting, Subscribing, Serving, Acknowledging, Departing, Stopping}
-use Rattle.pulsar_procedures.specs.declared.plan.Turn.{Turn}
-use Rattle.pulsar_procedures.specs.declared.plan.Turn.TheVariants.{Stays, Gives}
-use Rattle.pulsar_procedures.specs.declared.plan.Wanted.{Wanted}
-use Rattle.pulsar_procedures.specs.declared.service.Service.{Service}
-use Rattle.pulsar_procedures.specs.declared.service.Service.TheVariants as service
-use Rattle.pulsar_procedures.specs.declared.states.Resubscribing.{Resubscribing}
-use Rattle.pulsar_procedures.specs.Plan.{acknowledges, action_of, asks_of, batches_on, begins, builds, consumer_news_of, failure_of, fails_in, gathers, goes, goes_on_sending, goes_round, halted, in_asking, in_awaiting, in_departing, in_finding, in_passing, in_recalling, in_resting, in_resuming, in_reviving, in_settling, in_stored, in_storing, in_subscribing, in_taking, in_turning, is_answer, is_settled, leaves, makes_of, news_in, news_of, overrides, resting_hears, resubscribes, sends_stay, settled, stands, stored, subscribes, told, told_at, told_batch, told_send, told_service, visited, visits, waits, wished}
+use Rattle.pulsar_plans.specs.declared.service.Service.{Service}
+use Rattle.pulsar_plans.specs.declared.service.Service.TheVariants as service
+use Rattle.pulsar_plans.specs.declared.states.Resubscribing.{Resubscribing}
+use Rattle.pulsar_plans.specs.Plan.{consumer_news_of, in_recalling, in_resting, in_resuming, in_reviving, in_subscribing, in_taking, makes_of, resting_hears, resubscribes, subscribes, told_service, wished}
+use Rattle.pulsar_laws.proofs.Cases.{cond_so}
+use Rattle.pulsar_laws.proofs.Arcs.{Arc, Begun, BegunEnd, End, answers, batches_go, begins_asking, begins_none, begins_not, builds_on, by_arcs, by_begun, departs_asks, got_asks, part_sends, queued_waits, sends, stands_on}
 use Rattle.pulsar_laws.proofs.Servers.{is_server}
 
 -- THE LINK on which a plan subscribes, and that on which it has subscribed a consumer again
@@ -183,10 +136,6 @@ pub plain_turn : (p : Plan) (u : Outcome) (t : Turn Plan Verdict) → Plain t �
 plain_turn p u (Stays q a) k = (k.0, plain_link p u (asks_on q) q a k.1, plain_act p u a k.2)
 plain_turn p u (Gives v) k = plain_makes p u v.makes k
 
-either_plain : (b : Bool) (t u : Turn Plan Verdict) → Plain t → Plain u → Plain (cond b t u)
-either_plain true t u p q = p
-either_plain false t u p q = q
-
 wish_plain : (x : Wish) → is_inner (wished x) ≡ false
 wish_plain (wish.Get p) = refl
 wish_plain (wish.Ask l request) = refl
@@ -196,42 +145,6 @@ deed_plain : (d : Deed) → is_inner (action_of d) ≡ false
 deed_plain (deed.Does x) = wish_plain x
 deed_plain _ = refl
 
-search_plain : (w : Ways) (t : SearchTurn Search (Result Answer Failure)) → Plain (goes w t)
-search_plain w (search_turn.Stays s x) = (tt, refl, wish_plain x)
-search_plain w (search_turn.Gives a) = refl
-
-build_plain : (w : Ways) (o : Order) (b : Step Build (Result (List Built) Failure)) → Plain (builds w o b)
-build_plain w o (step.Stays b d) = (tt, refl, deed_plain d)
-build_plain w o (step.Gives (Ok parts)) = refl
-build_plain w o (step.Gives (Err f)) = refl
-
-leaves_plain : (share : Option Share) (f : Failure) → Plain (leaves share f)
-leaves_plain None f = refl
-leaves_plain (Some s) f = (tt, refl, refl)
-
-halted_plain : (share : Option Share) (u : Outcome) → Plain (halted share u)
-halted_plain None u = refl
-halted_plain (Some s) u = (tt, refl, refl)
-
-stay_plain : (w : Ways) (e : Errand) (share : Option Share) (s : Send) (d : Deed) → Plain (sends_stay w e share s d)
-stay_plain w e None s d = (tt, refl, deed_plain d)
-stay_plain w e (Some share) s d = either_plain (is_sent_send s) _ _ (tt, refl, refl) (tt, refl, deed_plain d)
-
-send_plain : (w : Ways) (e : Errand) (share : Option Share) (x : produce.Sent) → Plain (goes_on_sending w e share x)
-send_plain w e share (step.Stays s d) = stay_plain w e share s d
-send_plain w e share (step.Gives (Ok r)) = refl
-send_plain w e share (step.Gives (Err f)) = leaves_plain share f
-
-sending_plain : (w : Ways) (e : Errand) (share : Option Share) (s : Send) (u : Outcome) → Plain (told_send w e share s u)
-sending_plain w e share s u =
-    either_plain (overrides u && not (is_sent_send s)) _ _ (halted_plain share u) (send_plain w e share (produce.send_told w e s (news_of u)))
-
-waits_plain : (w : Wanted) → is_consumer w.makes ≡ false → Plain (waits w)
-waits_plain w h = either_plain (is_answered w.number) _ _ (h, refl, refl) refl
-
-stands_plain : (w : Wanted) → is_consumer w.makes ≡ false → Plain (stands w)
-stands_plain w h = either_plain (is_answered w.number) _ _ (h, refl, refl) refl
-
 -- what is made by a request is none that is built
 makes_plain : (l : ℕ) (s : Option Subscribed) → is_consumer (makes_of l s) ≡ false
 makes_plain l None = refl
@@ -240,106 +153,6 @@ makes_plain l (Some s) = refl
 replied_plain : (b : Bool) (m : Makes) → is_consumer m ≡ false → is_consumer (cond b m makes.Nothing) ≡ false
 replied_plain true m h = h
 replied_plain false m h = refl
-
-gathers_plain : (first count left : ℕ) (failures : List (ℕ × Failure)) → Plain (gathers first count left failures)
-gathers_plain first count left failures = either_plain (left == 0) _ _ refl (tt, refl, refl)
-
-stored_plain : (share : Option Share) → Plain (stored share)
-stored_plain None = (tt, refl, refl)
-stored_plain (Some s) = (tt, refl, refl)
-
-storing_plain : (share : Option Share) (u : Outcome) → Plain (in_storing share u)
-storing_plain share (outcome.Granted news.Done) = stored_plain share
-storing_plain share (outcome.Granted _) = refl
-storing_plain share _ = refl
-
-fate_plain : (f : Result (Values send_receipt) Failure) → Plain (settled f)
-fate_plain (Ok receipt) = refl
-fate_plain (Err f) = refl
-
-in_stored_plain : (u : Outcome) → Plain (in_stored u)
-in_stored_plain (outcome.Settled f) = fate_plain f
-in_stored_plain (outcome.Granted news.Done) = (tt, refl, refl)
-in_stored_plain (outcome.Granted _) = refl
-in_stored_plain _ = refl
-
-next_plain : (w : Ways) (e : Errand) (x : Next) → Plain (batches_on w e x)
-next_plain w e x = (tt, refl, deed_plain x.deed)
-
-batching_plain : (w : Ways) (e : Errand) (b : Batches) (u : Outcome) → Plain (told_batch w e b u)
-batching_plain w e b u = either_plain (overrides u) _ _ (next_plain w e (batches.halted b)) (next_plain w e (batches.told w e b (news_of u)))
-
-visits_plain : (r : Round) (n : ℕ) (left : List ℕ) → Plain (visits r n left)
-visits_plain Checks n left = (tt, refl, refl)
-visits_plain Flushes n left = (tt, refl, refl)
-visits_plain Closes n left = (tt, refl, refl)
-
-round_plain : (r : Round) (ns : List ℕ) → Plain (goes_round r ns)
-round_plain r [] = refl
-round_plain r (n ∷ ns) = visits_plain r n ns
-
-settled_plain : (r : Round) (n : ℕ) (left : List ℕ) → Plain (is_settled r n left)
-settled_plain Checks n left = (tt, refl, refl)
-settled_plain Flushes n left = round_plain Flushes left
-settled_plain Closes n left = (tt, refl, refl)
-
-settling_plain : (r : Round) (n : ℕ) (left : List ℕ) (u : Outcome) → Plain (in_settling r n left u)
-settling_plain r n left (outcome.Granted news.Done) = settled_plain r n left
-settling_plain r n left (outcome.Granted _) = refl
-settling_plain r n left _ = refl
-
-turning_plain : (r : Round) (n : ℕ) (left : List ℕ) (u : Outcome) → Plain (in_turning r n left u)
-turning_plain r n left (outcome.Granted (news.HasTurn version)) = (tt, refl, refl)
-turning_plain r n left (outcome.Granted _) = refl
-turning_plain r n left _ = refl
-
-finding_plain : (r : Round) (n : ℕ) (left : List ℕ) (u : Outcome) → Plain (in_finding r n left u)
-finding_plain r n left (outcome.GotLink l) = (tt, refl, refl)
-finding_plain r n left _ = (tt, refl, refl)
-
-asking_plain : (r : Round) (n : ℕ) (left : List ℕ) (u : Outcome) → Plain (in_asking r n left u)
-asking_plain r n left outcome.Queued = (tt, refl, refl)
-asking_plain r n left outcome.InLine = (tt, refl, refl)
-asking_plain r n left _ = (tt, refl, refl)
-
-passing_plain : (r : Round) (n : ℕ) (left : List ℕ) (u : Outcome) → Plain (in_passing r n left u)
-passing_plain r n left (outcome.Granted news.Done) = (tt, refl, refl)
-passing_plain r n left (outcome.Granted _) = refl
-passing_plain r n left _ = refl
-
-visited_plain : (r : Round) (left : List ℕ) (n : ℕ) (reply : Reply) → Plain (visited r left n reply)
-visited_plain r left n reply =
-    either_plain (is_answer (request_number (asks_of r n)) reply.content.body) (goes_round r left) (fails_in r (refused reply reply.content.body))
-    (round_plain r left) refl
-
-awaiting_plain : (r : Round) (n : ℕ) (left : List ℕ) (u : Outcome) → Plain (in_awaiting r n left u)
-awaiting_plain r n left (outcome.Replied reply) = visited_plain r left n reply
-awaiting_plain r n left outcome.Queued = (tt, refl, refl)
-awaiting_plain r n left _ = refl
-
-visit_plain : (r : Round) (n : ℕ) (left : List ℕ) (x : Spot) (u : Outcome) → Plain (told_at r n left x u)
-visit_plain r n left at.Settling u = settling_plain r n left u
-visit_plain r n left at.Turning u = turning_plain r n left u
-visit_plain r n left at.Finding u = finding_plain r n left u
-visit_plain r n left at.Asking u = asking_plain r n left u
-visit_plain r n left at.Passing u = passing_plain r n left u
-visit_plain r n left at.Awaiting u = awaiting_plain r n left u
-
-shut_plain : (ns : List ℕ) (u : Outcome) → Plain (told (Shutting ns) u)
-shut_plain ns (outcome.Granted news.Done) = round_plain Closes ns
-shut_plain ns (outcome.Granted _) = refl
-shut_plain ns _ = refl
-
-acknowledges_plain : (link : Option ℕ) (request : Words) → Plain (acknowledges link request)
-acknowledges_plain None request = refl
-acknowledges_plain (Some l) request = (tt, refl, refl)
-
-departing_plain : (t n : ℕ) (u : Outcome) → Plain (in_departing t n u)
-departing_plain t n (outcome.GotLink link) = (refl, refl, refl)
-departing_plain t n (outcome.Word word.Again) = (tt, refl, refl)
-departing_plain t n (outcome.Word word.Closed) = refl
-departing_plain t n (outcome.Word _) = refl
-departing_plain t n _ = refl
 
 -- A SUBSCRIPTION IS MADE: the command is asked for where the link is got, and its reply makes it
 
@@ -424,7 +237,8 @@ stays_built w o b u (Some l) e h = inl (e, free (Subscribing w o b) u h)
 
 -- what is no outcome of an action is no refusal
 word_free : (u : Outcome) (y : ConsumerNews) → ((x : News) → y ≡ consumer_news.Told x → ⊥) → consumer_news_of u ≡ Some y → is_refused u ≡ false
-word_free (outcome.Refused cause) y never e = absurd (never (news_in (outcome.Refused cause)) (let f : consumer_news.Told (news_in (outcome.Refused cause)) ≡ y = cc in sym f))
+word_free (outcome.Refused cause) y never e =
+    absurd (never (news_in (outcome.Refused cause)) (let f : consumer_news.Told (news_in (outcome.Refused cause)) ≡ y = cc in sym f))
 word_free _ y never e = refl
 
 build_on : (w : Ways) (o : ConsumerOrder) (b : ConsumerBuild) (u : Outcome) (y : ConsumerNews) → consumer_news_of u ≡ Some y →
@@ -434,20 +248,25 @@ build_on w o (consumer_build.Naming n) u _ e = (tt, tt, tt)
 build_on w o (consumer_build.Numbering topic place) u (consumer_news.Numbered number) e = (tt, tt, tt)
 build_on w o (consumer_build.Numbering topic place) u _ e = tt
 build_on w o (consumer_build.Making c m number) u (consumer_news.Told x) e =
-    makes_on w o (consumer_build.Making c m number) u c number (made_on m) x (search.made_told w c m x) (λ l k h. (k, free (Subscribing w o (consumer_build.Making c m number)) u (told_news u x e h))) (made_so w c m x)
-build_on w o (consumer_build.Making c m number) u (consumer_news.Numbered n) e =
-    (tt, stays_built w o (consumer_build.Making c m number) u (made_on m) refl (word_free u (consumer_news.Numbered n) (λ x f. (let g : consumer_news.Told x ≡ (consumer_news.Numbered n) = sym f in cc)) e), tt)
-build_on w o (consumer_build.Making c m number) u consumer_news.InUse e =
-    (tt, stays_built w o (consumer_build.Making c m number) u (made_on m) refl (word_free u consumer_news.InUse (λ x f. (let g : consumer_news.Told x ≡ consumer_news.InUse = sym f in cc)) e), tt)
+    makes_on w o (consumer_build.Making c m number) u c number (made_on m) x (search.made_told w c m x)
+    (λ l k h. (k, free (Subscribing w o (consumer_build.Making c m number)) u (told_news u x e h))) (made_so w c m x)
+build_on w o (consumer_build.Making c m number) u (consumer_news.Numbered n) e = (
+  tt,
+  stays_built w o (consumer_build.Making c m number) u (made_on m) refl
+      (word_free u (consumer_news.Numbered n) (λ x f. (let g : consumer_news.Told x ≡ (consumer_news.Numbered n) = sym f in cc)) e),
+  tt,
+)
+build_on w o (consumer_build.Making c m number) u consumer_news.InUse e = (
+  tt,
+  stays_built w o (consumer_build.Making c m number) u (made_on m) refl
+      (word_free u consumer_news.InUse (λ x f. (let g : consumer_news.Told x ≡ consumer_news.InUse = sym f in cc)) e),
+  tt,
+)
 
 subscribing_on : (w : Ways) (o : ConsumerOrder) (b : ConsumerBuild) (u : Outcome) (y : Option ConsumerNews) → consumer_news_of u ≡ y →
     TurnSo (Subscribing w o b) u (in_subscribing w o b y)
 subscribing_on w o b u None e = (tt, stays_built w o b u (built_on b) refl (news_none u e), tt)
 subscribing_on w o b u (Some y) e = build_on w o b u y e
-
-either_turn : (p : Plan) (u : Outcome) (b : Bool) (s t : Turn Plan Verdict) → TurnSo p u s → TurnSo p u t → TurnSo p u (cond b s t)
-either_turn p u true s t h k = h
-either_turn p u false s t h k = k
 
 -- IT IS SERVED
 
@@ -533,71 +352,41 @@ subscribes_one (Subscribing w o b) = true
 subscribes_one (Serving w n s) = true
 subscribes_one _ = false
 
+abbrev PlainArc : Plan → Action → Type 0
+PlainArc q a = Waits q × (asks_on q ≡ None) × (is_inner a ≡ false)
+
+arc_plain : {p q : Plan} {u : Outcome} {a : Action} → Arc p u q a → subscribes_one p ≡ false → Waits p → PlainArc q a
+arc_plain (got_asks {request} {l = l}) s k = (makes_plain l (subscribed request), refl, refl)
+arc_plain queued_waits s k = (k, refl, refl)
+arc_plain stands_on s k = (k, refl, refl)
+arc_plain departs_asks s k = (refl, refl, refl)
+arc_plain (builds_on d e) s k = (tt, refl, deed_plain d)
+arc_plain (sends d e) s k = (tt, refl, deed_plain d)
+arc_plain (part_sends d e b) s k = (tt, refl, deed_plain d)
+arc_plain (batches_go d e) s k = (tt, refl, deed_plain d)
+arc_plain _ s k = (tt, cc, cc)
+
+end_plain : {p : Plan} {u : Outcome} {v : Verdict} → End p u v → subscribes_one p ≡ false → Waits p → is_consumer v.makes ≡ false
+end_plain (answers {x} {r}) s k = replied_plain (is_answer x.number r.content.body) x.makes k
+end_plain _ s k = cc
+
 plain_told : (p : Plan) (u : Outcome) → subscribes_one p ≡ false → Waits p → Plain (told p u)
-plain_told Building (outcome.GotLink l) s k = refl
-plain_told Building _ s k = refl
-plain_told (Getting request y) (outcome.GotLink l) s k = (makes_plain l (subscribed request), refl, refl)
-plain_told (Getting request y) _ s k = refl
-plain_told (Asking w) outcome.Queued s k = waits_plain w k
-plain_told (Asking w) outcome.InLine s k = stands_plain w k
-plain_told (Asking w) _ s k = refl
-plain_told (Awaiting w) (outcome.Replied r) s k = replied_plain (is_answer w.number r.content.body) w.makes k
-plain_told (Awaiting w) _ s k = refl
-plain_told (Searching w y) outcome.Queued s k = (tt, refl, refl)
-plain_told (Searching w y) outcome.InLine s k = (tt, refl, refl)
-plain_told (Searching w y) outcome.Cut s k = refl
-plain_told (Searching w y) outcome.Stopped s k = refl
-plain_told (Searching w y) u s k = search_plain w (search.told w y (news_in u))
-plain_told (Producing w o b) u s k = either_plain (overrides u) _ _ refl (build_plain w o (produce.build_told w o b (news_of u)))
-plain_told (Sending w e share y) u s k = sending_plain w e share y u
-plain_told (Reporting w e) u s k = (tt, refl, refl)
-plain_told (Storing share) u s k = storing_plain share u
-plain_told Stored u s k = in_stored_plain u
-plain_told (Batching w e b) u s k = batching_plain w e b u
-plain_told (Leaving f) u s k = refl
-plain_told (Gathering first count left failures) (outcome.Parted t f) s k = gathers_plain first count _ _
-plain_told (Gathering first count left failures) _ s k = refl
-plain_told (Shutting ns) u s k = shut_plain ns u
-plain_told (Visiting r n left x) u s k = either_plain (overrides u) _ _ refl (visit_plain r n left x u)
-plain_told Acknowledging u s k = refl
-plain_told (Departing t n) u s k = departing_plain t n u
-plain_told Stopping outcome.Stopped s k = refl
-plain_told Stopping _ s k = refl
-plain_told (Subscribing w o b) u s k = absurd cc
-plain_told (Serving w n y) u s k = absurd cc
+plain_told p u s k = by_arcs Plain p u (λ q a e. arc_plain e s k) (λ v e. end_plain e s k)
 
 pub told_on : (p : Plan) (u : Outcome) → Waits p → TurnSo p u (told p u)
 told_on (Subscribing w o b) u k =
-    either_turn (Subscribing w o b) u (overrides u) _ _ tt (subscribing_on w o b u (consumer_news_of u) refl)
-told_on (Serving w n s) u k = either_turn (Serving w n s) u (overrides u) _ _ tt (service_on w n s u)
+    cond_so (TurnSo (Subscribing w o b) u) (overrides u) _ _ tt (subscribing_on w o b u (consumer_news_of u) refl)
+told_on (Serving w n s) u k = cond_so (TurnSo (Serving w n s) u) (overrides u) _ _ tt (service_on w n s u)
 told_on p u k = plain_turn p u (told p u) (plain_told p u refl k)
 
 -- and no plan begins so
-begins_on : (w : Ways) (o : ConsumerOrder) (t : SearchTurn Naming (Result (List Named) Failure)) → Plain (subscribes w o (consume.build_names o t))
-begins_on w o (search_turn.Stays n a) = (tt, refl, wish_plain a)
-begins_on w o (search_turn.Gives (Ok names)) = by (consume.only names)
-  where
-    by : (n : Option Named) → Plain (subscribes w o (consume.build_numbers o n))
-    by None = refl
-    by (Some n) = (tt, refl, refl)
-begins_on w o (search_turn.Gives (Err f)) = refl
+begun_plain : {p : Procedure} {q : Plan} {a : Action} → Begun p q a → PlainArc q a
+begun_plain (begins_asking {l} {request}) = (makes_plain l (subscribed request), refl, refl)
+begun_plain _ = (tt, refl, refl)
+
+begun_end : {p : Procedure} {v : Verdict} → BegunEnd p v → is_consumer v.makes ≡ false
+begun_end (begins_not x) = refl
+begun_end begins_none = refl
 
 pub begins_plain : (p : Procedure) → Plain (begins p)
-begins_plain (procedure.Build base) = (tt, refl, refl)
-begins_plain procedure.Stop = (tt, refl, refl)
-begins_plain (procedure.Ask (At place) request s) = (tt, refl, refl)
-begins_plain (procedure.Ask (Link l) request s) = (makes_plain l (subscribed request), refl, refl)
-begins_plain (procedure.Search w what) = search_plain w (search.begins w what)
-begins_plain (procedure.Produce w o) = build_plain w o (produce.build_begins w o)
-begins_plain (procedure.Send w e share m) = send_plain w e share (produce.send_begins e m)
-begins_plain (procedure.Store n share e) = (tt, refl, refl)
-begins_plain (procedure.Batch w e) = next_plain w e batches.begins
-begins_plain (procedure.FailShare share r) = leaves_plain (Some share) (failure_of r)
-begins_plain (procedure.Gather first count) = gathers_plain first count count []
-begins_plain (procedure.Go round ns) = round_plain round ns
-begins_plain (procedure.Close t ns) = (tt, refl, refl)
-begins_plain (procedure.Subscribe w o) = begins_on w o (search.names_begins w o.topic)
-begins_plain (procedure.Serve w n) = (tt, refl, refl)
-begins_plain (procedure.Acknowledge link request) = acknowledges_plain link request
-begins_plain (procedure.Leave t n) = (tt, refl, refl)
-begins_plain (procedure.Refuse r) = refl
+begins_plain p = by_begun Plain p (λ q a e. begun_plain e) (λ v e. begun_end e)

@@ -2,31 +2,16 @@
 use Rattle.std.proofs.Common.{◌≡◌, ◌⊎◌, inl, inr, ◌∙◌, sym, ap, subst, ℕ, ◌+◌, ◌≤◌, ◌==◌, List, [], ◌∷◌, ◌++◌, refl, arith, Bool, true, false, ◌&&◌, cond, eq-eqb, Option, Some, None, unwrap_or}
 use Rattle.std.proofs.lemmas.List.Sums.{sum_by-cons}
 use Rattle.std.specs.Option.{is_some, option_map}
-use Rattle.pulsar_link.specs.Messages.{Reply, is_body}
-use Rattle.pulsar_link.specs.Request.{closed_consumer}
 use Rattle.pulsar_messages.specs.Words as words
-use Rattle.pulsar_session.specs.Failures.{Fault}
 use Rattle.pulsar_consumer.specs.Laws.{asked_since}
 use Rattle.pulsar_consumer.specs.Topic.{Act as Done, Lives, Hears, Loses, Fails, Ends as Over, Polls as Polled, Asks, Seen, Live, Setup, first_due, first_in, is_ended, link_of, lives_on, seen}
-use Rattle.pulsar_calls.specs.declared.act.Act.{Act}
-use Rattle.pulsar_calls.specs.declared.act.Act.TheVariants.{Comes, Told, Does}
-use Rattle.pulsar_calls.specs.declared.act.Action.TheVariants.{Ask, TakeFlow, Revive, FailConsumer, StopAll}
-use Rattle.pulsar_calls.specs.declared.act.Arrival.{Arrival}
 use Rattle.pulsar_calls.specs.declared.act.Arrival.TheVariants as arrivals
-use Rattle.pulsar_calls.specs.declared.act.LinkAct.TheVariants.{Reads, Ends}
-use Rattle.pulsar_calls.specs.declared.act.Notice.{Notice}
 use Rattle.pulsar_calls.specs.declared.act.Outcome.TheVariants as outcome
-use Rattle.pulsar_calls.specs.declared.act.Part.TheVariants.{ToLink, Polls}
-use Rattle.pulsar_calls.specs.declared.act.Who.TheVariants.{Consumer}
 use Rattle.pulsar_calls.specs.declared.act.Word.TheVariants as word
-use Rattle.pulsar_calls.specs.Who.{ticket_of}
 use Rattle.pulsar_consumer_table.specs.Consumers.{Member, flow_at, flow_on, is_closed_by}
-use Rattle.pulsar_tables.specs.Rules.{notice}
-use Rattle.pulsar_tables.specs.View.{Options, Seat, View, answer_at, arrival_at, closing, is_asked, place_of, url_at}
-use Rattle.pulsar_agenda.specs.Run.{Entry, Begins, Then, IsRun, agenda, first, view}
+use Rattle.pulsar_laws.proofs.Cases.{none_some, some_is}
 use Rattle.pulsar_laws.proofs.Ticketed.{consumer_ticket}
 use Rattle.pulsar_laws.specs.ConsumerLaws.{Flow, FlowsAreCounted, arrival_does, does_to, done_to, flows_after, flows_since, frame_does, loss_does, made_with, permits_of, subscription_does}
-use Rattle.pulsar_laws.specs.Laws.{EndsOnce}
 use Rattle.pulsar_laws.proofs.Drawing.{Every, here}
 use Rattle.pulsar_laws.proofs.Flows.{flows_are_asked_lem}
 use Rattle.pulsar_laws.proofs.Lone.{applied, IsKept, IsMade, IsNone, RowFrom, begun_rows, consumers_alone_lem, row_from}
@@ -36,17 +21,13 @@ use Rattle.pulsar_laws.proofs.Riding.{LinkFrom, link_from}
 use Rattle.url.specs.Parts.{Parts}
 use Rattle.pulsar_consumer.specs.Topic as reader
 use Rattle.std.proofs.lemmas.Bool.{and_parts, cases_Bool, eqb-true}
-use Rattle.pulsar_consumer.specs.declared.polled.Ending.{Ending}
-use Rattle.pulsar_consumer.specs.declared.polled.Ending.TheVariants.{Closed, TopicEnded}
+use Rattle.pulsar_laws.proofs.ActWords.{Act, Arrival, Ask, Comes, Consumer, Does, Ends, FailConsumer, Notice, Polls, Reads, Revive, StopAll, TakeFlow, ticket_of, Told, ToLink, Who}
+use Rattle.pulsar_laws.proofs.RunWords.{agenda, Begins, EndsOnce, Entry, first, IsRun, notice, Options, Then, view, View}
+use Rattle.pulsar_laws.proofs.LinkWords.{answer_at, arrival_at, closed_consumer, closing, Fault, is_asked, is_body, place_of, Reply, Seat, url_at}
+use Rattle.pulsar_incoming.specs.declared.polled.Ending.{Ending}
+use Rattle.pulsar_incoming.specs.declared.polled.Ending.TheVariants.{Closed, TopicEnded}
 use Rattle.pulsar_consumer.proofs.Histories.{end_is_final}
-use Rattle.pulsar_calls.specs.declared.act.Who.{Who}
 use Rattle.pulsar_laws.proofs.Covered.{Covered, covered_run, taken_then, told_so}
-
-none_some : {A : Type 0} {x : A} → None ≡ Some x → ⊥
-none_some {A} {x} h = cc
-
-some_is : {A : Type 0} {x y : A} → Some x ≡ Some y → x ≡ y
-some_is {A} {x} {y} h = cc
 
 abbrev takes_in : List Done → Bool
 takes_in [] = false
@@ -103,7 +84,8 @@ follows_next o log t run a fits (n, l, p, older, flow, inl is) =
     let x = (flows_are_asked_lem o older n t l p r flow).0 in
     (Told (notice (Consumer n t) (outcome.Word (word.Flow l p))), sym fits ∙ ap (λ y. first (agenda o y)) is ∙ x, inl (n, l, p, older, flow, is, refl))
 follows_next o log t run a fits (n, l, p, older, flow, inr is) =
-    let r : IsRun o (Then (Told (notice (Consumer n t) (outcome.Word (word.Flow l p)))) ∷ Then (Does (Consumer n t) TakeFlow) ∷ older) = subst (IsRun o) is run in
+    let r : IsRun o (Then (Told (notice (Consumer n t) (outcome.Word (word.Flow l p)))) ∷ Then (Does (Consumer n t) TakeFlow) ∷ older) = subst (IsRun o) is run
+    in
     let x = (flows_are_asked_lem o older n t l p r.0 flow).1 in
     (Does (Consumer n t) (Ask l (words.SendFlow n p)), sym fits ∙ ap (λ y. first (agenda o y)) is ∙ x, inr (n, l, p, refl))
 
@@ -115,26 +97,29 @@ abbrev Settled : Options → (ticket : ℕ) → List Entry → Type 0
 Settled o t log = (m : Member) (l : ℕ) (s : Setup) → (view o log).consumers.rows t ≡ Some m → link_of m.seen ≡ Some l → made_with t log ≡ Some s →
     (asked_since s (done_to o t log) ≤ permits_of (flows_since o t log)) ⊎ Pending o log t
 
-module _ (once : EndsOnce) (o : Options) (log : List Entry) (n t l m p : ℕ) (run : IsRun o (Then (Does (Consumer n t) (Ask l (words.SendFlow m p))) ∷ log)) where
-  abbrev x : IsPlaced o log n t l m p
-  x = is_placed once o log n t l m p run
+module _ (once : EndsOnce) (o : Options) (log : List Entry) (n t l m p : ℕ) (run : IsRun o (Then (Does (Consumer n t) (Ask l (words.SendFlow m p))) ∷ log))
+  where
+    abbrev x : IsPlaced o log n t l m p
+    x = is_placed once o log n t l m p run
 
-  -- a flow that is asked for is the one that was taken
-  asked_settled : Every (Settled o t) log → (s : Setup) → made_with t log ≡ Some s → asked_since s (done_to o t log) ≤ permits_of (flows_since o t log) + p
-  asked_settled k s made =
-      let r : IsRun o (Then (Told (told_so once o log n t l m p run.0 x)) ∷ Then (Does (Consumer n t) TakeFlow) ∷ x.older) = subst (IsRun o) x.is_behind run.0 in
-      let e : Every (Settled o t) (Then (Told (told_so once o log n t l m p run.0 x)) ∷ Then (Does (Consumer n t) TakeFlow) ∷ x.older) = subst (Every (Settled o t)) x.is_behind k in
-      let link : link_of x.was_due.member.seen ≡ Some l = ap (option_map (λ (y : Live). y.link)) x.was_due.is_live ∙ ap Some x.was_due.on in
-      let flows : permits_of (flows_since o t log) ≡ permits_of (flows_since o t x.older) = ap (λ y. permits_of (flows_since o t y)) x.is_behind in
-      let taken = taken_then once o log n t l m p run.0 x s made in
-      elim (here (Settled o t) x.older e.1.1 x.was_due.member l s x.was_due.is_there link (sym (ap (made_with t) x.is_behind) ∙ made)) [
-        | inl old ↦ omega (arith, old, flows, taken)
-        | inr pending ↦ absurd (no_flow (pending_next o x.older t (Does (Consumer n t) TakeFlow) r.0 pending))
-      ]
-    where
-      no_flow : Follows o x.older t (Does (Consumer n t) TakeFlow) → ⊥
-      no_flow (inl k) = let e = k.6 in cc
-      no_flow (inr k) = let e = k.3 in cc
+    -- a flow that is asked for is the one that was taken
+    asked_settled : Every (Settled o t) log → (s : Setup) → made_with t log ≡ Some s → asked_since s (done_to o t log) ≤ permits_of (flows_since o t log) + p
+    asked_settled k s made =
+        let r : IsRun o (Then (Told (told_so once o log n t l m p run.0 x)) ∷ Then (Does (Consumer n t) TakeFlow) ∷ x.older) = subst (IsRun o) x.is_behind run.0
+        in
+        let e : Every (Settled o t) (Then (Told (told_so once o log n t l m p run.0 x)) ∷ Then (Does (Consumer n t) TakeFlow) ∷ x.older) = subst
+        (Every (Settled o t)) x.is_behind k in
+        let link : link_of x.was_due.member.seen ≡ Some l = ap (option_map (λ (y : Live). y.link)) x.was_due.is_live ∙ ap Some x.was_due.on in
+        let flows : permits_of (flows_since o t log) ≡ permits_of (flows_since o t x.older) = ap (λ y. permits_of (flows_since o t y)) x.is_behind in
+        let taken = taken_then once o log n t l m p run.0 x s made in
+        elim (here (Settled o t) x.older e.1.1 x.was_due.member l s x.was_due.is_there link (sym (ap (made_with t) x.is_behind) ∙ made)) [
+          | inl old ↦ omega (arith, old, flows, taken)
+          | inr pending ↦ absurd (no_flow (pending_next o x.older t (Does (Consumer n t) TakeFlow) r.0 pending))
+        ]
+      where
+        no_flow : Follows o x.older t (Does (Consumer n t) TakeFlow) → ⊥
+        no_flow (inl k) = let e = k.6 in cc
+        no_flow (inr k) = let e = k.3 in cc
 
 -- an act that is neither of these comes only where none is to be asked for
 abbrev is_step : Act → Bool
@@ -205,7 +190,8 @@ module _ (once : EndsOnce) (o : Options) (log : List Entry) (t : ℕ) (k : Every
       let x = flow_takers o log w run in
       by x.0 x.1 x.2 (eqb-true t x.1 (ap (λ y. t == ticket_of y) (sym x.2) ∙ d)) (flow_at (v.consumers.rows t)) refl
     where
-      idle : flow_at (v.consumers.rows t) ≡ None → asked_since s (done_to o t log) ≤ permits_of fs → asked_since s (does_to v t m (Does w TakeFlow) ++ done_to o t log) ≤ permits_of fs
+      idle : flow_at (v.consumers.rows t) ≡ None → asked_since s (done_to o t log) ≤ permits_of fs →
+          asked_since s (does_to v t m (Does w TakeFlow) ++ done_to o t log) ≤ permits_of fs
       idle none le =
           let c = consumers_alone_lem once o log t m run.0 is in
           let same : c.0 ≡ s = some_is (sym c.1 ∙ made) in

@@ -1,41 +1,21 @@
 -- A call that begins has a ticket that was drawn, and never the greatest; and a consumer has that of a call that began.
-use Rattle.std.proofs.Common.{◌≡◌, ◌∙◌, sym, ap, subst, ℕ, ◌+◌, ◌<◌, arith, List, [], ◌∷◌, ◌++◌, refl, Bool, true, false, cond, ◌==◌, ◌&&◌, Option, Some, None, inl, inr}
+use Rattle.std.proofs.Common.{◌≡◌, ◌∙◌, sym, ap, subst, ℕ, ◌+◌, ◌<◌, arith, List, [], ◌∷◌, ◌++◌, refl, true, false, cond, ◌==◌, ◌&&◌, Option, Some, None, inl, inr}
 use Rattle.std.proofs.lemmas.Bool.{and_parts, cases_Bool, eqb-true}
 use Rattle.std.proofs.lemmas.Bool.Decides.{nat_tests}
 use Rattle.std.specs.Option.{option_map}
-use Rattle.pulsar_run.specs.Run.{rest}
-use Rattle.pulsar_session.specs.Link.{is_spent}
-use Rattle.pulsar_calls.specs.declared.act.Act.{Act}
-use Rattle.pulsar_calls.specs.declared.act.Act.TheVariants.{Comes, Starts, Told, Does, Answers}
-use Rattle.pulsar_calls.specs.declared.act.Action.{Action}
-use Rattle.pulsar_calls.specs.declared.act.Action.TheVariants.{Ask, TakeNumber, FindConsumer, TakeFlow, Revive, FailConsumer, StopAll, Rest}
-use Rattle.pulsar_calls.specs.declared.act.Makes.{Makes}
+use Rattle.pulsar_laws.proofs.ActWords.{Act, Action, Answers, Ask, Asked, Call, Calls, Comes, Consumer, Does, Ends, FailConsumer, FindConsumer, Heard, is_same, lacks_tickets, Makes, Outcome, Part, Polls, Producer, Reads, Rest, Revive, shares, Starts, StopAll, TakeFlow, TakeNumber, ticket_of, Told, ToLink, Verdict, Who}
+use Rattle.pulsar_laws.proofs.PlanWords.{begins, Gives, Plan, Stays, told, Turn}
+use Rattle.pulsar_laws.proofs.RunWords.{agenda, at_once, Begins, begun_same, called, consumers_after, consumers_made, does, Each, each_append, each_first, each_map, each_rest, Entry, first, follows, follows_some, is_served, IsRun, may_call, Options, performs, rest, StartsIn, stays_some, Then, told_some, view, View}
+use Rattle.pulsar_messages.specs.Claims.{is_spent}
 use Rattle.pulsar_calls.specs.declared.act.Makes.TheVariants as makes
-use Rattle.pulsar_calls.specs.declared.act.Outcome.{Outcome}
-use Rattle.pulsar_calls.specs.declared.act.Part.{Part}
-use Rattle.pulsar_calls.specs.declared.act.Part.TheVariants.{Calls, ToLink, Polls}
-use Rattle.pulsar_calls.specs.declared.act.LinkAct.TheVariants.{Reads, Ends}
-use Rattle.pulsar_calls.specs.declared.act.Verdict.{Verdict}
-use Rattle.pulsar_calls.specs.declared.act.Who.{Who}
-use Rattle.pulsar_calls.specs.declared.act.Who.TheVariants.{Call, Consumer, Producer}
-use Rattle.pulsar_procedures.specs.declared.plan.Plan.{Plan}
-use Rattle.pulsar_procedures.specs.declared.plan.Turn.{Turn}
-use Rattle.pulsar_procedures.specs.declared.plan.Turn.TheVariants.{Stays, Gives}
-use Rattle.pulsar_calls.specs.Content as content
-use Rattle.pulsar_calls.specs.Content.{Asked, Heard, lacks_tickets, shares}
-use Rattle.pulsar_procedures.specs.Plan.{begins, told}
-use Rattle.pulsar_tables.specs.Rules.{at_once, called, does, follows, follows_some, performs}
-use Rattle.pulsar_agenda.specs.Run.{Entry, Begins, Then, IsRun, agenda, first, view}
 use Rattle.pulsar_consumer_table.specs.Consumers as consumer
-use Rattle.pulsar_consumer_table.specs.Consumers.{Consumers, Member, called_on, drew, holds, names_in, next_free, numbered, numbering, opened_on}
-use Rattle.pulsar_consumer_table.specs.declared.numbers.Numbering.{Numbering}
-use Rattle.pulsar_consumer_table.specs.declared.numbers.Numbering.TheVariants.{Has as HasNumber, InUse, Spent}
-use Rattle.pulsar_link.specs.Request.{named_consumer}
-use Rattle.pulsar_tables.specs.View.{Options, View, consumers_after, consumers_left, consumers_made, drawn_after, joins_as, may_call, stand_after, stays_some, told_some}
-use Rattle.pulsar_calls.specs.Who.{is_same, ticket_of}
-use Rattle.pulsar_agenda.proofs.Acts.{Each, StartsIn, begun_same, called_each, each_append, each_first, each_map, each_rest, is_served}
+use Rattle.pulsar_consumer_table.specs.Consumers.{Member}
+use Rattle.pulsar_acts.specs.View.{drawn_after, joins_as, stand_after}
+use Rattle.pulsar_client.proofs.Acts.{called_each}
+use Rattle.pulsar_laws.proofs.Cases.{none_some}
+use Rattle.pulsar_laws.proofs.Members.{called_rows, left_rows, numbered_rows}
 use Rattle.pulsar_laws.proofs.Quiet.{IsQuiet, comes_quiet, performs_quiet}
-use Rattle.pulsar_agenda.proofs.Raising.{IsRaised, raises}
+use Rattle.pulsar_client.proofs.Raising.{IsRaised, raises}
 
 -- a call whose ticket is not the greatest, or another than a call
 abbrev pub Began : Who → Type 0
@@ -171,9 +151,6 @@ pub record IsTicketed (o : Options) (log : List Entry) : Type 0 where
   pub due : Each (IsDue (view o log).calls.drawn) (agenda o log).now
   consumers : (t : ℕ) (m : Member) → (view o log).consumers.rows t ≡ Some m → Has (view o log).calls.drawn (Call t)
 
-pub none_some : {A : Type 0} {x : A} → None ≡ Some x → ⊥
-none_some {A} {x} h = cc
-
 -- what a row was made of was there
 was_some : {A B : Type 0} (f : A → B) (row : Option A) (y : B) → option_map f row ≡ Some y → (x : A) × (row ≡ Some x)
 was_some f None y h = absurd (none_some h)
@@ -182,38 +159,6 @@ was_some f (Some x) y h = (x, refl)
 told_was : (row : Option Plan) (o : Outcome) (plan : Plan) → stays_some (told_some row o) ≡ Some plan → (old : Plan) × (row ≡ Some old)
 told_was None o plan h = absurd (none_some h)
 told_was (Some old) o plan h = (old, refl)
-
--- what makes no consumer leaves all of them
-
-names_rows : (number : Option ℕ) (cs : Consumers) → (names_in number cs).rows ≡ cs.rows
-names_rows None cs = refl
-names_rows (Some number) cs = refl
-
-opened_rows : (asked : Asked) (cs : Consumers) → (opened_on asked cs).rows ≡ cs.rows
-opened_rows (content.Raw l words) cs = names_rows (named_consumer words) cs
-opened_rows _ cs = refl
-
-called_rows : (lacks is_open : Bool) (asked : Asked) (cs : Consumers) → (cond lacks cs (called_on is_open asked cs)).rows ≡ cs.rows
-called_rows true is_open asked cs = refl
-called_rows false true asked cs = opened_rows asked cs
-called_rows false false asked cs = refl
-
-drew_rows : (free : ℕ) (wanted : Option ℕ) (cs : Consumers) → (drew free wanted cs).rows ≡ cs.rows
-drew_rows free None cs = refl
-drew_rows free (Some n) cs = refl
-
-holds_rows : (t : ℕ) (x : Numbering) (cs : Consumers) → (holds t x cs).rows ≡ cs.rows
-holds_rows t (HasNumber n) cs = refl
-holds_rows t InUse cs = refl
-holds_rows t Spent cs = refl
-
-numbered_rows : (t : ℕ) (wanted : Option ℕ) (cs : Consumers) → (numbered t wanted cs).rows ≡ cs.rows
-numbered_rows t wanted cs = drew_rows (next_free cs) wanted (holds t (numbering cs wanted) cs) ∙ holds_rows t (numbering cs wanted) cs
-
-left_rows : (who : Who) (cs : Consumers) → (consumers_left who cs).rows ≡ cs.rows
-left_rows (Call t) cs = refl
-left_rows (Consumer n t) cs = refl
-left_rows (Producer n) cs = refl
 
 module _ (o : Options) (log : List Entry) (k : IsTicketed o log) where
   abbrev drawn : ℕ
@@ -241,7 +186,8 @@ module _ (o : Options) (log : List Entry) (k : IsTicketed o log) where
       (raises (view o log) (Answers who verdict))
   arises _ is_due = tt
 
-  from_made : (who : Who) (made : Member) → Has drawn who → (t : ℕ) (m : Member) → (joins_as who made (view o log).consumers).rows t ≡ Some m → Has drawn (Call t)
+  from_made : (who : Who) (made : Member) → Has drawn who → (t : ℕ) (m : Member) → (joins_as who made (view o log).consumers).rows t ≡ Some m →
+      Has drawn (Call t)
   from_made (Call u) made is_due t m h = elim (cases_Bool (t == u)) [
     | inl e ↦ subst (λ n. Has drawn (Call n)) (sym (eqb-true t u e)) is_due
     | inr e ↦ k.consumers t m (rw e at h)

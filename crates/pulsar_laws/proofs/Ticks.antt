@@ -8,32 +8,21 @@ use Rattle.std.specs.Option.{option_map, option_to_list}
 use Rattle.std.specs.Ordering.{is_lt, match_ordering, nat_cmp, ordering_then}
 use Rattle.std.specs.declared.cmp.Ordering.{Ordering}
 use Rattle.std.specs.declared.cmp.Ordering.TheVariants.{Less, Equal, Greater}
+use Rattle.pulsar_laws.proofs.ActWords.{Act, Alarm, Answers, Batch, Call, CheckIdle, Comes, Consumer, Does, Ends, Flush, KeepAlive, numbers_from, Overdue, Part, Producer, Retry, Rings, Shut, StopAll, Store, ToLink, turn_of, Wait, Wake}
+use Rattle.pulsar_laws.proofs.RunWords.{Begins, begun_same, Chosen, Each, each_append, each_map, Entry, Options, Then, Turned, turned, view, View}
+use Rattle.pulsar_laws.proofs.LinkWords.{Becomes, Change, IsOver, over_links, Pause, Remains, rings, Seat}
 use Rattle.pulsar_run.specs.Order.{InOrder, NoneBelow}
 use Rattle.pulsar_session.specs.Link.{due}
 use Rattle.pulsar_producer.specs.Topic as topic
-use Rattle.pulsar_calls.specs.declared.act.Act.{Act}
-use Rattle.pulsar_calls.specs.declared.act.Act.TheVariants.{Comes, Does, Answers}
-use Rattle.pulsar_calls.specs.declared.act.Action.TheVariants.{Wait, Shut, Store, Flush, StopAll}
-use Rattle.pulsar_calls.specs.declared.act.Alarm.{Alarm}
-use Rattle.pulsar_calls.specs.declared.act.Alarm.TheVariants.{Retry, Wake, Batch, KeepAlive, CheckIdle}
-use Rattle.pulsar_calls.specs.declared.act.End.TheVariants.{Overdue}
-use Rattle.pulsar_calls.specs.declared.act.LinkAct.TheVariants.{Ends}
-use Rattle.pulsar_calls.specs.declared.act.Part.{Part}
-use Rattle.pulsar_calls.specs.declared.act.Part.TheVariants.{ToLink, Rings}
-use Rattle.pulsar_calls.specs.declared.act.Who.TheVariants.{Call, Producer, Consumer}
-use Rattle.pulsar_tables.specs.declared.addresses.Pause.{Pause}
 use Rattle.pulsar_producer_table.specs.declared.table.Topic.{Topic}
-use Rattle.pulsar_calls.specs.Who.{turn_of}
-use Rattle.pulsar_tables.specs.Alarms.{alarm_cmp, clear, is_same_alarm, ringing, rings, set}
-use Rattle.pulsar_tables.specs.Effects.{is_before3}
+use Rattle.pulsar_links.specs.Alarms.{alarm_cmp, clear, is_same_alarm, ringing, set}
+use Rattle.pulsar_calls.specs.Order.{is_before3}
+use Rattle.pulsar_laws.proofs.Cases.{cond_so}
 use Rattle.pulsar_laws.specs.Laws.{TicksInOrder, part_below, part_rank}
-use Rattle.pulsar_tables.specs.Links.{Change, Remains, Becomes, IsOver}
-use Rattle.pulsar_calls.specs.Content.{numbers_from}
 use Rattle.pulsar_producer_table.specs.Producers.{is_bare, numbers_at, timeout_at, topic_after}
-use Rattle.pulsar_tables.specs.Rules.{due_part, on_link, over_links}
-use Rattle.pulsar_agenda.specs.Run.{Entry, Begins, Then, view}
-use Rattle.pulsar_tables.specs.View.{Chosen, Options, Seat, Turned, View, alarms_after, alarms_on, alarms_on_topic, alarms_over, alarms_rung, alarms_turned, alarms_waiting, builds, clear_all, delay_of, idle_period, later, turned, waits_from}
-use Rattle.pulsar_agenda.proofs.Acts.{Each, begun_same, each_append, each_map}
+use Rattle.pulsar_links.specs.LinkRules.{due_part, on_link}
+use Rattle.pulsar_acts.specs.View.{alarms_after, alarms_on, alarms_on_topic, alarms_over, alarms_rung, alarms_turned, alarms_waiting, builds, clear_all, delay_of, idle_period, waits_from}
+use Rattle.pulsar_links.specs.Seats.{later}
 use Rattle.pulsar_agenda.proofs.Orders.{one_way3, chain3}
 use Rattle.pulsar_agenda.proofs.Sorting.{cmp3, lt3}
 
@@ -48,7 +37,8 @@ module _ {A : Type 0} (below : A → A → Bool) where
   none_each Q x [] f k = tt
   none_each Q x (y ∷ ys) f k = (f y k.0, none_each Q x ys f k.1)
 
-  order_append : (P Q : A → Type 0) (xs ys : List A) → ((x y : A) → P x → Q y → below y x ≡ false) → Each P xs → Each Q ys → InOrder below xs → InOrder below ys →
+  order_append : (P Q : A → Type 0) (xs ys : List A) → ((x y : A) → P x → Q y → below y x ≡ false) → Each P xs → Each Q ys → InOrder below xs →
+      InOrder below ys →
       InOrder below (xs ++ ys)
   order_append P Q [] ys f p q o r = r
   order_append P Q (x ∷ xs) ys f p q o r =
@@ -179,7 +169,8 @@ none_through a b [] h k = tt
 none_through a b (x ∷ xs) h k = (chain x b a k.0 h, none_through a b xs h k.1)
 
 module _ (a : Alarm) (moment : ℕ) where
-  none_set : (x : Alarm) (es : List (Alarm × ℕ)) → alarm_below a x ≡ false → NoneBelow alarm_below x (names es) → NoneBelow alarm_below x (names (set a moment es))
+  none_set : (x : Alarm) (es : List (Alarm × ℕ)) → alarm_below a x ≡ false → NoneBelow alarm_below x (names es) →
+      NoneBelow alarm_below x (names (set a moment es))
   none_set x [] h k = (h, tt)
   none_set x (e ∷ es) h k = by (alarm_cmp a e.0) (none_set x es h k.1)
     where
@@ -193,7 +184,8 @@ module _ (a : Alarm) (moment : ℕ) where
   sorted_set [] k = (tt, tt)
   sorted_set (e ∷ es) k = by (alarm_cmp a e.0) refl (sorted_set es k.1)
     where
-      by : (o : Ordering) → alarm_cmp a e.0 ≡ o → Sorted (set a moment es) → Sorted (match_ordering o ((a, moment) ∷ e ∷ es) ((e.0, moment) ∷ es) (e ∷ set a moment es))
+      by : (o : Ordering) → alarm_cmp a e.0 ≡ o → Sorted (set a moment es) →
+          Sorted (match_ordering o ((a, moment) ∷ e ∷ es) ((e.0, moment) ∷ es) (e ∷ set a moment es))
       by Less h more =
           let before : alarm_below e.0 a ≡ false = one_way a e.0 (below_is a e.0 Less h) in
           ((before, none_through a e.0 (names es) before k.0), (k.0, k.1))
@@ -220,15 +212,12 @@ module _ (test : Alarm × ℕ → Bool) where
 sorted_clear : (a : Alarm) (es : List (Alarm × ℕ)) → Sorted es → Sorted (clear a es)
 sorted_clear a es k = sorted_filter (λ e. not (is_same_alarm a e.0)) es k
 
-sorted_either : (b : Bool) (xs ys : List (Alarm × ℕ)) → Sorted xs → Sorted ys → Sorted (cond b xs ys)
-sorted_either true xs ys p q = p
-sorted_either false xs ys p q = q
-
 sorted_over : (o : Chosen) (now l : ℕ) (pause : Option Pause) (es : List (Alarm × ℕ)) → Sorted es → Sorted (alarms_over o now l pause es)
 sorted_over o now l None es k = k
 sorted_over o now l (Some p) es k = sorted_set (Retry l) (later now (delay_of o l p)) es k
 
-sorted_turned : (o : Chosen) (now l : ℕ) (change : Change) (pause : Option Pause) (es : List (Alarm × ℕ)) → Sorted es → Sorted (alarms_turned o now l change pause es)
+sorted_turned : (o : Chosen) (now l : ℕ) (change : Change) (pause : Option Pause) (es : List (Alarm × ℕ)) → Sorted es →
+    Sorted (alarms_turned o now l change pause es)
 sorted_turned o now l Remains pause es k = k
 sorted_turned o now l Becomes pause es k = sorted_set (KeepAlive l) (later now o.connection.keep_alive) es k
 sorted_turned o now l IsOver pause es k = sorted_over o now l pause (clear (KeepAlive l) es) (sorted_clear (KeepAlive l) es k)
@@ -266,14 +255,14 @@ sorted_all (n ∷ ns) es k = sorted_all ns (clear (Batch n) es) (sorted_clear (B
 sorted_after : (v : View) (a : Act) → Sorted v.alarms → Sorted (alarms_after v a)
 sorted_after v (Comes (ToLink l x)) k = sorted_on v.chosen v.now (turned v (Comes (ToLink l x))) v.alarms k
 sorted_after v (Comes (Rings a)) k =
-    sorted_either (rings v.now a v.alarms) (alarms_rung v.chosen v.now a v.alarms) v.alarms (sorted_rung v.chosen v.now a v.alarms k) k
+    cond_so Sorted (rings v.now a v.alarms) (alarms_rung v.chosen v.now a v.alarms) v.alarms (sorted_rung v.chosen v.now a v.alarms k) k
 sorted_after v (Does who (Wait delay)) k = sorted_set (Wake who) (later v.now delay) v.alarms k
 sorted_after v (Does who (Store n e)) k = sorted_topic v n (topic.Stores (turn_of who) e) k
 sorted_after v (Does who (Flush n)) k = sorted_topic v n (topic.Flushes (turn_of who)) k
 sorted_after v (Does who (Shut t)) k = sorted_all (numbers_at (v.producers.built t)) v.alarms k
 sorted_after v (Does who StopAll) k = tt
 sorted_after v (Answers who verdict) k =
-    sorted_either (not v.calls.is_built && builds verdict.makes false) (set CheckIdle (later v.now idle_period) v.alarms) v.alarms
+    cond_so Sorted (not v.calls.is_built && builds verdict.makes false) (set CheckIdle (later v.now idle_period) v.alarms) v.alarms
     (sorted_set CheckIdle (later v.now idle_period) v.alarms k) k
 sorted_after v _ k = k
 

@@ -1,31 +1,21 @@
 -- A topic producer is what the acts on it made of it since it was built.
-use Rattle.std.proofs.Common.{◌≡◌, ◌⊎◌, inl, inr, ◌∙◌, sym, ap, ℕ, ◌==◌, List, [], ◌∷◌, ◌++◌, refl, Bool, true, false, cond, Option, Some, None}
+use Rattle.std.proofs.Common.{◌≡◌, inl, inr, ◌∙◌, sym, ap, ℕ, ◌==◌, List, [], ◌∷◌, ◌++◌, refl, Bool, true, false, cond, Option, Some, None}
 use Rattle.std.proofs.lemmas.Bool.{cases_Bool}
 use Rattle.std.specs.Option.{is_some, option_map}
-use Rattle.pulsar_producer.specs.Producer as producer
+use Rattle.pulsar_laws.proofs.ActWords.{Act, Answers, Batch, Calls, Comes, Does, Draw, Flush, Makes, PassTurn, Remake, Rings, Shut, StopAll, Store, TakeBatch, TakeTurn, turn_of, Verdict, Who}
+use Rattle.pulsar_laws.proofs.PlanWords.{Built}
+use Rattle.pulsar_laws.proofs.RunWords.{Begins, begun_same, chosen_same, draws_on, Entry, IsRun, Options, producers_made, producers_rung, room_of, Then, view, View}
+use Rattle.pulsar_laws.proofs.LinkWords.{rings}
 use Rattle.pulsar_producer.specs.Topic as topic
-use Rattle.pulsar_producer.specs.Storage.{limits_of}
+use Rattle.pulsar_outgoing.specs.Storage.{limits_of}
 use Rattle.pulsar_producer.specs.Topic.{Act as Deed, Closes, Halts, Seen, Setup}
-use Rattle.pulsar_producer.specs.declared.content.Built.{Built}
-use Rattle.pulsar_producer.specs.declared.storage.Limits.{Limits}
-use Rattle.pulsar_calls.specs.declared.act.Act.{Act}
-use Rattle.pulsar_calls.specs.declared.act.Act.TheVariants.{Comes, Does, Answers}
-use Rattle.pulsar_calls.specs.declared.act.Action.TheVariants.{TakeTurn, PassTurn, Draw, Remake, Shut, Store, Flush, TakeBatch, StopAll}
-use Rattle.pulsar_calls.specs.declared.act.Alarm.TheVariants.{Batch}
-use Rattle.pulsar_calls.specs.declared.act.Makes.{Makes}
+use Rattle.pulsar_outgoing.specs.declared.storage.Limits.{Limits}
 use Rattle.pulsar_calls.specs.declared.act.Makes.TheVariants.{Producer}
-use Rattle.pulsar_calls.specs.declared.act.Part.TheVariants.{Calls, Rings}
-use Rattle.pulsar_calls.specs.declared.act.Verdict.{Verdict}
-use Rattle.pulsar_calls.specs.declared.act.Who.{Who}
 use Rattle.pulsar_producer_table.specs.declared.table.Topic.{Topic}
 use Rattle.pulsar_producer_table.specs.Producers.{Producers, changed, made_of, numbers_at, shut_all, topic_after, with_topic, with_topics}
 use Rattle.pulsar_laws.specs.ProducerLaws.{TopicsAlone, acts_on, drawn_by, rung_by, shut_by, topic_acts}
-use Rattle.pulsar_agenda.specs.Run.{Entry, Begins, Then, IsRun, view}
-use Rattle.pulsar_tables.specs.Alarms.{rings}
-use Rattle.pulsar_tables.specs.View.{Options, View, draws_on, producers_made, producers_rung, room_of}
-use Rattle.pulsar_tables.specs.View as seen
-use Rattle.pulsar_calls.specs.Who.{rank, turn_of}
-use Rattle.pulsar_agenda.proofs.Acts.{begun_same, chosen_same}
+use Rattle.pulsar_acts.specs.View as seen
+use Rattle.pulsar_calls.specs.Who.{rank}
 use Rattle.pulsar_laws.proofs.Drawing.{Every, Drawn, Joins, built_topics, called_kept, drawn_run, joined_row, joins_new, row_from}
 
 -- what acts make of one, the newest first

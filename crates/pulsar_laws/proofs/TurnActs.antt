@@ -1,44 +1,29 @@
 -- Turns along a log: acts that leave them as they are, and one that is told something.
-use Rattle.std.proofs.Common.{◌≡◌, ◌⊎◌, inl, inr, ◌∙◌, sym, ap, subst, ℕ, ◌+◌, ◌<◌, ◌≤◌, ◌==◌, arith, List, [], ◌∷◌, ◌++◌, refl, Bool, true, false, ◌&&◌, nat_lt, cond, Option, Some, None}
+use Rattle.std.proofs.Common.{◌≡◌, ◌⊎◌, inl, inr, ◌∙◌, sym, ap, subst, ℕ, ◌+◌, ◌≤◌, ◌==◌, arith, List, [], ◌∷◌, refl, Bool, true, false, ◌&&◌, nat_lt, cond, Option, Some, None}
 use Rattle.std.proofs.lemmas.Bool.{cases_Bool, eqb-true}
 use Rattle.std.proofs.lemmas.Bool.Decides.{nat_tests}
 use Rattle.std.specs.BTreeSet.{insert_key}
 use Rattle.std.specs.Option.{option_map}
 use Rattle.std.specs.Ordering.{match_ordering, nat_cmp}
 use Rattle.std.specs.declared.cmp.Ordering.TheVariants.{Less, Equal, Greater}
-use Rattle.pulsar_run.specs.Laws.{In}
+use Rattle.pulsar_laws.proofs.ActWords.{Act, Call, is_same, Notice, Procedure, Producer, Starts, Told, Verdict, Who}
+use Rattle.pulsar_laws.proofs.PlanWords.{Batching, begins, Gives, Leaving, Plan, Stays, told, Turn}
+use Rattle.pulsar_laws.proofs.RunWords.{counted, Entry, In, IsRun, Options, start_of, stays, stays_some, Then, told_some, view}
 use Rattle.pulsar_producer.specs.Topic as topic
-use Rattle.pulsar_calls.specs.declared.act.Act.{Act}
-use Rattle.pulsar_calls.specs.declared.act.Act.TheVariants.{Starts, Told}
-use Rattle.pulsar_calls.specs.declared.act.Notice.{Notice}
-use Rattle.pulsar_calls.specs.declared.act.Procedure.{Procedure}
-use Rattle.pulsar_calls.specs.declared.act.Verdict.{Verdict}
-use Rattle.pulsar_calls.specs.declared.act.Who.{Who}
-use Rattle.pulsar_calls.specs.declared.act.Who.TheVariants.{Call, Producer}
-use Rattle.pulsar_procedures.specs.declared.plan.Plan.{Plan}
-use Rattle.pulsar_procedures.specs.declared.plan.Plan.TheVariants.{Batching, Leaving}
-use Rattle.pulsar_procedures.specs.declared.plan.Turn.{Turn}
-use Rattle.pulsar_procedures.specs.declared.plan.Turn.TheVariants.{Stays, Gives}
 use Rattle.pulsar_producer_table.specs.declared.table.Topic.{Topic}
-use Rattle.pulsar_laws.specs.Laws.{counted, start_of}
-use Rattle.pulsar_procedures.specs.Plan.{begins, told}
+use Rattle.pulsar_laws.proofs.Cases.{none_some}
 use Rattle.pulsar_producer_table.specs.Producers.{Producers, changed, topic_after}
 use Rattle.pulsar_laws.specs.ProducerLaws.{HasTurn, topic_acts}
-use Rattle.pulsar_agenda.specs.Run.{Entry, Then, IsRun, view}
-use Rattle.pulsar_tables.specs.View.{Options, stays, stays_some, told_some}
-use Rattle.pulsar_calls.specs.Who.{is_same}
 use Rattle.pulsar_laws.proofs.Drawing.{drawn_run, row_from}
 use Rattle.pulsar_laws.proofs.Follow.{same_is}
 use Rattle.pulsar_laws.proofs.Holding.{GoesSo, begins_holds, holds, is_past, is_turn_told, told_holds}
 use Rattle.pulsar_laws.proofs.Holding as holding
 use Rattle.pulsar_laws.proofs.InTurn.{AllTurns, IsAt, IsPending, IsTicket, Turns, leaving_gives, leaving_none, not_begun}
-use Rattle.pulsar_laws.proofs.Natures.{StaysSo, is_batching, is_leaving}
+use Rattle.pulsar_laws.proofs.Arcs.{StaysSo}
+use Rattle.pulsar_laws.proofs.Natures.{is_batching, is_leaving}
 use Rattle.pulsar_laws.proofs.Topics.{row_as, topic_all}
 use Rattle.pulsar_laws.proofs.Unbatched.{calls_unbatched}
 use Rattle.pulsar_laws.proofs.Turns.{acts_left, all_left, passes_it, pend_kept, pending, takes_it, turn_note}
-
-pub none_some : {A : Type 0} {x : A} → None ≡ Some x → ⊥
-none_some {A} {x} h = cc
 
 -- ONE ACT
 

@@ -1,39 +1,28 @@
 -- Turns along a log: each kind of act keeps what is so of them.
-use Rattle.std.proofs.Common.{◌≡◌, ◌⊎◌, inl, inr, ◌∙◌, sym, ap, subst, ℕ, ◌+◌, ◌<◌, ◌≤◌, ◌==◌, arith, List, [], ◌∷◌, ◌++◌, refl, Bool, true, false, ◌&&◌, cond, Option, Some, None}
+use Rattle.std.proofs.Common.{◌≡◌, ◌⊎◌, inl, inr, ◌∙◌, sym, ap, subst, ℕ, ◌+◌, ◌<◌, ◌≤◌, ◌==◌, arith, List, [], ◌∷◌, refl, Bool, true, false, ◌&&◌, cond, Option, Some, None}
 use Rattle.std.proofs.lemmas.Bool.{cases_Bool, eqb-true, and_parts}
 use Rattle.std.specs.BTreeSet.{insert_key}
 use Rattle.std.specs.List.{flat_map}
 use Rattle.std.specs.Option.{is_none, option_map, option_to_list}
 use Rattle.std.specs.Ordering.{nat_cmp}
-use Rattle.pulsar_run.specs.Laws.{In}
-use Rattle.pulsar_session.specs.Link.{is_spent}
+use Rattle.pulsar_laws.proofs.ActWords.{Act, Call, Consumer, Does, Heard, is_same, Notice, Outcome, PassTurn, Producer, Share, Starts, turn_of as taken_as, TakeTurn, Told, Who}
+use Rattle.pulsar_laws.proofs.PlanWords.{Plan, Serving, told}
+use Rattle.pulsar_laws.proofs.RunWords.{at_once, Begins, begun_same, Entry, In, IsRun, notice, Options, Then, turn_notice, view}
+use Rattle.pulsar_messages.specs.Claims.{is_spent}
 use Rattle.pulsar_producer.specs.Laws.{AreAbove}
 use Rattle.pulsar_producer.specs.Topic as topic
 use Rattle.pulsar_producer.specs.Topic.{Setup, Takes, Passes, first_of, next_holder, rest_of, takes_in}
-use Rattle.pulsar_producer.specs.declared.deed.News.TheVariants as news
+use Rattle.pulsar_outgoing.specs.declared.news.News.TheVariants as news
 use Rattle.pulsar_producer.specs.declared.sending.Sending.TheVariants as send
 use Rattle.pulsar_producer.proofs.Turns.{lowest_is_next}
-use Rattle.pulsar_calls.specs.declared.act.Act.{Act}
-use Rattle.pulsar_calls.specs.declared.act.Act.TheVariants.{Starts, Told, Does}
-use Rattle.pulsar_calls.specs.declared.act.Action.TheVariants.{TakeTurn, PassTurn}
-use Rattle.pulsar_calls.specs.declared.act.Notice.{Notice}
-use Rattle.pulsar_calls.specs.declared.act.Outcome.{Outcome}
 use Rattle.pulsar_calls.specs.declared.act.Outcome.TheVariants as outcome
-use Rattle.pulsar_calls.specs.declared.act.Who.{Who}
-use Rattle.pulsar_calls.specs.declared.act.Who.TheVariants.{Call, Producer, Consumer}
-use Rattle.pulsar_calls.specs.declared.act.Share.{Share}
-use Rattle.pulsar_procedures.specs.declared.plan.Plan.{Plan}
-use Rattle.pulsar_procedures.specs.declared.plan.Plan.TheVariants.{Sending, Serving}
+use Rattle.pulsar_plans.specs.declared.plan.Plan.TheVariants.{Sending}
 use Rattle.pulsar_producer_table.specs.declared.table.Topic.{Topic}
-use Rattle.pulsar_calls.specs.Content.{Heard}
-use Rattle.pulsar_procedures.specs.Plan.{told}
 use Rattle.pulsar_producer_table.specs.Producers.{Producers, topic_after, turn_passed}
+use Rattle.pulsar_laws.proofs.Cases.{none_some}
 use Rattle.pulsar_laws.specs.ProducerLaws.{HasTurn, PassedInTurn, QueuedInTurn, ToldInTurn, acts_on, turn_of}
-use Rattle.pulsar_tables.specs.Rules.{at_once, grants, notice, takes_turn, turn_notice}
-use Rattle.pulsar_agenda.specs.Run.{Entry, Begins, Then, IsRun, view}
-use Rattle.pulsar_tables.specs.View.{Options}
-use Rattle.pulsar_calls.specs.Who.{behind_all, in_turn, is_same, turn_of as taken_as}
-use Rattle.pulsar_agenda.proofs.Acts.{begun_same}
+use Rattle.pulsar_acts.specs.Rules.{grants, takes_turn}
+use Rattle.pulsar_calls.specs.Who.{behind_all, in_turn}
 use Rattle.pulsar_laws.proofs.Drawing.{Every, here}
 use Rattle.pulsar_laws.proofs.Holding.{holds, is_turn_told}
 use Rattle.pulsar_laws.proofs.InTurn.{AllTurns, IsAt, IsPassing, IsPending, IsTaking, IsTicket, OwnTurns, Turns, at_most_none, leaving_none, not_all, own_taking, own_waits, passing, self_same, stood_begun, stood_ticket, taking, who_same}
@@ -42,7 +31,7 @@ use Rattle.pulsar_laws.proofs.Turns.{once_none, pend_kept, pend_then, pending, s
 use Rattle.pulsar_laws.proofs.Servers.{is_server, server_does, server_stands}
 use Rattle.pulsar_laws.proofs.Consuming.{is_modest}
 use Rattle.pulsar_laws.proofs.Same.{same_call, same_producer, same_test}
-use Rattle.pulsar_laws.proofs.TurnActs.{Everyone, Nobody, Waits, count_more, equal_self, in_insert, left_turns, none_some, starts_turns, step_turns, changed_at, changed_from, changed_not, told_turns}
+use Rattle.pulsar_laws.proofs.TurnActs.{Everyone, Nobody, Waits, count_more, equal_self, in_insert, left_turns, starts_turns, step_turns, changed_at, changed_from, changed_not, told_turns}
 
 -- ONE TAKES ITS TURN
 

@@ -1,40 +1,26 @@
 -- Whose turn it is: nobody has the turn of a topic producer beside the one that it was given to, who waits for it waits for no other, and
 -- one is told of a turn once.
-use Rattle.std.proofs.Common.{◌≡◌, ◌⊎◌, ◌∙◌, ap, subst, ℕ, ◌+◌, ◌<◌, ◌≤◌, ◌==◌, arith, List, [], ◌∷◌, ◌++◌, refl, map, Bool, true, false, ◌&&◌, cond, Option, Some, None}
-use Rattle.pulsar_run.specs.Order.{put, put_all}
-use Rattle.pulsar_run.specs.Run.{first_of, rest, rest_of}
-use Rattle.pulsar_session.specs.Link.{is_spent}
+use Rattle.std.proofs.Common.{◌≡◌, ◌∙◌, ap, subst, ℕ, ◌+◌, ◌==◌, arith, List, [], ◌∷◌, ◌++◌, refl, Bool, true, false, ◌&&◌, cond, Option, Some, None}
+use Rattle.pulsar_laws.proofs.ActWords.{Act, Action, Batch, below, Comes, Does, Draw, Flush, is_same, Notice, Outcome, Part, PassTurn, Remake, Rings, Shut, StopAll, Store, TakeBatch, turn_of as taken_as, TakeTurn, Told, Who}
+use Rattle.pulsar_laws.proofs.RunWords.{agenda, at_once, Each, each_either, Entry, first_of, IsRun, joins, Options, performs, put_all, rest, rest_of, room_of, rules, Then, view, View}
+use Rattle.pulsar_laws.proofs.LinkWords.{rings}
+use Rattle.pulsar_run.specs.Order.{put}
+use Rattle.pulsar_messages.specs.Claims.{is_spent}
 use Rattle.pulsar_producer.specs.Topic as topic
-use Rattle.pulsar_producer.specs.Storage.{Item, SingleMessage, Flush as Flush', is_ready, pushed}
-use Rattle.pulsar_producer.specs.Topic.{Act as Deed, Takes, Passes, Draws, Remakes, Closes, Stores, Flushes, Cuts, TakesBatch, Halts, Seen, cuts, cuts_ready, is_nothing, is_settled, left_of, stores}
-use Rattle.pulsar_producer.specs.declared.deed.News.TheVariants as news
-use Rattle.pulsar_calls.specs.declared.act.Act.{Act}
-use Rattle.pulsar_calls.specs.declared.act.Act.TheVariants.{Comes, Starts, Told, Does, Answers, Dials}
-use Rattle.pulsar_calls.specs.declared.act.Action.{Action}
-use Rattle.pulsar_calls.specs.declared.act.Action.TheVariants.{TakeTurn, PassTurn, Draw, Remake, Shut, Store, Flush, TakeBatch, Tell, TellAll, StopAll, Ask, Revive, FailConsumer}
-use Rattle.pulsar_calls.specs.declared.act.Alarm.TheVariants.{Batch}
-use Rattle.pulsar_calls.specs.declared.act.Notice.{Notice}
-use Rattle.pulsar_calls.specs.declared.act.Outcome.{Outcome}
+use Rattle.pulsar_outgoing.specs.Storage.{Item, SingleMessage, Flush as Flush', is_ready, pushed, is_nothing}
+use Rattle.pulsar_producer.specs.Topic.{Act as Deed, Takes, Passes, Draws, Remakes, Closes, Stores, Flushes, Cuts, TakesBatch, Halts, Seen, cuts, cuts_ready, is_settled, left_of, stores}
+use Rattle.pulsar_outgoing.specs.declared.news.News.TheVariants as news
 use Rattle.pulsar_calls.specs.declared.act.Outcome.TheVariants as outcome
-use Rattle.pulsar_calls.specs.declared.act.Part.{Part}
-use Rattle.pulsar_calls.specs.declared.act.Part.TheVariants.{Rings, Polls}
-use Rattle.pulsar_calls.specs.declared.act.Who.{Who}
-use Rattle.pulsar_producer_table.specs.declared.table.Topic.{Topic}
-use Rattle.pulsar_producer_table.specs.Producers.{is_woken, numbers_at, stored_by}
-use Rattle.pulsar_laws.specs.ProducerLaws.{HasTurn, drawn_by, rung_by, shut_by, topic_acts}
-use Rattle.pulsar_tables.specs.Rules.{at_once, below, joins, performs, readied, ready_notice}
-use Rattle.pulsar_agenda.specs.Run.{Entry, Then, IsRun, agenda, rules, view}
-use Rattle.pulsar_tables.specs.View.{Options, View, room_of}
-use Rattle.pulsar_tables.specs.Alarms.{rings}
-use Rattle.pulsar_procedures.specs.Plan.{closed_notice}
-use Rattle.pulsar_calls.specs.Who.{is_same, turn_of as taken_as}
-use Rattle.pulsar_agenda.proofs.Acts.{Each, each_either}
+use Rattle.pulsar_producer_table.specs.Producers.{numbers_at}
+use Rattle.pulsar_laws.proofs.AtOnce.{is_notice, raised_told}
+use Rattle.pulsar_laws.proofs.Cases.{cond_so}
+use Rattle.pulsar_laws.specs.ProducerLaws.{drawn_by, rung_by, shut_by, topic_acts}
 use Rattle.pulsar_laws.proofs.Drawing.{here}
-use Rattle.pulsar_laws.proofs.Granted.{GivenBy, GivesSo, IsFree, SaysSo, all_free, clean_run, gives_so, is_given, tell_free}
+use Rattle.pulsar_laws.proofs.Granted.{GivenBy, GivesSo, IsFree, JoinSo, SaysSo, clean_run, gives_so, is_given, join_free, joins_so}
+pub use Rattle.pulsar_laws.proofs.Granted.{passes_it}
 use Rattle.pulsar_laws.proofs.Holding.{is_turn_told}
-use Rattle.pulsar_agenda.proofs.Raising.{IsRaised, raises}
+use Rattle.pulsar_client.proofs.Raising.{IsRaised, raises}
 use Rattle.pulsar_laws.proofs.Topics.{all_after}
-use Rattle.pulsar_laws.proofs.Wording.{IsWord, is_word, is_worded, joins_words}
 
 -- WHO IS TO BE TOLD OF A TURN
 
@@ -130,18 +116,9 @@ gives_none : (v : View) (action : Action) (t : Who) (a : Act) → is_take action
 gives_none v action t (Told n) k h = no_note t n (says_none v action n.outcome k h)
 gives_none v action t _ k h = refl
 
-abbrev does_it : Act → Bool
-does_it (Does who action) = true
-does_it _ = false
-
-raised_none : (t : Who) (a b : Act) → does_it a ≡ false → IsRaised a b → turn_act t b ≡ 0
-raised_none t (Does who action) (Told n) d r = absurd cc
-raised_none t (Comes p) (Told n) d r = absurd cc
-raised_none t (Starts who p) (Told n) d r = absurd cc
-raised_none t (Told m) (Told n) d r = absurd cc
-raised_none t (Answers who verdict) (Told n) d r = absurd cc
-raised_none t (Dials p who retries) (Told n) d r = absurd cc
-raised_none t a _ d r = refl
+none_by : (t : Who) (b : Act) → is_notice b ≡ false → turn_act t b ≡ 0
+none_by t (Told n) h = absurd cc
+none_by t _ h = refl
 
 abbrev pub takes_it : Act → Bool
 takes_it (Does who (TakeTurn n)) = true
@@ -151,49 +128,12 @@ pub once_none : (v : View) (t : Who) (a : Act) → takes_it a ≡ false → sum 
 once_none v t (Does who (TakeTurn n)) h = absurd cc
 once_none v t (Does who action) h = sum_none (GivesSo v action) (turn_act t) (performs v who action) (λ b k. gives_none v action t b refl k)
     (gives_so v who action)
-once_none v t a h = sum_none (IsRaised a) (turn_act t) (at_once v a) (λ b k. raised_none t a b refl k) (raises v a)
-
-abbrev pub passes_it : Act → Bool
-passes_it (Does who (PassTurn n)) = true
-passes_it _ = false
-
-readied_none : (t : Who) (n : ℕ) (act : Deed) (row : Option Topic) → sum (turn_note t) (readied n act row) ≡ 0
-readied_none t n act row = elim (is_woken act row) as (λ b. sum (turn_note t) (cond b (ready_notice n ∷ []) []) ≡ 0) [
-  | true ↦ (let e : turn_note t (ready_notice n) ≡ 0 = no_note t (ready_notice n) refl in omega (arith, e))
-  | false ↦ refl
-]
-
-closed_none : (t : Who) (ts : List ℕ) → sum (turn_note t) (map closed_notice ts) ≡ 0
-closed_none t [] = refl
-closed_none t (u ∷ ts) =
-    let e : turn_note t (closed_notice u) ≡ 0 = no_note t (closed_notice u) refl in
-    let f : sum (turn_note t) (map closed_notice ts) ≡ 0 = closed_none t ts in
-    omega (arith, e, f)
-
-word_note : (t : Who) (n : Notice) → IsWord n → turn_note t n ≡ 0
-word_note t n h = no_note t n (by n.outcome h)
-  where
-    by : (y : Outcome) → is_word y ≡ true → is_turn_told y ≡ false
-    by (outcome.Word w) k = refl
-    by y k = absurd cc
-
-worded_none : (t : Who) (v : View) (a : Act) → is_worded a ≡ true → sum (turn_note t) (joins v a) ≡ 0
-worded_none t v a h = sum_none IsWord (turn_note t) (joins v a) (word_note t) (joins_words v a h)
+once_none v t a h = sum_none (IsRaised a) (turn_act t) (at_once v a) (λ b k. none_by t b (raised_told a b refl k)) (raises v a)
 
 pub joins_none : (o : Options) (log : List Entry) (t : Who) (a : Act) → passes_it a ≡ false → IsRun o (Then a ∷ log) →
     sum (turn_note t) (joins (view o log) a) ≡ 0
-joins_none o log t (Does who (PassTurn n)) h run = absurd cc
-joins_none o log t (Does who (Store n entry)) h run = readied_none t n (Stores (taken_as who) entry) ((view o log).producers.topics n)
-joins_none o log t (Does who (Flush n)) h run = readied_none t n (Flushes (taken_as who)) ((view o log).producers.topics n)
-joins_none o log t (Does who (Shut u)) h run = closed_none t (stored_by (view o log).producers (numbers_at ((view o log).producers.built u)))
-joins_none o log t (Does who (Tell n)) h run = let e : turn_note t n ≡ 0 = free_note t n (tell_free o log who n run) in omega (arith, e)
-joins_none o log t (Does who (TellAll ns)) h run = sum_none IsFree (turn_note t) ns (free_note t) (all_free o log who ns run)
-joins_none o log t (Comes (Polls k)) h run = worded_none t (view o log) (Comes (Polls k)) refl
-joins_none o log t (Does who (Ask l request)) h run = worded_none t (view o log) (Does who (Ask l request)) refl
-joins_none o log t (Does who (Revive l)) h run = worded_none t (view o log) (Does who (Revive l)) refl
-joins_none o log t (Does who (FailConsumer f)) h run = worded_none t (view o log) (Does who (FailConsumer f)) refl
-joins_none o log t (Answers who verdict) h run = worded_none t (view o log) (Answers who verdict) refl
-joins_none o log t _ h run = refl
+joins_none o log t a h run =
+    sum_none (JoinSo a) (turn_note t) (joins (view o log) a) (λ m k. free_note t m (join_free a m h k)) (joins_so o log a run)
 
 abbrev pub pending : Options → List Entry → Who → ℕ
 pending o log t = pend t (agenda o log).now (agenda o log).here
@@ -233,12 +173,8 @@ LeavesTurn d = leaves_turn d ≡ true
 abbrev SameTurn : Seen → Seen → Type 0
 SameTurn v w = (w.holder ≡ v.holder) × (w.waiting ≡ v.waiting)
 
-either_left : (v : Seen) (b : Bool) (x y : Seen) → SameTurn v x → SameTurn v y → SameTurn v (cond b x y)
-either_left v true x y p q = p
-either_left v false x y p q = q
-
 cuts_left : (v w : Seen) → SameTurn v w → SameTurn v (cuts_ready w)
-cuts_left v w k = either_left v (is_ready w.storage) (cuts w) w k k
+cuts_left v w k = cond_so (SameTurn v) (is_ready w.storage) (cuts w) w k k
 
 left_left : (bs : List (List Item)) (v : Seen) → SameTurn v (left_of bs v)
 left_left [] v = (refl, refl)
@@ -250,12 +186,12 @@ stores_left x v = cuts_left v (record v { storage = pushed x v.storage }) (refl,
 one_left : (d : Deed) (v : Seen) → LeavesTurn d → SameTurn v (topic.after d v)
 one_left (Takes t) v h = absurd cc
 one_left Passes v h = absurd cc
-one_left Draws v h = either_left v (is_spent v.next) v (record v { next = v.next + 1 }) (refl, refl) (refl, refl)
+one_left Draws v h = cond_so (SameTurn v) (is_spent v.next) v (record v { next = v.next + 1 }) (refl, refl) (refl, refl)
 one_left (Remakes l g) v h = (refl, refl)
 one_left Closes v h = (refl, refl)
 one_left (Stores t e) v h = stores_left (SingleMessage t e) v
-one_left (Flushes t) v h = either_left v (is_settled v) v (stores (Flush' t) v) (refl, refl) (stores_left (Flush' t) v)
-one_left Cuts v h = either_left v (is_nothing v.storage.items) v (cuts v) (refl, refl) (refl, refl)
+one_left (Flushes t) v h = cond_so (SameTurn v) (is_settled v) v (stores (Flush' t) v) (refl, refl) (stores_left (Flush' t) v)
+one_left Cuts v h = cond_so (SameTurn v) (is_nothing v.storage.items) v (cuts v) (refl, refl) (refl, refl)
 one_left TakesBatch v h = left_left v.cut v
 one_left Halts v h = (refl, refl)
 

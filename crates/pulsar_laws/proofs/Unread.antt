@@ -2,49 +2,34 @@
 use Rattle.std.proofs.Common.{◌≡◌, ◌⊎◌, inl, inr, ◌∙◌, sym, ap, subst, ℕ, List, ◌∷◌, ◌++◌, refl, drop, Bool, true, false, cond, ◌==◌, Option, Some, None, Result, Ok, Err, append-nil, []}
 use Rattle.std.proofs.lemmas.Bool.{cases_Bool, eqb-true, eq-eqb}
 use Rattle.std.specs.Option.{option_map}
-use Rattle.pulsar_wire.specs.declared.error.ConnectionError.{ConnectionError}
+use Rattle.pulsar_laws.proofs.ActWords.{Act, Arrival, Ask, Bytes, Comes, Dials, Does, Drains, End, Ends, Get, Heard, LinkAct, Notice, Opens, Part, Pings, Reads, ToLink, Who}
+use Rattle.pulsar_laws.proofs.RunWords.{agenda, at_once, Begins, begun_live, calls_of, dialed, Entry, first, first_of, further, In, is_live, IsRun, link_got, live_begun, none_now, Options, rest, rest_of, rules, Then, view}
+use Rattle.pulsar_laws.proofs.LinkWords.{arrival_at, closed_by, ConnectionError, Fault, got_at, is_numbered, Place, Seat, seat_asked, seat_got, SendPing, took_end, took_some, Words}
 use Rattle.pulsar_wire.specs.declared.key.RequestKey.{RequestKey}
 use Rattle.pulsar_frame.specs.Frame.{Front, Short, Refused, Whole, cut, front}
 use Rattle.pulsar_frame.specs.Key.{key}
 use Rattle.pulsar_frame.specs.Message.{MessageValues}
 use Rattle.pulsar_frame.proofs.Streams.{cut-short, front-nil}
-use Rattle.pulsar_messages.specs.Words.{Words, is_numbered, SendPing}
-use Rattle.pulsar_plans.specs.Address.{Place}
 use Rattle.pulsar_requests.specs.Waits.{ended, places}
-use Rattle.pulsar_run.specs.Laws.{In}
-use Rattle.pulsar_run.specs.Run.{first_of, rest, rest_of}
 use Rattle.pulsar_session.specs.declared.states.Stage.{Stage}
 use Rattle.pulsar_session.specs.declared.states.Stage.TheVariants.{Dialing, Handshaking, Ready, Over}
 use Rattle.pulsar_session.specs.Answers.{is}
-use Rattle.pulsar_session.specs.Failures.{Fault}
 use Rattle.pulsar_session.specs.Laws.{messages_taken}
 use Rattle.pulsar_session.specs.Link.{Act as Act', Asks, Closes, Came, Feeds, Seen, Setup, after_of, answered_to, came, came_by, came_in, drawn, for_consumer, greeted, greeted_by, greets_with, has_room, is_open, is_over, moved_up, number_for, opens_in, queue, request, settled_by, Standing, taken_in, ticked, unasked}
 use Rattle.pulsar_session.proofs.Pieces.{asks_for_apart, unless_stage}
 use Rattle.pulsar_session.proofs.Still.{asked_of, moving, opening}
 use Rattle.pulsar_session.proofs.Streams.{taken_are_cut}
-use Rattle.pulsar_calls.specs.declared.act.Act.{Act}
-use Rattle.pulsar_calls.specs.declared.act.Act.TheVariants.{Comes, Does, Dials}
-use Rattle.pulsar_calls.specs.declared.act.Action.TheVariants.{Get, Ask}
-use Rattle.pulsar_calls.specs.declared.act.Arrival.{Arrival}
-use Rattle.pulsar_calls.specs.declared.act.End.{End}
 use Rattle.pulsar_calls.specs.declared.act.End.TheVariants.{Broken}
-use Rattle.pulsar_calls.specs.declared.act.LinkAct.{LinkAct}
-use Rattle.pulsar_calls.specs.declared.act.LinkAct.TheVariants.{Opens, Reads, Drains, Pings, Ends}
-use Rattle.pulsar_calls.specs.declared.act.Notice.{Notice}
-use Rattle.pulsar_calls.specs.declared.act.Part.{Part}
-use Rattle.pulsar_calls.specs.declared.act.Part.TheVariants.{ToLink}
-use Rattle.pulsar_calls.specs.declared.act.Who.{Who}
-use Rattle.pulsar_calls.specs.Content.{Heard, Bytes}
-use Rattle.pulsar_laws.specs.Laws.{FramesAreCut, calls_of, dialed_with}
-use Rattle.pulsar_tables.specs.Links.{arrives, closed_by}
-use Rattle.pulsar_tables.specs.Rules.{at_once, breaks_at, brings, further, reads_on}
-use Rattle.pulsar_agenda.specs.Run.{Entry, Begins, Then, IsRun, agenda, first, rules, view}
-use Rattle.pulsar_tables.specs.View.{Options, Seat, arrival_at, begun_live, dialed, got_at, is_dialing, is_live, link_got, live_begun, seat_asked, seat_got, took_end, took_some}
+use Rattle.pulsar_laws.proofs.Lists.{in_right}
+use Rattle.pulsar_laws.proofs.Cases.{none_some, some_is}
+use Rattle.pulsar_laws.specs.Laws.{FramesAreCut, dialed_with}
+use Rattle.pulsar_links.specs.Links.{arrives}
+use Rattle.pulsar_acts.specs.Rules.{breaks_at, brings, reads_on}
+use Rattle.pulsar_acts.specs.View.{is_dialing}
 use Rattle.pulsar_wire.specs.declared.key.RequestKey.TheVariants as keys
 use Rattle.pulsar_session.specs.Link as session
 use Rattle.pulsar_calls.specs.declared.act.Arrival.TheVariants as arrivals
-use Rattle.pulsar_agenda.proofs.Acts.{none_now}
-use Rattle.pulsar_laws.proofs.Alone.{Made, alone, no_some, some_is}
+use Rattle.pulsar_laws.proofs.Alone.{Made, alone}
 
 -- A CONNECTION THAT IS DIALED HAS NOTHING UNREAD
 
@@ -94,7 +79,8 @@ moved_stage : (line : List Standing) (v : Seen) → (moved_up line v).stage ≡ 
 moved_stage [] v = refl
 moved_stage (s ∷ line) v = by (has_room v) (moved_stage line (queue s.frame s.claim v))
   where
-    by : (b : Bool) → (moved_up line (queue s.frame s.claim v)).stage ≡ v.stage → (cond b (moved_up line (queue s.frame s.claim v)) (record v { line = s ∷ line })).stage ≡ v.stage
+    by : (b : Bool) → (moved_up line (queue s.frame s.claim v)).stage ≡ v.stage →
+        (cond b (moved_up line (queue s.frame s.claim v)) (record v { line = s ∷ line })).stage ≡ v.stage
     by true more = more
     by false more = refl
 
@@ -197,17 +183,15 @@ taken_read now v short =
 abbrev IsLeft : ℕ → List Act → List Part → Type 0
 IsLeft l now ps = In (ToLink l Reads) ps ⊎ ((c : Fault) × In (Comes (ToLink l (Ends (Broken c)))) now)
 
-in_right : {A : Type 0} (x : A) (xs ys : List A) → In x ys → In x (xs ++ ys)
-in_right x [] ys i = i
-in_right x (y ∷ xs) ys i = inr (in_right x xs ys i)
-
-now_left : (x : Act) (now : List Act) (here : List Notice) (behind : List (List Notice)) (ps : List Part) (a : Act) → first_of rules now here behind ps ≡ Some a →
+now_left : (x : Act) (now : List Act) (here : List Notice) (behind : List (List Notice)) (ps : List Part) (a : Act) →
+    first_of rules now here behind ps ≡ Some a →
     In x now → (x ≡ a) ⊎ In x (rest_of now here behind ps).now
 now_left x [] here behind ps a h i = absurd i
 now_left x (b ∷ now) here behind ps a h (inl e) = inl (let f : b ≡ a = cc in e ∙ f)
 now_left x (b ∷ now) here behind ps a h (inr i) = inr i
 
-parts_left : (p : Part) (now : List Act) (here : List Notice) (behind : List (List Notice)) (ps : List Part) (a : Act) → first_of rules now here behind ps ≡ Some a →
+parts_left : (p : Part) (now : List Act) (here : List Notice) (behind : List (List Notice)) (ps : List Part) (a : Act) →
+    first_of rules now here behind ps ≡ Some a →
     In p ps → (Comes p ≡ a) ⊎ In p (rest_of now here behind ps).parts
 parts_left p (b ∷ now) here behind ps a h i = inr i
 parts_left p [] (n ∷ here) behind ps a h i = inr i
@@ -240,7 +224,8 @@ module _ (o : Options) (l : ℕ) (log : List Entry) where
   resting h (inl i) {X} =
       absurd (subst (In (ToLink l Reads)) (none_parts (agenda o log).now (agenda o log).here (agenda o log).behind (agenda o log).parts h) i)
   resting h (inr i) {X} =
-      absurd (subst (In (Comes (ToLink l (Ends (Broken i.0))))) (none_now (agenda o log).now (agenda o log).here (agenda o log).behind (agenda o log).parts h) i.1)
+      absurd
+      (subst (In (Comes (ToLink l (Ends (Broken i.0))))) (none_now (agenda o log).now (agenda o log).here (agenda o log).behind (agenda o log).parts h) i.1)
 
   -- it stays until then
   stays : (a : Act) → first (agenda o log) ≡ Some a → is_done_by l a ≡ false → Left → IsLeft l (agenda o (Then a ∷ log)).now (agenda o (Then a ∷ log)).parts
@@ -267,7 +252,7 @@ same_holds : (row : Option Seat) → Holds row row
 same_holds row seat h = (seat, h, refl)
 
 map_holds : (f : Seat → Seat) (row : Option Seat) → ((s : Seat) → (f s).seen.unread ≡ s.seen.unread) → Holds row (option_map f row)
-map_holds f None same seat h = absurd (no_some h)
+map_holds f None same seat h = absurd (none_some h)
 map_holds f (Some r) same seat h = (r, refl, ap (λ (s : Seat). s.seen.unread) (sym (some_is h)) ∙ same r)
 
 either_holds : (b : Bool) (row x y : Option Seat) → Holds row x → Holds row y → Holds row (cond b x y)
@@ -298,7 +283,7 @@ is_plain (Ends end) = false
 is_plain _ = true
 
 took_holds : (x : LinkAct) (now : ℕ) (row : Option Seat) → is_plain x ≡ true → Holds row (took_some x now row)
-took_holds x now None p seat h = absurd (no_some h)
+took_holds x now None p seat h = absurd (none_some h)
 took_holds Reads now (Some r) p seat h = absurd cc
 took_holds (Ends end) now (Some r) p seat h = absurd cc
 took_holds Opens now (Some r) p seat h =
@@ -308,7 +293,8 @@ took_holds Pings now (Some r) p seat h = (r, refl, ap (λ (s : Seat). s.seen.unr
 
 module _ (o : Options) (l : ℕ) (log : List Entry) (k : Reading o l log) where
   -- where its bytes stay, and it is not read
-  carried : (a : Act) → first (agenda o log) ≡ Some a → is_done_by l a ≡ false → Holds ((view o log).links.live l) ((view o (Then a ∷ log)).links.live l) → Reading o l (Then a ∷ log)
+  carried : (a : Act) → first (agenda o log) ≡ Some a → is_done_by l a ≡ false → Holds ((view o log).links.live l) ((view o (Then a ∷ log)).links.live l) →
+      Reading o l (Then a ∷ log)
   carried a h other holds seat live =
       let old = holds seat live in
       elim (k old.0 old.1) [
@@ -325,7 +311,7 @@ module _ (o : Options) (l : ℕ) (log : List Entry) (k : Reading o l log) where
 
   read_here : (row : Option Seat) → (view o log).links.live l ≡ row → (seat : Seat) → took_some Reads (view o log).now row ≡ Some seat →
       IsRead seat.seen ⊎ IsLeft l (agenda o (Then (Comes (ToLink l Reads)) ∷ log)).now (agenda o (Then (Comes (ToLink l Reads)) ∷ log)).parts
-  read_here None e seat h = absurd (no_some h)
+  read_here None e seat h = absurd (none_some h)
   read_here (Some r) e seat h = elim (reads_left (arrival_at ((view o log).links.live l)) (rest (agenda o log)).now (rest (agenda o log)).parts) [
     | inl none ↦
         (let short : IsRead r.seen = none_left (dialed_with o l log) (calls_of o l log) r.seen (alone o log l r e) (sym (ap arrival_at e) ∙ none) in
@@ -337,16 +323,16 @@ module _ (o : Options) (l : ℕ) (log : List Entry) (k : Reading o l log) where
 
   ended_holds : (end : End) (cause : Option Fault) (r seat : Seat) → took_end cause r ≡ Some seat → (cause ≡ None) × (r ≡ seat)
   ended_holds end None r seat h = (refl, some_is h)
-  ended_holds end (Some cause) r seat h = absurd (no_some h)
+  ended_holds end (Some cause) r seat h = absurd (none_some h)
 
   not_broken : (end : End) (r : Seat) → closed_by end (view o log).now r.seen ≡ None → is_done_by l (Comes (ToLink l (Ends end))) ≡ false
-  not_broken (Broken cause) r h = absurd (no_some (sym h))
+  not_broken (Broken cause) r h = absurd (none_some (sym h))
   not_broken _ r h = refl
 
   end_here : (end : End) → first (agenda o log) ≡ Some (Comes (ToLink l (Ends end))) → (row : Option Seat) → (view o log).links.live l ≡ row → (seat : Seat) →
       took_some (Ends end) (view o log).now row ≡ Some seat →
       IsRead seat.seen ⊎ IsLeft l (agenda o (Then (Comes (ToLink l (Ends end))) ∷ log)).now (agenda o (Then (Comes (ToLink l (Ends end))) ∷ log)).parts
-  end_here end f None e seat h = absurd (no_some h)
+  end_here end f None e seat h = absurd (none_some h)
   end_here end f (Some r) e seat h =
       let same = ended_holds end (closed_by end (view o log).now r.seen) r seat h in
       elim (k r e) [
@@ -365,7 +351,8 @@ module _ (o : Options) (l : ℕ) (log : List Entry) (k : Reading o l log) where
   plain_act m _ p = refl
 
   own_act : (x : LinkAct) → first (agenda o log) ≡ Some (Comes (ToLink l x)) → Reading o l (Then (Comes (ToLink l x)) ∷ log)
-  own_act x f seat live = by x f (sym (ap (λ b. cond b (took_some x (view o log).now ((view o log).links.live l)) ((view o log).links.live l)) (own_link l)) ∙ live)
+  own_act x f seat live =
+      by x f (sym (ap (λ b. cond b (took_some x (view o log).now ((view o log).links.live l)) ((view o log).links.live l)) (own_link l)) ∙ live)
     where
       by : (y : LinkAct) → first (agenda o log) ≡ Some (Comes (ToLink l y)) → took_some y (view o log).now ((view o log).links.live l) ≡ Some seat →
           IsRead seat.seen ⊎ IsLeft l (agenda o (Then (Comes (ToLink l y)) ∷ log)).now (agenda o (Then (Comes (ToLink l y)) ∷ log)).parts
@@ -411,16 +398,18 @@ module _ (o : Options) (l : ℕ) (log : List Entry) (k : Reading o l log) where
       ]
       fed x h = inl (was_read seat h)
 
-      by : (b : Bool) → (cond b (begun_live e (view o log)) (view o log)).links.live l ≡ Some seat → IsRead seat.seen ⊎ IsLeft l [] (cond b (brings o.policies (view o log) e) [])
+      by : (b : Bool) → (cond b (begun_live e (view o log)) (view o log)).links.live l ≡ Some seat →
+          IsRead seat.seen ⊎ IsLeft l [] (cond b (brings o.policies (view o log) e) [])
       by true h = fed e h
       by false h = inl (was_read seat h)
 
 reading : (o : Options) (l : ℕ) (log : List Entry) → IsRun o log → Reading o l log
-reading o l [] run = λ seat h. absurd (no_some h)
+reading o l [] run = λ seat h. absurd (none_some h)
 reading o l (Begins e ∷ log) run = begins o l log (reading o l log run.0) e run.1
 reading o l (Then (Comes (ToLink m x)) ∷ log) run = to_link o l log (reading o l log run.0) m x run.1
 reading o l (Then (Does who (Get p)) ∷ log) run =
-    carried o l log (reading o l log run.0) (Does who (Get p)) run.1 refl (got_holds (link_got (view o log).addresses (Does who (Get p))) (view o log).now l ((view o log).links.live l))
+    carried o l log (reading o l log run.0) (Does who (Get p)) run.1 refl
+    (got_holds (link_got (view o log).addresses (Does who (Get p))) (view o log).now l ((view o log).links.live l))
 reading o l (Then (Does who (Ask m words)) ∷ log) run =
     let row : Option Seat = (view o log).links.live l in
     carried o l log (reading o l log run.0) (Does who (Ask m words)) run.1 refl

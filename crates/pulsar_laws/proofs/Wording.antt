@@ -1,33 +1,19 @@
 -- What is told of consumers to those whom an act serves is a word, or that the client is stopped.
-use Rattle.std.proofs.Common.{◌≡◌, ℕ, List, [], ◌∷◌, ◌++◌, refl, map, Bool, true, false, cond, Option, Some, None}
-use Rattle.std.specs.List.{flat_map}
+use Rattle.std.proofs.Common.{◌≡◌, ℕ, List, [], ◌∷◌, refl, map, Bool, true, false, Option, Some, None}
 use Rattle.std.specs.Option.{option_map, option_to_list}
+use Rattle.pulsar_laws.proofs.ActWords.{Act, Answers, Ask, Comes, Does, End, FailConsumer, Makes, Notice, Outcome, Polls, Revive, ticket_of, Who, Word}
+use Rattle.pulsar_laws.proofs.RunWords.{Each, each_append, each_flat, joins, lost_on, member_on, setup_of, stopped_on, View}
+use Rattle.pulsar_laws.proofs.LinkWords.{answer_at, arrival_at, closed_consumer, closing, is_asked, Seat, url_at}
 use Rattle.url.specs.Parts.{Parts}
-use Rattle.pulsar_link.specs.Request.{closed_consumer}
-use Rattle.pulsar_messages.specs.Words.{Words}
 use Rattle.pulsar_consumer.specs.Topic as reader
-use Rattle.pulsar_calls.specs.declared.act.Act.{Act}
-use Rattle.pulsar_calls.specs.declared.act.Act.TheVariants.{Comes, Does, Answers}
-use Rattle.pulsar_calls.specs.declared.act.Action.TheVariants.{Ask, Revive, FailConsumer}
-use Rattle.pulsar_calls.specs.declared.act.End.{End}
-use Rattle.pulsar_calls.specs.declared.act.Makes.{Makes}
 use Rattle.pulsar_calls.specs.declared.act.Makes.TheVariants as makes
-use Rattle.pulsar_calls.specs.declared.act.Notice.{Notice}
-use Rattle.pulsar_calls.specs.declared.act.Outcome.{Outcome}
 use Rattle.pulsar_calls.specs.declared.act.Outcome.TheVariants as outcome
-use Rattle.pulsar_calls.specs.declared.act.Part.TheVariants.{Polls}
-use Rattle.pulsar_calls.specs.declared.act.Who.{Who}
-use Rattle.pulsar_calls.specs.declared.act.Word.{Word}
 use Rattle.pulsar_calls.specs.declared.act.Word.TheVariants as word
-use Rattle.pulsar_calls.specs.Who.{ticket_of}
 use Rattle.pulsar_consumer_table.specs.Consumers as consumer
 use Rattle.pulsar_consumer_table.specs.Consumers.{Consumers, Member, at_row, over_rows}
 use Rattle.pulsar_calls.specs.Notices.{stopped_one}
-use Rattle.pulsar_consumer_table.specs.Notices.{again, again_at, due_at, due_to, heard_at, lost_at, polled_due, revived_at, stopped_seekers, word_notice, word_to}
-use Rattle.pulsar_tables.specs.Reading.{closed_at, heard_on, lost_on, made_due, stopped_on}
-use Rattle.pulsar_tables.specs.Rules.{joins}
-use Rattle.pulsar_tables.specs.View.{Seat, View, answer_at, arrival_at, closing, is_asked, member_on, setup_of, url_at}
-use Rattle.pulsar_agenda.proofs.Acts.{Each, each_append, each_flat}
+use Rattle.pulsar_consumer_table.specs.Notices.{again, again_at, due_at, due_to, heard_at, lost_at, stopped_seekers, word_to}
+use Rattle.pulsar_acts.specs.Reading.{closed_at, heard_on, made_due}
 
 -- whatever each consumer gives
 pub rows_each : {A : Type 0} (P : A → Type 0) (f : ℕ → Member → List A) (cs : Consumers) → ((t : ℕ) (m : Member) → Each P (f t m)) → Each P (over_rows f cs)

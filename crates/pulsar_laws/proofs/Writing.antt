@@ -4,13 +4,12 @@ use Rattle.std.proofs.lemmas.Bool.Decides.{nat_tests}
 use Rattle.std.proofs.lemmas.List.{append_cancel_left}
 use Rattle.std.specs.List.{cons_option, filter_map}
 use Rattle.std.specs.Option.{option_map}
+use Rattle.pulsar_laws.proofs.ActWords.{numbers_from, Queued, Shown}
 use Rattle.pulsar_session.specs.Laws.{frames_queued, frames_written, left_in, queued_in, written_in}
 use Rattle.pulsar_session.specs.Link.{Act, Seen, Setup, frame_at, is_over, seen}
 use Rattle.pulsar_session.proofs.Placing.{frame_of_place}
 use Rattle.pulsar_session.proofs.Settled.{places_count, written_in_order}
-use Rattle.pulsar_calls.specs.Content.{Shown, Queued}
-use Rattle.pulsar_tables.specs.Links.{queues, queues_at}
-use Rattle.pulsar_calls.specs.Content.{numbers_from}
+use Rattle.pulsar_links.specs.Links.{queues, queues_at}
 
 -- frames that are queued one after the other, from a place on
 abbrev pub numbered : (link place : ℕ) → List (List ℕ) → List Shown
@@ -72,7 +71,8 @@ module _ (s : Setup) (act : Act) (h : List Act) (before : is_over (seen s h).sta
   frame_is i place e =
       let old = places_count s h before in
       let some = written_before in
-      let late : nat_lt place (length (frames_written s (act ∷ h))) ≡ false = not_before place (length (frames_written s (act ∷ h))) (omega (arith, old, some, e)) in
+      let late : nat_lt place (length (frames_written s (act ∷ h))) ≡ false = not_before place (length (frames_written s (act ∷ h)))
+      (omega (arith, old, some, e)) in
       let at : place - length (frames_queued s h) ≡ i = omega (arith, old, e) in
       frame_of_place s (act ∷ h) place after
       ∙ ap (λ b. cond b None (slice_get (frames_queued s (act ∷ h)) place)) late

@@ -6,41 +6,35 @@ use Rattle.std.proofs.lemmas.Grind.{common_steps, flat_map-append}
 use Rattle.std.proofs.lemmas.List.Elements.{filter-append}
 use Rattle.std.specs.List.{filter, flat_map}
 use Rattle.std.specs.Option.{option_map, option_to_list}
+use Rattle.pulsar_laws.proofs.ActWords.{Act, Ask, Bytes, Comes, Dials, Does, End, Get, Heard, LinkAct, Polls, Queued, Shown, ToLink, Who}
+use Rattle.pulsar_laws.proofs.RunWords.{Begins, begun_live, Chosen, dialed, Each, each_append, each_map, Entry, is_live, IsRun, link_got, live_begun, Options, rules, Then, turned, view, View}
+use Rattle.pulsar_laws.proofs.LinkWords.{closed_by, Fault, got_at, Place, Seat, seat_asked, seat_fed, seat_got, SendPing, took, took_end, took_some, Words}
 use Rattle.pulsar_run.specs.Order.{InOrder, NoneBelow}
 use Rattle.pulsar_run.specs.Run.{in_order, steps_done, with_effects}
 use Rattle.pulsar_run.proofs.Orders.{kinds_in_order_lem}
-use Rattle.pulsar_messages.specs.Words.{Words, SendPing}
-use Rattle.pulsar_session.specs.Failures.{Fault}
 use Rattle.pulsar_session.specs.Laws.{queued_in, written_in}
 use Rattle.pulsar_session.specs.Link as session
 use Rattle.pulsar_session.specs.Link.{Act as Act', Opens, Takes, Asks, Drains, Seen, Setup, came, ends, is_open, is_over, written}
-use Rattle.pulsar_calls.specs.declared.act.Act.{Act}
-use Rattle.pulsar_calls.specs.declared.act.Act.TheVariants.{Comes, Does, Dials}
-use Rattle.pulsar_calls.specs.declared.act.Action.TheVariants.{Get, Ask}
-use Rattle.pulsar_calls.specs.declared.act.End.{End}
-use Rattle.pulsar_calls.specs.declared.act.LinkAct.{LinkAct}
 use Rattle.pulsar_calls.specs.declared.act.LinkAct.TheVariants as link
-use Rattle.pulsar_calls.specs.declared.act.Part.TheVariants.{ToLink, Polls}
-use Rattle.pulsar_calls.specs.declared.act.Who.{Who}
 use Rattle.pulsar_calls.specs.declared.effect.Settlement.TheVariants as settlement
-use Rattle.pulsar_plans.specs.Address.{Place}
-use Rattle.pulsar_calls.specs.Content.{Heard, Bytes, Shown, Queued, Write}
-use Rattle.pulsar_tables.specs.Effects.{asked_at, connects, effect_below, effects, given_at, is_before3, retries_on}
-use Rattle.pulsar_link.specs.Items.{Item, Given, Faulty}
+use Rattle.pulsar_calls.specs.Content.{Write}
+use Rattle.pulsar_acts.specs.Effects.{effects, retries_on}
+use Rattle.pulsar_links.specs.LinkEffects.{asked_at, connects, given_at}
+use Rattle.pulsar_calls.specs.Order.{effect_below, is_before3}
+use Rattle.pulsar_frame.specs.Items.{Given, Faulty}
+use Rattle.pulsar_laws.proofs.Cases.{none_some, some_is}
 use Rattle.pulsar_laws.specs.Laws.{IsPrefix, WritesFollow, bytes_of, queued_on, written_on}
-use Rattle.pulsar_tables.specs.Links as links
-use Rattle.pulsar_tables.specs.Links.{close, closed_by, ended, is_own_end, lost, queues, settled_in, settles, write}
-use Rattle.pulsar_agenda.specs.Run.{Entry, Begins, Then, IsRun, Step, rules, view}
+use Rattle.pulsar_links.specs.Links as links
+use Rattle.pulsar_links.specs.Links.{close, ended, is_own_end, lost, queues, settled_in, settles, write}
+use Rattle.pulsar_calls.specs.Steps.{Step}
 use Rattle.pulsar_consumer_table.specs.Consumers.{Member, polled, polled_so}
-use Rattle.pulsar_tables.specs.View.{Chosen, Options, Seat, View, begun_live, dialed, got_at, is_live, link_got, live_begun, seat_asked, seat_fed, seat_got, took, took_end, took_some, turned}
-use Rattle.pulsar_agenda.proofs.Acts.{Each, each_append, each_map}
-use Rattle.pulsar_laws.proofs.Alone.{Made, alone, is_close, more, no_some, over_stays, some_is}
+use Rattle.pulsar_laws.proofs.Alone.{Made, alone, is_close, more, over_stays}
 use Rattle.pulsar_agenda.proofs.Orders.{effect_order}
 use Rattle.pulsar_laws.proofs.OfLink.{IsOf, asked_of, given_of}
 use Rattle.pulsar_laws.proofs.Plain.{ArePlain, effects_plain, turned_plain}
 use Rattle.pulsar_laws.proofs.Writing.{Turns, numbered, turns}
-use Rattle.pulsar_consumer.specs.declared.polled.Polled.{Polled}
-use Rattle.pulsar_consumer.specs.declared.polled.Polled.TheVariants as poll
+use Rattle.pulsar_incoming.specs.declared.polled.Polled.{Polled}
+use Rattle.pulsar_incoming.specs.declared.polled.Polled.TheVariants as poll
 use Rattle.pulsar_consumer.specs.Topic as reader
 
 abbrev flat : List (List ℕ) → List ℕ
@@ -68,7 +62,8 @@ not_queued : (l : ℕ) (e : Shown) → is_queue l e ≡ false → queued_on l e 
 not_queued l (Queued k place bytes) h = rw h refl
 not_queued l _ h = refl
 
-only_tested : {A B : Type 0} (f : A → List B) (test : A → Bool) → ((x : A) → test x ≡ false → f x ≡ []) → (xs : List A) → flat_map f (filter test xs) ≡ flat_map f xs
+only_tested : {A B : Type 0} (f : A → List B) (test : A → Bool) → ((x : A) → test x ≡ false → f x ≡ []) → (xs : List A) →
+    flat_map f (filter test xs) ≡ flat_map f xs
 only_tested f test none [] = refl
 only_tested f test none (x ∷ xs) = elim (cases_Bool (test x)) [
   | inl e ↦ rw e (ap (λ ys. f x ++ ys) (only_tested f test none xs))
@@ -76,14 +71,16 @@ only_tested f test none (x ∷ xs) = elim (cases_Bool (test x)) [
 ]
 
 -- those that rank alike stand in order
-none_tied : (test : Shown → Bool) (x : Shown) → ((y : Shown) → test y ≡ true → effect_below y x ≡ false) → (ys : List Shown) → NoneBelow effect_below x (filter test ys)
+none_tied : (test : Shown → Bool) (x : Shown) → ((y : Shown) → test y ≡ true → effect_below y x ≡ false) → (ys : List Shown) →
+    NoneBelow effect_below x (filter test ys)
 none_tied test x alike [] = tt
 none_tied test x alike (y ∷ ys) = elim (cases_Bool (test y)) [
   | inl e ↦ rw e (alike y e, none_tied test x alike ys)
   | inr e ↦ rw e (none_tied test x alike ys)
 ]
 
-tied_order : (test : Shown → Bool) → ((x y : Shown) → test x ≡ true → test y ≡ true → effect_below y x ≡ false) → (xs : List Shown) → InOrder effect_below (filter test xs)
+tied_order : (test : Shown → Bool) → ((x y : Shown) → test x ≡ true → test y ≡ true → effect_below y x ≡ false) → (xs : List Shown) →
+    InOrder effect_below (filter test xs)
 tied_order test alike [] = tt
 tied_order test alike (x ∷ xs) = elim (cases_Bool (test x)) [
   | inl e ↦ rw e (none_tied test x (λ y t. alike x y e t) xs, tied_order test alike xs)
@@ -127,7 +124,8 @@ none_last : (x y : Shown) (xs : List Shown) → NoneBelow effect_below x xs → 
 none_last x y [] k e = (e, tt)
 none_last x y (z ∷ xs) k e = (k.0, none_last x y xs k.1 e)
 
-order_last : (l m : ℕ) (xs : List Shown) (y : Shown) → InOrder effect_below xs → Placed l m xs → is_queue l y ≡ true → place_of y ≡ m → InOrder effect_below (xs ++ y ∷ [])
+order_last : (l m : ℕ) (xs : List Shown) (y : Shown) → InOrder effect_below xs → Placed l m xs → is_queue l y ≡ true → place_of y ≡ m →
+    InOrder effect_below (xs ++ y ∷ [])
 order_last l m [] y k p q e = (tt, tt)
 order_last l m (x ∷ xs) y k p q e = (none_last x y xs k.0 (later_queue l m x y p.0 p.1 q e), order_last l m xs y k.1 p.2 q e)
 
@@ -178,7 +176,8 @@ ArePlaced l m (s ∷ ss) = IsPlaced l m s.effects × ArePlaced l m ss
 
 are_more : (l m n : ℕ) (ss : List Step) → m ≤ n → ArePlaced l m ss → ArePlaced l n ss
 are_more l m n [] le k = tt
-are_more l m n (s ∷ ss) le k = (record { order = k.0.order; placed = placed_more l m n (filter (is_queue l) s.effects) le k.0.placed }, are_more l m n ss le k.1)
+are_more l m n (s ∷ ss) le k =
+    (record { order = k.0.order; placed = placed_more l m n (filter (is_queue l) s.effects) le k.0.placed }, are_more l m n ss le k.1)
 
 -- the bytes of the effects in their order are those of the effects as they were done
 step_same : (f : Shown → List ℕ) (test : Shown → Bool) → ((x : Shown) → test x ≡ false → f x ≡ []) → (s : Step) → InOrder effect_below (filter test s.effects) →
@@ -194,7 +193,8 @@ queued_same l m (s ∷ ss) k = λ i. queued_same l m ss k.1 i ++ step_same (queu
 
 written_same : (l : ℕ) (ss : List Step) → bytes_of (written_on l) (map (in_order effect_below) ss) ≡ bytes_of (written_on l) ss
 written_same l [] = refl
-written_same l (s ∷ ss) = λ i. written_same l ss i ++ step_same (written_on l) (is_write l) (not_written l) s (tied_order (is_write l) (writes_alike l) s.effects) i
+written_same l (s ∷ ss) =
+    λ i. written_same l ss i ++ step_same (written_on l) (is_write l) (not_written l) s (tied_order (is_write l) (writes_alike l) s.effects) i
 
 -- WHAT NEITHER WRITES TO A LINK NOR QUEUES THERE
 
@@ -267,7 +267,8 @@ record Wrote (l n : ℕ) (row : Option Seat) (ss : List Step) : Type 0 where
 
 -- the newest step has these effects more
 bytes_more : (f : Shown → List ℕ) (s : Step) (ss : List Step) (zs : List Shown) → bytes_of f (with_effects zs (s ∷ ss)) ≡ bytes_of f (s ∷ ss) ++ flat_map f zs
-bytes_more f s ss zs = ap (λ bs. bytes_of f ss ++ bs) (flat_map-append f s.effects zs) ∙ sym (append_assoc (bytes_of f ss) (flat_map f s.effects) (flat_map f zs))
+bytes_more f s ss zs =
+    ap (λ bs. bytes_of f ss ++ bs) (flat_map-append f s.effects zs) ∙ sym (append_assoc (bytes_of f ss) (flat_map f s.effects) (flat_map f zs))
 
 joined : (w q : List ℕ) (old now rest more : List (List ℕ)) → w ++ flat old ≡ q → now ++ rest ≡ old ++ more → (w ++ flat now) ++ flat rest ≡ q ++ flat more
 joined w q old now rest more h e =
@@ -312,8 +313,8 @@ over_on l n row ss k = record {
   left = k.left;
   whole = k.whole;
   placed = k.placed;
-  live_left = λ seat h. absurd (no_some h);
-  live_places = λ seat h. absurd (no_some h);
+  live_left = λ seat h. absurd (none_some h);
+  live_places = λ seat h. absurd (none_some h);
   unborn = λ lt. refl;
   no_left = k.no_left;
   no_places = k.no_places;
@@ -366,7 +367,7 @@ got_row l n now (Some r) ss k = record {
   placed = k.placed;
   live_left = λ seat h. k.live_left r refl ∙ ap (λ (s : Seat). s.seen.unwritten) (some_is h);
   live_places = λ seat h. k.live_places r refl ∙ ap (λ (s : Seat). s.seen.waits.queued) (some_is h);
-  unborn = λ lt. absurd (no_some (sym (k.unborn lt)));
+  unborn = λ lt. absurd (none_some (sym (k.unborn lt)));
   no_left = k.no_left;
   no_places = k.no_places;
 }
@@ -407,7 +408,8 @@ numbered_shows l m (f ∷ fs) =
     }
 
 -- what it writes, and behind that the frames that it queues
-shows_both : (l m : ℕ) (xs ys : List Shown) (ws fs : List (List ℕ)) → flat_map (written_on l) xs ≡ flat ws → filter (is_queue l) xs ≡ [] → ys ≡ numbered l m fs →
+shows_both : (l m : ℕ) (xs ys : List Shown) (ws fs : List (List ℕ)) → flat_map (written_on l) xs ≡ flat ws → filter (is_queue l) xs ≡ [] →
+    ys ≡ numbered l m fs →
     Shows l m (xs ++ ys) ws fs
 shows_both l m xs ys ws fs writes none is =
     let r : Shows l m (numbered l m fs) [] fs = numbered_shows l m fs in
@@ -426,7 +428,7 @@ no_queue l (b ∷ bytes) = refl
 
 module _ (l n : ℕ) (seat : Seat) (s : Step) (ss : List Step) (k : Wrote l n (Some seat) (s ∷ ss)) where
   born : {X : Type 0} → nat_lt l n ≡ false → X
-  born {X} lt = absurd (no_some (sym (k.unborn lt)))
+  born {X} lt = absurd (none_some (sym (k.unborn lt)))
 
   -- a call that writes some frames, and queues some
   call_on : (act : Act') (later : Seat) (zs : List Shown) → later.seen ≡ session.after act seat.seen →
@@ -435,7 +437,8 @@ module _ (l n : ℕ) (seat : Seat) (s : Step) (ss : List Step) (k : Wrote l n (S
   call_on act later zs is t shows =
       let v : Seen = seat.seen in
       let w : Seen = session.after act v in
-      let from : Shows l k.places zs (written_in act v) (queued_in act v) = subst (λ m. Shows l m zs (written_in act v) (queued_in act v)) (sym (k.live_places seat refl)) shows in
+      let from : Shows l k.places zs (written_in act v) (queued_in act v) = subst (λ m. Shows l m zs (written_in act v) (queued_in act v))
+      (sym (k.live_places seat refl)) shows in
       record {
         places = k.places + length (queued_in act v);
         left = w.unwritten;
@@ -462,29 +465,35 @@ module _ (l n : ℕ) (seat : Seat) (s : Step) (ss : List Step) (k : Wrote l n (S
     took_on link.Opens now =
         let t = call_turns start calls seat (Opens now) m refl in
         call_on (Opens now) _ (links.effects l link.Opens now seat.seen) refl t
-        (shows_both l seat.seen.waits.queued [] (queues l seat.seen (session.after (Opens now) seat.seen)) [] (queued_in (Opens now) seat.seen) refl refl (t.shown l))
+        (shows_both l seat.seen.waits.queued [] (queues l seat.seen (session.after (Opens now) seat.seen)) [] (queued_in (Opens now) seat.seen) refl refl
+        (t.shown l))
     took_on link.Reads now =
         let t = call_turns start calls seat (Takes now) m refl in
         let xs : List Shown = map (settles l settlement.Reply) (settled_in (came seat.seen)) in
         let r : Shows l 0 xs [] [] = mute_shows l 0 xs (mute_settles l (settles l settlement.Reply) (settled_in (came seat.seen)) (λ p. (refl, refl))) in
         call_on (Takes now) _ (links.effects l link.Reads now seat.seen) refl t
-        (shows_both l seat.seen.waits.queued xs (queues l seat.seen (session.after (Takes now) seat.seen)) [] (queued_in (Takes now) seat.seen) r.writes r.queued (t.shown l))
+        (shows_both l seat.seen.waits.queued xs (queues l seat.seen (session.after (Takes now) seat.seen)) [] (queued_in (Takes now) seat.seen) r.writes
+        r.queued (t.shown l))
     took_on (link.Drains most) now =
         let t = call_turns start calls seat (Drains most now) m refl in
         call_on (Drains most now) _ (links.effects l (link.Drains most) now seat.seen) refl t
-        (shows_both l seat.seen.waits.queued (write l (flat (written most seat.seen))) (queues l seat.seen (session.after (Drains most now) seat.seen)) (written most seat.seen)
+        (shows_both l seat.seen.waits.queued (write l (flat (written most seat.seen))) (queues l seat.seen (session.after (Drains most now) seat.seen))
+        (written most seat.seen)
         (queued_in (Drains most now) seat.seen) (own_write l (flat (written most seat.seen))) (no_queue l (flat (written most seat.seen))) (t.shown l))
     took_on link.Pings now =
         let t = call_turns start calls seat (Asks now SendPing) m refl in
         call_on (Asks now SendPing) _ (links.effects l link.Pings now seat.seen) refl t
-        (shows_both l seat.seen.waits.queued [] (queues l seat.seen (session.after (Asks now SendPing) seat.seen)) [] (queued_in (Asks now SendPing) seat.seen) refl refl (t.shown l))
+        (shows_both l seat.seen.waits.queued [] (queues l seat.seen (session.after (Asks now SendPing) seat.seen)) []
+        (queued_in (Asks now SendPing) seat.seen) refl refl (t.shown l))
     took_on (link.Ends end) now = ended_on end now (closed_by end now seat.seen)
 
-    asked_on : (who : Who) (now : ℕ) (request : Words) → Wrote l n (Some (seat_asked who now request seat)) (with_effects (asked_at l now request (Some seat)) (s ∷ ss))
+    asked_on : (who : Who) (now : ℕ) (request : Words) →
+        Wrote l n (Some (seat_asked who now request seat)) (with_effects (asked_at l now request (Some seat)) (s ∷ ss))
     asked_on who now request =
         let t = call_turns start calls seat (Asks now request) m refl in
         call_on (Asks now request) (seat_asked who now request seat) (asked_at l now request (Some seat)) refl t
-        (shows_both l seat.seen.waits.queued [] (queues l seat.seen (session.after (Asks now request) seat.seen)) [] (queued_in (Asks now request) seat.seen) refl refl (t.shown l))
+        (shows_both l seat.seen.waits.queued [] (queues l seat.seen (session.after (Asks now request) seat.seen)) [] (queued_in (Asks now request) seat.seen)
+        refl refl (t.shown l))
 
 -- so of a row
 module _ (l n : ℕ) (start : Option Setup) (calls : List Act') (s : Step) (ss : List Step) where
@@ -493,7 +502,8 @@ module _ (l n : ℕ) (start : Option Setup) (calls : List Act') (s : Step) (ss :
   this_link x now None m k = quiet_on l n None s ss k [] tt
   this_link x now (Some seat) m k = took_on l n seat s ss k start calls (m seat refl) x now
 
-  this_asked : (who : Who) (now : ℕ) (request : Words) (row : Option Seat) → ((seat : Seat) → row ≡ Some seat → Made start calls seat.seen) → Wrote l n row (s ∷ ss) →
+  this_asked : (who : Who) (now : ℕ) (request : Words) (row : Option Seat) → ((seat : Seat) → row ≡ Some seat → Made start calls seat.seen) →
+      Wrote l n row (s ∷ ss) →
       Wrote l n (option_map (seat_asked who now request) row) (with_effects (asked_at l now request row) (s ∷ ss))
   this_asked who now request None m k = quiet_on l n None s ss k [] tt
   this_asked who now request (Some seat) m k = asked_on l n seat s ss k start calls (m seat refl) who now request
@@ -530,7 +540,8 @@ module _ (o : Options) (log : List Entry) (w : Writes o log) (k : InAStep o log)
   before : (l : ℕ) → Wrote l n (row l) (k.newest ∷ k.older)
   before l = subst (Wrote l n (row l)) k.done (w l)
 
-  back : (l m : ℕ) (r : Option Seat) (zs : List Shown) → Wrote l m r (with_effects zs (k.newest ∷ k.older)) → Wrote l m r (with_effects zs (steps_done rules o log))
+  back : (l m : ℕ) (r : Option Seat) (zs : List Shown) → Wrote l m r (with_effects zs (k.newest ∷ k.older)) →
+      Wrote l m r (with_effects zs (steps_done rules o log))
   back l m r zs p = subst (λ ss. Wrote l m r (with_effects zs ss)) (sym k.done) p
 
   mute_on : (l : ℕ) (zs : List Shown) → Mute l zs → Wrote l n (row l) (with_effects zs (steps_done rules o log))
@@ -542,24 +553,33 @@ module _ (o : Options) (log : List Entry) (w : Writes o log) (k : InAStep o log)
       let more : List Shown = retries_on (view o log).chosen (turned (view o log) (Comes (ToLink m x))) in
       let plain : ArePlain more = turned_plain (view o log).chosen (turned (view o log) (Comes (ToLink m x))) in
       elim (cases_Bool (l == m)) [
-        | inl e ↦ subst (λ b. Wrote l n (cond b (took_some x now (row l)) (row l)) (with_effects (given_at m x now (row m) ++ more) (steps_done rules o log))) (sym e)
+        | inl e ↦ subst (λ b. Wrote l n (cond b (took_some x now (row l)) (row l)) (with_effects (given_at m x now (row m) ++ more) (steps_done rules o log)))
+            (sym e)
             (subst (λ j. Wrote l n (took_some x now (row l)) (with_effects (given_at j x now (row j) ++ more) (steps_done rules o log))) (eqb-true l m e)
             (back l n (took_some x now (row l)) (given_at l x now (row l) ++ more)
             (quiet_more l n (took_some x now (row l)) k.newest k.older (given_at l x now (row l)) more plain
             (this_link l n _ _ k.newest k.older x now (row l) (alone o log l) (before l)))))
-        | inr e ↦ subst (λ b. Wrote l n (cond b (took_some x now (row l)) (row l)) (with_effects (given_at m x now (row m) ++ more) (steps_done rules o log))) (sym e)
+        | inr e ↦ subst (λ b. Wrote l n (cond b (took_some x now (row l)) (row l)) (with_effects (given_at m x now (row m) ++ more) (steps_done rules o log)))
+            (sym e)
             (mute_on l (given_at m x now (row m) ++ more)
-            (each_append (IsMute l) (given_at m x now (row m)) more (mute_of l m (given_at m x now (row m)) e (given_of m x now (row m))) (mute_plain l more plain)))
+            (each_append (IsMute l) (given_at m x now (row m)) more (mute_of l m (given_at m x now (row m)) e (given_of m x now (row m)))
+            (mute_plain l more plain)))
       ]
 
   asks_on : (who : Who) (m : ℕ) (request : Words) → Writes o (Then (Does who (Ask m request)) ∷ log)
   asks_on who m request l =
       let now : ℕ = (view o log).now in
       elim (cases_Bool (l == m)) [
-        | inl e ↦ subst (λ b. Wrote l n (cond b (option_map (seat_asked who now request) (row l)) (row l)) (with_effects (asked_at m now request (row m)) (steps_done rules o log))) (sym e)
-            (subst (λ j. Wrote l n (option_map (seat_asked who now request) (row l)) (with_effects (asked_at j now request (row j)) (steps_done rules o log))) (eqb-true l m e)
-            (back l n (option_map (seat_asked who now request) (row l)) (asked_at l now request (row l)) (this_asked l n _ _ k.newest k.older who now request (row l) (alone o log l) (before l))))
-        | inr e ↦ subst (λ b. Wrote l n (cond b (option_map (seat_asked who now request) (row l)) (row l)) (with_effects (asked_at m now request (row m)) (steps_done rules o log))) (sym e)
+        | inl e ↦ subst
+            (λ b. Wrote l n (cond b (option_map (seat_asked who now request) (row l)) (row l))
+            (with_effects (asked_at m now request (row m)) (steps_done rules o log))) (sym e)
+            (subst (λ j. Wrote l n (option_map (seat_asked who now request) (row l)) (with_effects (asked_at j now request (row j)) (steps_done rules o log)))
+            (eqb-true l m e)
+            (back l n (option_map (seat_asked who now request) (row l)) (asked_at l now request (row l))
+            (this_asked l n _ _ k.newest k.older who now request (row l) (alone o log l) (before l))))
+        | inr e ↦ subst
+            (λ b. Wrote l n (cond b (option_map (seat_asked who now request) (row l)) (row l))
+            (with_effects (asked_at m now request (row m)) (steps_done rules o log))) (sym e)
             (mute_on l (asked_at m now request (row m)) (mute_of l m (asked_at m now request (row m)) e (asked_of m now request (row m))))
       ]
 
@@ -572,7 +592,8 @@ module _ (o : Options) (log : List Entry) (w : Writes o log) (k : InAStep o log)
       let v : View = view o log in
       let zs : List Shown = connects n p in
       let new : Option Seat = Some (dialed v.chosen n v.now p) in
-      let done : Wrote l n (row l) (with_effects zs (steps_done rules o log)) = mute_on l zs (mute_plain l zs (effects_plain v (Dials p starter retries) refl)) in
+      let done : Wrote l n (row l) (with_effects zs (steps_done rules o log)) = mute_on l zs (mute_plain l zs (effects_plain v (Dials p starter retries) refl))
+      in
       elim (cases_Bool (l == n)) [
         | inl e ↦ subst (λ b. Wrote l (n + 1) (cond b new (row l)) (with_effects zs (steps_done rules o log))) (sym e)
             (fresh_link l n v.chosen v.now p (row l) (with_effects zs (steps_done rules o log)) e done)
@@ -582,7 +603,8 @@ module _ (o : Options) (log : List Entry) (w : Writes o log) (k : InAStep o log)
 
 -- an event begins a step, and feeds a piece
 begun_on : (l n : ℕ) (row later : Option Seat) (e : Heard) (ss : List Step) →
-    ((seat : Seat) → later ≡ Some seat → (old : Seat) × (row ≡ Some old) × (old.seen.unwritten ≡ seat.seen.unwritten) × (old.seen.waits.queued ≡ seat.seen.waits.queued)) →
+    ((seat : Seat) → later ≡ Some seat →
+    (old : Seat) × (row ≡ Some old) × (old.seen.unwritten ≡ seat.seen.unwritten) × (old.seen.waits.queued ≡ seat.seen.waits.queued)) →
     (row ≡ None → later ≡ None) → Wrote l n row ss → Wrote l n later (record { event = e; effects = [] } ∷ ss)
 begun_on l n row later e ss was none k = record {
   places = k.places;
@@ -597,21 +619,30 @@ begun_on l n row later e ss was none k = record {
 }
 
 fed_unwritten : (piece : List ℕ) (s : Seen) → s.unwritten ≡ (session.feeds piece s).unwritten
-fed_unwritten piece s = elim (is_open s.stage) as (λ b. s.unwritten ≡ (cond b (record s { unread = s.unread ++ piece }) s).unwritten) [ true ↦ refl | false ↦ refl ]
+fed_unwritten piece s =
+    elim (is_open s.stage) as (λ b. s.unwritten ≡ (cond b (record s { unread = s.unread ++ piece }) s).unwritten) [ true ↦ refl | false ↦ refl ]
 
 fed_queued : (piece : List ℕ) (s : Seen) → s.waits.queued ≡ (session.feeds piece s).waits.queued
-fed_queued piece s = elim (is_open s.stage) as (λ b. s.waits.queued ≡ (cond b (record s { unread = s.unread ++ piece }) s).waits.queued) [ true ↦ refl | false ↦ refl ]
+fed_queued piece s =
+    elim (is_open s.stage) as (λ b. s.waits.queued ≡ (cond b (record s { unread = s.unread ++ piece }) s).waits.queued) [ true ↦ refl | false ↦ refl ]
 
 same_begun : (l n : ℕ) (row : Option Seat) (e : Heard) (ss : List Step) → Wrote l n row ss → Wrote l n row (record { event = e; effects = [] } ∷ ss)
 same_begun l n row e ss k = begun_on l n row row e ss (λ seat h. (seat, h, refl, refl)) (λ h. h) k
 
-fed_begun : (l n : ℕ) (piece : List ℕ) (row : Option Seat) (e : Heard) (ss : List Step) → Wrote l n row ss → Wrote l n (option_map (seat_fed piece) row) (record { event = e; effects = [] } ∷ ss)
+fed_begun : (l n : ℕ) (piece : List ℕ) (row : Option Seat) (e : Heard) (ss : List Step) → Wrote l n row ss →
+    Wrote l n (option_map (seat_fed piece) row) (record { event = e; effects = [] } ∷ ss)
 fed_begun l n piece None e ss k = same_begun l n None e ss k
 fed_begun l n piece (Some r) e ss k = begun_on l n (Some r) (Some (seat_fed piece r)) e ss
-    (λ seat h. (r, refl, fed_unwritten piece r.seen ∙ ap (λ (s : Seat). s.seen.unwritten) (some_is h), fed_queued piece r.seen ∙ ap (λ (s : Seat). s.seen.waits.queued) (some_is h)))
-    (λ h. absurd (no_some (sym h))) k
+    (λ seat h. (
+      r,
+      refl,
+      fed_unwritten piece r.seen ∙ ap (λ (s : Seat). s.seen.unwritten) (some_is h),
+      fed_queued piece r.seen ∙ ap (λ (s : Seat). s.seen.waits.queued) (some_is h),
+    ))
+    (λ h. absurd (none_some (sym h))) k
 
-live_on : (l n : ℕ) (row : Option Seat) (e : Heard) (ss : List Step) → Wrote l n row ss → Wrote l n (live_begun e l row) (record { event = e; effects = [] } ∷ ss)
+live_on : (l n : ℕ) (row : Option Seat) (e : Heard) (ss : List Step) → Wrote l n row ss →
+    Wrote l n (live_begun e l row) (record { event = e; effects = [] } ∷ ss)
 live_on l n row (Bytes m piece) ss k =
     elim (l == m) as (λ b. Wrote l n (cond b (option_map (seat_fed piece) row) row) (record { event = Bytes m piece; effects = [] } ∷ ss))
     [ true ↦ fed_begun l n piece row (Bytes m piece) ss k | false ↦ same_begun l n row (Bytes m piece) ss k ]
@@ -620,7 +651,9 @@ live_on l n row e ss k = same_begun l n row e ss k
 begins_on : (o : Options) (log : List Entry) (e : Heard) → Writes o log → Writes o (Begins e ∷ log)
 begins_on o log e w l =
     let v : View = view o log in
-    elim (is_live v e) as (λ b. Wrote l (cond b (begun_live e v) v).links.started ((cond b (begun_live e v) v).links.live l) (record { event = e; effects = [] } ∷ steps_done rules o log)) [
+    elim (is_live v e) as
+    (λ b. Wrote l (cond b (begun_live e v) v).links.started ((cond b (begun_live e v) v).links.live l)
+    (record { event = e; effects = [] } ∷ steps_done rules o log)) [
       | true ↦ live_on l v.links.started (v.links.live l) e (steps_done rules o log) (w l)
       | false ↦ same_begun l v.links.started (v.links.live l) e (steps_done rules o log) (w l)
     ]
@@ -631,8 +664,8 @@ writes o [] run = λ l. record {
   left = [];
   whole = refl;
   placed = tt;
-  live_left = λ seat h. absurd (no_some h);
-  live_places = λ seat h. absurd (no_some h);
+  live_left = λ seat h. absurd (none_some h);
+  live_places = λ seat h. absurd (none_some h);
   unborn = λ lt. refl;
   no_left = λ lt. refl;
   no_places = λ lt. refl;
@@ -647,10 +680,14 @@ writes o (Then (Does who (Get p)) ∷ log) run = gets_on o log (writes o log run
 writes o (Then (Dials p starter retries) ∷ log) run =
     dials_on o log (writes o log run.0) (in_a_step o (Dials p starter retries) log run) p starter retries
 writes o (Then a ∷ log) run =
-    λ l. mute_on o log (writes o log run.0) (in_a_step o a log run) l (effects (view o log) a) (mute_plain l (effects (view o log) a) (effects_plain (view o log) a refl))
+    λ l. mute_on o log (writes o log run.0) (in_a_step o a log run) l (effects (view o log) a)
+    (mute_plain l (effects (view o log) a) (effects_plain (view o log) a refl))
 
 pub writes_follow_lem : WritesFollow
 writes_follow_lem o h l good =
     let w : Wrote l (view o good.log).links.started ((view o good.log).links.live l) (steps_done rules o good.log) = writes o good.log good.run l in
-    subst (λ ss. IsPrefix (bytes_of (written_on l) ss) (bytes_of (queued_on l) ss)) (sym good.same)
-    (flat w.left, ap (λ bs. bs ++ flat w.left) (written_same l (steps_done rules o good.log)) ∙ w.whole ∙ sym (queued_same l w.places (steps_done rules o good.log) w.placed))
+    subst (λ ss. IsPrefix (bytes_of (written_on l) ss) (bytes_of (queued_on l) ss)) (sym good.same) (
+      flat w.left,
+      ap (λ bs. bs ++ flat w.left) (written_same l (steps_done rules o good.log)) ∙ w.whole
+          ∙ sym (queued_same l w.places (steps_done rules o good.log) w.placed),
+    )

@@ -2,8 +2,8 @@
 use Rattle.std.specs.Prelude.{◌≡◌, ◌⊎◌, ℕ, ◌+◌, ◌-◌, ◌^◌, ◌≤◌, ◌==◌, bytes_eq, ◌&&◌, ◌||◌, not, Bool, true, false, if◌then◌else◌, List, [], ◌∷◌, ◌++◌, Option, Some, None}
 use Rattle.pulsar_run.specs.Laws.{InThisStep}
 use Rattle.pulsar_session.specs.Link.{Act as Act', ends}
-use Rattle.pulsar_plans.specs.Address.{Place, address_key, is_reachable}
-use Rattle.pulsar_tables.specs.Alarms.{rings}
+use Rattle.pulsar_addresses.specs.Address.{Place, address_key, is_reachable}
+use Rattle.pulsar_links.specs.Alarms.{rings}
 use Rattle.pulsar_calls.specs.declared.act.Act.TheVariants.{Comes, Does, Dials}
 use Rattle.pulsar_calls.specs.declared.act.Action.TheVariants.{Get, StopAll}
 use Rattle.pulsar_calls.specs.declared.act.Alarm.TheVariants.{Retry, KeepAlive, CheckIdle}
@@ -11,15 +11,17 @@ use Rattle.pulsar_calls.specs.declared.act.End.TheVariants.{Idles}
 use Rattle.pulsar_calls.specs.declared.act.LinkAct.TheVariants.{Pings, Ends}
 use Rattle.pulsar_calls.specs.declared.act.Part.TheVariants.{ToLink, Rings}
 use Rattle.pulsar_calls.specs.declared.act.Who.{Who}
-use Rattle.pulsar_tables.specs.declared.addresses.Pause.{Pause}
-use Rattle.pulsar_tables.specs.declared.addresses.Series.{Series}
-use Rattle.pulsar_tables.specs.declared.addresses.Series.TheVariants.{Nobody, Runs, Pauses, Serves}
-use Rattle.pulsar_tables.specs.Links.{Change, Remains, Becomes, IsOver}
-use Rattle.pulsar_procedures.specs.Plan.{begins}
-use Rattle.pulsar_tables.specs.Rules.{is_idle}
-use Rattle.pulsar_agenda.specs.Run.{Entry, Then, IsRun, view}
-use Rattle.pulsar_tables.specs.View.{Options, Seat, Turned, turned, waits_on}
-use Rattle.pulsar_tables.specs.Links as links
+use Rattle.pulsar_links.specs.declared.addresses.Pause.{Pause}
+use Rattle.pulsar_links.specs.declared.addresses.Series.{Series}
+use Rattle.pulsar_links.specs.declared.addresses.Series.TheVariants.{Nobody, Runs, Pauses, Serves}
+use Rattle.pulsar_links.specs.Links.{Change, Remains, Becomes, IsOver}
+use Rattle.pulsar_plans.specs.Plan.{begins}
+use Rattle.pulsar_acts.specs.Rules.{is_idle}
+use Rattle.pulsar_acts.specs.Run.{Entry, Then, IsRun, view}
+use Rattle.pulsar_acts.specs.View.{Turned, turned, waits_on}
+use Rattle.pulsar_machine.specs.Options.{Options}
+use Rattle.pulsar_links.specs.Seats.{Seat}
+use Rattle.pulsar_links.specs.Links as links
 use Rattle.pulsar_laws.specs.Laws.{base_of, started, stopped}
 
 -- what runs for an address, by the newest of these: an attempt began, a link of it became ready, a link of it ended, the client was stopped

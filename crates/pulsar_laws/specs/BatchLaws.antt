@@ -7,21 +7,21 @@ use Rattle.pulsar_wire.specs.Rows.{send_receipt}
 use Rattle.pulsar_wire.specs.declared.key.RequestKey.TheVariants as key
 use Rattle.pulsar_messages.specs.Content.{ProducerMessageValues}
 use Rattle.pulsar_messages.specs.Words as words
-use Rattle.pulsar_plans.specs.declared.turn.Ways.{Ways}
-use Rattle.pulsar_session.specs.Failures.{Failure, Shutdown}
+use Rattle.pulsar_searches.specs.declared.turn.Ways.{Ways}
+use Rattle.pulsar_wire.specs.Failures.{Failure, Shutdown}
 use Rattle.pulsar_wire.specs.declared.error.Reason.{Reason}
-use Rattle.pulsar_link.specs.Messages.{Reply, is_body}
-use Rattle.pulsar_producer.specs.Batch.{batch_of, cut_report, entries_in, entry_of, failed, member_of, not_written, receipt_fate, reports}
+use Rattle.pulsar_exchange.specs.Messages.{Reply, is_body}
+use Rattle.pulsar_outgoing.specs.Batch.{batch_of, cut_report, entries_in, entry_of, failed, member_of, not_written, receipt_fate, reports}
 use Rattle.pulsar_producer.specs.BatchLaws.{items_of, joined, taken_of}
-use Rattle.pulsar_producer.specs.Message.{with_version}
-use Rattle.pulsar_producer.specs.Storage.{Item, Flush}
+use Rattle.pulsar_messages.specs.Message.{with_version}
+use Rattle.pulsar_outgoing.specs.Storage.{Item, Flush}
 use Rattle.pulsar_producer.specs.Topic.{Setup, seen}
-use Rattle.pulsar_producer.specs.declared.batch.Fate.{Fate}
-use Rattle.pulsar_producer.specs.declared.batch.Fate.TheVariants as fate
+use Rattle.pulsar_outgoing.specs.declared.batch.Fate.{Fate}
+use Rattle.pulsar_outgoing.specs.declared.batch.Fate.TheVariants as fate
 use Rattle.pulsar_producer.specs.declared.batching.Batching.{Batching}
 use Rattle.pulsar_producer.specs.declared.batching.Batching.TheVariants as batching
-use Rattle.pulsar_producer.specs.declared.deed.News.TheVariants as news
-use Rattle.pulsar_producer.specs.declared.sending.Errand.{Errand}
+use Rattle.pulsar_outgoing.specs.declared.news.News.TheVariants as news
+use Rattle.pulsar_outgoing.specs.declared.orders.Errand.{Errand}
 use Rattle.pulsar_calls.specs.declared.act.Act.TheVariants.{Answers, Comes, Starts, Told, Does}
 use Rattle.pulsar_calls.specs.declared.act.Action.TheVariants.{Ask, Shut, Store, TakeBatch, TellAll}
 use Rattle.pulsar_calls.specs.declared.act.Makes.TheVariants.{Nothing}
@@ -33,17 +33,17 @@ use Rattle.pulsar_calls.specs.declared.act.Share.{Share}
 use Rattle.pulsar_calls.specs.declared.act.Verdict.{Verdict}
 use Rattle.pulsar_calls.specs.declared.act.Who.{Who}
 use Rattle.pulsar_calls.specs.declared.act.Who.TheVariants.{Call, Producer}
-use Rattle.pulsar_procedures.specs.declared.plan.Plan.{Plan}
-use Rattle.pulsar_procedures.specs.declared.plan.Plan.TheVariants as plan
+use Rattle.pulsar_plans.specs.declared.plan.Plan.{Plan}
+use Rattle.pulsar_plans.specs.declared.plan.Plan.TheVariants as plan
 use Rattle.pulsar_producer_table.specs.declared.table.Topic.{Topic}
 use Rattle.pulsar_calls.specs.Content.{Asked, Failed, Receipt, sent_by}
 use Rattle.pulsar_laws.specs.Laws.{AreActs, FailsSo, IsDropped, started}
-use Rattle.pulsar_procedures.specs.Plan.{closed_notice, fails, overrides, told_to, verdict}
+use Rattle.pulsar_plans.specs.Plan.{closed_notice, fails, overrides, told_to, verdict}
 use Rattle.pulsar_laws.specs.ProducerLaws.{acts_on, asks_in, is_queued}
 use Rattle.pulsar_producer_table.specs.Producers.{is_bare, next_batch_at, numbers_at, stored_at}
-use Rattle.pulsar_tables.specs.Rules.{call_part, notice, ready_notice}
-use Rattle.pulsar_agenda.specs.Run.{Entry, Then, IsRun, Rests, view}
-use Rattle.pulsar_tables.specs.View.{Options}
+use Rattle.pulsar_acts.specs.Rules.{call_part, notice, ready_notice}
+use Rattle.pulsar_acts.specs.Run.{Entry, Then, IsRun, Rests, view}
+use Rattle.pulsar_machine.specs.Options.{Options}
 use Rattle.pulsar_calls.specs.Who.{behind_all, is_same}
 
 -- ONE BATCH AFTER THE OTHER

@@ -6,19 +6,19 @@ use Rattle.url.specs.Parts.{Parts}
 use Rattle.pulsar_messages.specs.Words as words
 use Rattle.pulsar_messages.specs.Words.{Words}
 use Rattle.pulsar_run.specs.Laws.{InThisStep}
-use Rattle.pulsar_session.specs.Failures.{Fault}
+use Rattle.pulsar_wire.specs.Failures.{Fault}
 use Rattle.pulsar_session.specs.Link.{Seen as Connection, has_room}
 use Rattle.pulsar_session.specs.declared.states.Asked.{Asked as Placed}
 use Rattle.pulsar_session.specs.declared.states.Asked.TheVariants as placed
-use Rattle.pulsar_link.specs.Items.{Item, Given, Faulty}
-use Rattle.pulsar_link.specs.Messages.{Reply, is_body}
-use Rattle.pulsar_link.specs.Request.{closed_consumer}
+use Rattle.pulsar_frame.specs.Items.{Item, Given, Faulty}
+use Rattle.pulsar_exchange.specs.Messages.{Reply, is_body}
+use Rattle.pulsar_exchange.specs.Request.{closed_consumer}
 use Rattle.pulsar_consumer.specs.Frames.{frame_in}
 use Rattle.pulsar_consumer.specs.Laws.{IsFinished, arrivals, asked_since, begun, items_of, weighed_before, weights}
 use Rattle.pulsar_consumer.specs.Topic as reader
 use Rattle.pulsar_consumer.specs.Topic.{Act as Done, Lives, Hears, Loses, Fails, Ends as Over, Polls as Polled, Asks, Live, Seen, Setup, batch_size, first_of, half, is_ended, link_of, lives_on, of_raw, polled_from}
-use Rattle.pulsar_consumer.specs.declared.polled.Ending.{Ending}
-use Rattle.pulsar_consumer.specs.declared.polled.Ending.TheVariants.{Closed, TopicEnded, Stopped}
+use Rattle.pulsar_incoming.specs.declared.polled.Ending.{Ending}
+use Rattle.pulsar_incoming.specs.declared.polled.Ending.TheVariants.{Closed, TopicEnded, Stopped}
 use Rattle.pulsar_calls.specs.declared.act.Act.{Act}
 use Rattle.pulsar_calls.specs.declared.act.Act.TheVariants.{Comes, Starts, Told, Does, Answers}
 use Rattle.pulsar_calls.specs.declared.act.Action.TheVariants.{Ask, TakeFlow, Revive, FailConsumer, StopAll}
@@ -38,10 +38,14 @@ use Rattle.pulsar_calls.specs.Content.{Asked, Poll, Shown, Hands, Faults}
 use Rattle.pulsar_calls.specs.Who.{is_same, ticket_of}
 use Rattle.pulsar_consumer_table.specs.Consumers as consumer
 use Rattle.pulsar_consumer_table.specs.Consumers.{Member, is_closed_by}
-use Rattle.pulsar_tables.specs.Links.{line_places}
-use Rattle.pulsar_tables.specs.View.{Options, Seat, View, answer_at, arrival_at, closing, is_asked, place_of, setup_of, url_at}
-use Rattle.pulsar_tables.specs.Rules.{call_part, notice}
-use Rattle.pulsar_agenda.specs.Run.{Entry, Begins, Then, IsRun, Rests, Step, agenda, first, steps, view}
+use Rattle.pulsar_links.specs.Links.{line_places}
+use Rattle.pulsar_acts.specs.View.{View, setup_of}
+use Rattle.pulsar_machine.specs.Options.{Options}
+use Rattle.pulsar_links.specs.Seats.{Seat, answer_at, arrival_at, closing, is_asked, place_of, url_at}
+use Rattle.pulsar_acts.specs.Rules.{call_part, notice}
+use Rattle.pulsar_acts.specs.Run.{Entry, Begins, Then, IsRun, Rests, agenda, steps, view}
+use Rattle.pulsar_calls.specs.Steps.{Step}
+use Rattle.pulsar_agenda.specs.Agenda.{first}
 use Rattle.pulsar_laws.specs.Laws.{counted}
 
 -- WHAT IS DONE TO A CONSUMER

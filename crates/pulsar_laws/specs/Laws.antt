@@ -12,19 +12,21 @@ use Rattle.pulsar_messages.specs.Words as words
 use Rattle.pulsar_messages.specs.Words.{Words}
 use Rattle.pulsar_requests.specs.Waits.{later_of}
 use Rattle.pulsar_session.specs.declared.states.Asked.{Asked as Placed}
-use Rattle.pulsar_session.specs.Failures.{ProducerClosed, OfProducer, ConsumerClosed, OfConsumer, DiscoveryConnection, DiscoveryCanceled, DiscoveryFault, DiscoveryNotFound, DiscoveryShutdown, DnsLookup, Dummy, Exhausted, Failure, Fault, OfConnection, OfDiscovery, OfPartialSend, Query, fault, Disconnected}
+use Rattle.pulsar_wire.specs.Failures.{ProducerClosed, OfProducer, ConsumerClosed, OfConsumer, DiscoveryConnection, DiscoveryCanceled, DiscoveryFault, DiscoveryNotFound, DiscoveryShutdown, DnsLookup, Dummy, Exhausted, Failure, Fault, OfConnection, OfDiscovery, OfPartialSend, Query, fault, Disconnected}
 use Rattle.pulsar_session.specs.Laws.{bytes_fed, messages_taken}
-use Rattle.pulsar_session.specs.Link.{Act as Act', Asks, Feeds, Setup, came, due, ends, is_spent}
-use Rattle.pulsar_link.specs.Messages.{Reply, read}
-use Rattle.pulsar_link.specs.Request.{closed_consumer, request_number}
-use Rattle.pulsar_plans.specs.Address.{Place, address_key, is_reachable}
-use Rattle.pulsar_plans.specs.Replies.{in_discovery, query, unexpected, fails_by, is_choice, place_at, count_in}
-use Rattle.pulsar_producer.specs.Errors.{in_producer}
-use Rattle.pulsar_producer.specs.declared.deed.News.{News}
-use Rattle.pulsar_plans.specs.Backoff.{allow_retry}
-use Rattle.pulsar_plans.specs.declared.turn.Ways.{Ways}
-use Rattle.pulsar_session.specs.Reply.{Reply as Content, is_body}
-use Rattle.pulsar_tables.specs.Alarms.{ringing, rings}
+use Rattle.pulsar_session.specs.Link.{Act as Act', Asks, Feeds, Setup, came, due, ends}
+use Rattle.pulsar_messages.specs.Claims.{is_spent}
+use Rattle.pulsar_exchange.specs.Messages.{Reply, read}
+use Rattle.pulsar_exchange.specs.Request.{closed_consumer, request_number}
+use Rattle.pulsar_addresses.specs.Address.{Place, address_key, is_reachable}
+use Rattle.pulsar_searches.specs.Replies.{query, unexpected, fails_by, is_choice, place_at, count_in}
+use Rattle.pulsar_addresses.specs.Address.{in_discovery}
+use Rattle.pulsar_outgoing.specs.Errors.{in_producer}
+use Rattle.pulsar_producer.specs.News.{News}
+use Rattle.pulsar_addresses.specs.Backoff.{allow_retry}
+use Rattle.pulsar_searches.specs.declared.turn.Ways.{Ways}
+use Rattle.pulsar_frame.specs.Reply.{Reply as Content, is_body}
+use Rattle.pulsar_links.specs.Alarms.{ringing, rings}
 use Rattle.pulsar_calls.specs.declared.act.Act.{Act}
 use Rattle.pulsar_calls.specs.declared.act.Act.TheVariants.{Comes, Starts, Told, Does, Answers, Dials}
 use Rattle.pulsar_calls.specs.declared.act.Action.{Action}
@@ -52,37 +54,42 @@ use Rattle.pulsar_calls.specs.declared.act.Who.TheVariants.{Call, Consumer, Prod
 use Rattle.pulsar_calls.specs.declared.act.Word.{Word}
 use Rattle.pulsar_calls.specs.declared.act.Word.TheVariants as word
 use Rattle.pulsar_calls.specs.declared.content.Joining.{Joining}
-use Rattle.pulsar_tables.specs.declared.addresses.Series.TheVariants.{Runs, Serves}
-use Rattle.pulsar_procedures.specs.declared.plan.Plan.{Plan}
-use Rattle.pulsar_procedures.specs.declared.plan.Turn.{Turn}
+use Rattle.pulsar_links.specs.declared.addresses.Series.TheVariants.{Runs, Serves}
+use Rattle.pulsar_plans.specs.declared.plan.Plan.{Plan}
+use Rattle.pulsar_plans.specs.declared.plan.Turn.{Turn}
 use Rattle.pulsar_calls.specs.Content.{Asked, Bytes, Ticked, Said, Shown, Queued, Write, Failed, lacks_tickets, shares}
-use Rattle.pulsar_tables.specs.Effects.{effect_below, is_before3}
-use Rattle.pulsar_tables.specs.Links.{arrival, call_of, closed_by, line_places, new_places}
+use Rattle.pulsar_calls.specs.Order.{effect_below, is_before3}
+use Rattle.pulsar_links.specs.Links.{arrival, call_of, closed_by, line_places, new_places}
 use Rattle.pulsar_calls.specs.Content.{numbers_from}
 use Rattle.pulsar_calls.specs.Parts.{outcomes_of}
 use Rattle.pulsar_producer_table.specs.Producers.{advice, turn_passed, drawn, is_settled_at, is_woken, link_at, next_batch_at, number_drawn, numbers_at, recalled, stored_at, turn_taken, unsent_at, waiting_at}
 use Rattle.pulsar_producer.specs.Topic as topic
-use Rattle.pulsar_procedures.specs.Plan.{begins, failure_of, fails, fault_of, reply_says, told}
-use Rattle.pulsar_tables.specs.Rules.{below, call_part, dropped, fails_so, lost, notice, starts, stopped_with, brings}
-use Rattle.pulsar_agenda.specs.Run.{Entry, Begins, Then, Good, IsRun, Rests, Step, agenda, rules, steps, tickets_in, view}
+use Rattle.pulsar_plans.specs.Plan.{begins, failure_of, fails, fault_of, reply_says, told}
+use Rattle.pulsar_acts.specs.Rules.{call_part, notice, starts, stopped_with, brings}
+use Rattle.pulsar_links.specs.LinkRules.{dropped, fails_so, lost}
+use Rattle.pulsar_calls.specs.Order.{below}
+use Rattle.pulsar_acts.specs.Run.{Entry, Begins, Then, Good, IsRun, Rests, agenda, rules, steps, tickets_in, view}
+use Rattle.pulsar_calls.specs.Steps.{Step}
 use Rattle.pulsar_consumer_table.specs.Consumers as consumer
 use Rattle.pulsar_consumer_table.specs.Consumers.{Member}
 use Rattle.pulsar_consumer_table.specs.declared.numbers.Numbering.TheVariants.{Has, InUse, Spent}
 use Rattle.pulsar_consumer_table.specs.declared.row.Sought.TheVariants.{Gone}
 use Rattle.pulsar_consumer.specs.Plans.{in_use, not_found}
-use Rattle.pulsar_consumer.specs.declared.building.Order.{Order}
+use Rattle.pulsar_incoming.specs.declared.orders.Order.{Order}
 use Rattle.pulsar_consumer.specs.Topic as reader
-use Rattle.pulsar_tables.specs.View.{Base, Options, Seat, View, answer_at, arrival_at, builds, closing, is_asked, member_on, pause_of, setup, setup_of, url_at, room_of}
+use Rattle.pulsar_acts.specs.View.{View, builds, member_on, pause_of, setup, setup_of, room_of}
+use Rattle.pulsar_machine.specs.Options.{Options}
+use Rattle.pulsar_links.specs.Seats.{Base, Seat, answer_at, arrival_at, closing, is_asked, url_at}
 use Rattle.pulsar_calls.specs.Who.{in_turn, is_same, rank, ticket_of, turn_of as taken_as}
 use Rattle.pulsar_run.specs.Laws as run
 use Rattle.pulsar_session.specs.declared.states.Asked.TheVariants as placed
 use Rattle.pulsar_session.specs.Link as session
-use Rattle.pulsar_producer.specs.declared.deed.News.TheVariants as news
+use Rattle.pulsar_outgoing.specs.declared.news.News.TheVariants as news
 use Rattle.pulsar_calls.specs.declared.act.Outcome.TheVariants as outcome
 use Rattle.pulsar_calls.specs.declared.act.Procedure.TheVariants as procedure
-use Rattle.pulsar_procedures.specs.declared.plan.Turn.TheVariants as turn
-use Rattle.pulsar_tables.specs.Links as links
-use Rattle.pulsar_plans.specs.declared.replies.Heard.TheVariants.{Says as CountIs}
+use Rattle.pulsar_plans.specs.declared.plan.Turn.TheVariants as turn
+use Rattle.pulsar_links.specs.Links as links
+use Rattle.pulsar_searches.specs.declared.replies.Heard.TheVariants.{Says as CountIs}
 
 -- THE RUN
 

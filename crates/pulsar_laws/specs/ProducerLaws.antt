@@ -16,29 +16,29 @@ use Rattle.pulsar_messages.specs.Content.{ProducerMessageValues}
 use Rattle.pulsar_messages.specs.Messages.{metadata_of}
 use Rattle.pulsar_messages.specs.Words as words
 use Rattle.pulsar_messages.specs.Words.{Words}
-use Rattle.pulsar_session.specs.Failures.{Failure, OfConnection, Shutdown}
+use Rattle.pulsar_wire.specs.Failures.{Failure, OfConnection, Shutdown}
 use Rattle.pulsar_session.specs.declared.states.Asked.TheVariants as placed
 use Rattle.pulsar_session.specs.Link as session
 use Rattle.pulsar_session.specs.Link.{Asks, frame_at, frame_for, message_of, ticked}
-use Rattle.pulsar_link.specs.Messages.{Reply, is_body}
-use Rattle.pulsar_producer.specs.Message.{with_version}
+use Rattle.pulsar_exchange.specs.Messages.{Reply, is_body}
+use Rattle.pulsar_messages.specs.Message.{with_version}
 use Rattle.pulsar_producer.specs.Laws.{AreAbove}
 use Rattle.pulsar_producer.specs.Topic as topic
 use Rattle.pulsar_producer.specs.Topic.{Act as TopicAct}
-use Rattle.pulsar_producer.specs.declared.content.Built.{Built}
-use Rattle.pulsar_producer.specs.declared.storage.Limits.{Limits}
-use Rattle.pulsar_producer.specs.declared.deed.News.TheVariants as news
-use Rattle.pulsar_producer.specs.declared.sending.Errand.{Errand}
+use Rattle.pulsar_outgoing.specs.declared.content.Built.{Built}
+use Rattle.pulsar_outgoing.specs.declared.storage.Limits.{Limits}
+use Rattle.pulsar_outgoing.specs.declared.news.News.TheVariants as news
+use Rattle.pulsar_outgoing.specs.declared.orders.Errand.{Errand}
 use Rattle.pulsar_producer.specs.declared.sending.Sending.{Sending}
 use Rattle.pulsar_producer.specs.declared.sending.Sending.TheVariants as send
 use Rattle.pulsar_producer.specs.declared.batching.Batching.{Batching}
 use Rattle.pulsar_producer.specs.declared.batching.Batching.TheVariants as batching
-use Rattle.pulsar_plans.specs.declared.turn.Ways.{Ways}
+use Rattle.pulsar_searches.specs.declared.turn.Ways.{Ways}
 use Rattle.pulsar_calls.specs.declared.act.Act.{Act}
 use Rattle.pulsar_calls.specs.declared.act.Act.TheVariants.{Comes, Told, Does}
 use Rattle.pulsar_calls.specs.declared.act.Alarm.TheVariants.{Batch}
 use Rattle.pulsar_calls.specs.declared.act.Part.TheVariants.{Rings}
-use Rattle.pulsar_tables.specs.Alarms.{rings}
+use Rattle.pulsar_links.specs.Alarms.{rings}
 use Rattle.pulsar_calls.specs.declared.act.Action.TheVariants.{Ask, TakeTurn, PassTurn, Draw, Remake, Shut, Store, Flush, TakeBatch, StopAll}
 use Rattle.pulsar_calls.specs.declared.act.Makes.TheVariants as makes
 use Rattle.pulsar_calls.specs.declared.act.Share.{Share}
@@ -47,19 +47,21 @@ use Rattle.pulsar_calls.specs.declared.act.Outcome.TheVariants as outcome
 use Rattle.pulsar_calls.specs.declared.act.Procedure.TheVariants as procedure
 use Rattle.pulsar_calls.specs.declared.act.Who.{Who}
 use Rattle.pulsar_calls.specs.declared.act.Who.TheVariants.{Call}
-use Rattle.pulsar_procedures.specs.declared.plan.At.{At}
-use Rattle.pulsar_procedures.specs.declared.plan.At.TheVariants as at
-use Rattle.pulsar_procedures.specs.declared.plan.Plan.{Plan}
-use Rattle.pulsar_procedures.specs.declared.plan.Plan.TheVariants as plan
+use Rattle.pulsar_plans.specs.declared.plan.At.{At}
+use Rattle.pulsar_plans.specs.declared.plan.At.TheVariants as at
+use Rattle.pulsar_plans.specs.declared.plan.Plan.{Plan}
+use Rattle.pulsar_plans.specs.declared.plan.Plan.TheVariants as plan
 use Rattle.pulsar_producer_table.specs.declared.table.Topic.{Topic}
 use Rattle.pulsar_calls.specs.Content.{Said, Failed}
-use Rattle.pulsar_tables.specs.Links as links
+use Rattle.pulsar_links.specs.Links as links
 use Rattle.pulsar_calls.specs.Parts.{sent_from}
 use Rattle.pulsar_producer_table.specs.Producers.{number_drawn, numbers_at}
-use Rattle.pulsar_procedures.specs.Plan.{told}
-use Rattle.pulsar_tables.specs.Rules.{joins, notice}
-use Rattle.pulsar_agenda.specs.Run.{Entry, Begins, Then, IsRun, Rests, view}
-use Rattle.pulsar_tables.specs.View.{Options, Seat, View, answer_at, room_of}
+use Rattle.pulsar_plans.specs.Plan.{told}
+use Rattle.pulsar_acts.specs.Rules.{joins, notice}
+use Rattle.pulsar_acts.specs.Run.{Entry, Begins, Then, IsRun, Rests, view}
+use Rattle.pulsar_acts.specs.View.{View, room_of}
+use Rattle.pulsar_machine.specs.Options.{Options}
+use Rattle.pulsar_links.specs.Seats.{Seat, answer_at}
 use Rattle.pulsar_calls.specs.Who.{in_turn, is_same, turn_of as taken_as}
 use Rattle.pulsar_laws.specs.Laws.{started, outcomes, deeds, Answered}
 

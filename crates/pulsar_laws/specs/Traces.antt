@@ -1,8 +1,8 @@
 -- Eleven small runs, by their histories, oldest step first. Each is good.
 use Rattle.std.specs.Prelude.{◌≡◌, ℕ, true, false, List, [], ◌∷◌, ◌++◌, reverse, codes, Some, None}
 use Rattle.url.specs.declared.host.Host.TheVariants.{Domain}
-use Rattle.pulsar_plans.specs.Address.{Place}
-use Rattle.pulsar_plans.specs.Backoff.{default_connection_retry, default_operation_retry}
+use Rattle.pulsar_addresses.specs.Address.{Place}
+use Rattle.pulsar_addresses.specs.Backoff.{default_connection_retry, default_operation_retry}
 use Rattle.pulsar_wire.specs.declared.error.IoKind.TheVariants.{ConnectionRefused, Other, TimedOut}
 use Rattle.pulsar_wire.specs.declared.commands.topics.Mode.TheVariants as modes
 use Rattle.pulsar_wire.specs.declared.commands.enumerations.SubType.TheVariants.{Exclusive}
@@ -10,15 +10,16 @@ use Rattle.pulsar_frame.specs.Frame.{frame_bytes}
 use Rattle.pulsar_messages.specs.Content.{ProducerMessageValues, empty_consumer_options, empty_message, empty_producer_options}
 use Rattle.pulsar_messages.specs.Messages.{connect_command}
 use Rattle.pulsar_messages.specs.Words.{Words, GetTopicsOfNamespace, LookupTopic, Subscribe}
-use Rattle.pulsar_producer.specs.Wanted.{ProducerWanted}
-use Rattle.pulsar_session.specs.Failures.{Io, Canceled, Disconnected, Shutdown}
+use Rattle.pulsar_outgoing.specs.Wanted.{ProducerWanted}
+use Rattle.pulsar_wire.specs.Failures.{Io, Canceled, Disconnected, Shutdown}
 use Rattle.pulsar_session.specs.Link.{bare, message_of}
-use Rattle.pulsar_tables.specs.Address.{base_in}
+use Rattle.pulsar_addresses.specs.Address.{base_in}
 use Rattle.pulsar_calls.specs.declared.effect.Settlement.TheVariants as settlement
 use Rattle.pulsar_calls.specs.Content.{Heard, Called, Build, Stop, Topics, Lookup, Producer, Send, Raw, Opened, FailedToOpen, Bytes, Drain, Ticked, Poll, Shown, Connect, Queued, Write, Retry, Settles, Ends, Close, Hands, FindsNothing, Done, Names, Address, Receipt, Replies}
-use Rattle.pulsar_procedures.specs.Plan.{failed}
-use Rattle.pulsar_agenda.specs.Run.{Good, Step}
-use Rattle.pulsar_tables.specs.View.{Chosen, Options}
+use Rattle.pulsar_plans.specs.Plan.{failed}
+use Rattle.pulsar_acts.specs.Run.{Good}
+use Rattle.pulsar_calls.specs.Steps.{Step}
+use Rattle.pulsar_machine.specs.Options.{Chosen, Options}
 
 -- the host and the port of the service
 abbrev pub local_host : List ℕ

@@ -1,12 +1,13 @@
 //! What follows from the definition of a good run: each contract is a law, and its body is empty.
 
-ghost use Rattle.pulsar_tables.specs.Address.{KnownAddresses};
+ghost use Rattle.pulsar_links.specs.Address.{KnownAddresses};
 ghost use Rattle.pulsar_client.specs.Client.{StandsFor};
 ghost use Rattle.pulsar_laws.specs.Laws.{AlarmsAreTicked, AllIsDone, AnswersOnce, BuiltIs, CallsAreMade, CausesInOrder, ClockIs, DeadlinesAreTicked, DeedsFollow, Determined, EffectsArranged, EndsOnce, FailuresAreTold, FramesAreCut, LinksAlone, OutcomesAreCaused, PlansFollow, ServedByTicket, StoppedIs, TicketsCount, TicksInOrder, WritesFollow};
 ghost use Rattle.pulsar_laws.specs.AddressLaws.{AttemptsFollow, IdleEnds, NoneAfterStop, OneLinkEach, SeriesIsNewest, SignsOfLife};
 ghost use Rattle.pulsar_laws.specs.Traces.{IsGood, LocalIsKnown, attempt_fails, attempt_is_retried, batch_is_sent, client_is_stopped, consumer_is_polled, deadline_comes, line_moves_up, lookup_is_redirected, message_is_sent, reply_comes_early, request_is_answered};
-ghost use Rattle.pulsar_agenda.specs.Run.{Good, Step};
-ghost use Rattle.pulsar_tables.specs.View.{Options};
+ghost use Rattle.pulsar_acts.specs.Run.{Good};
+ghost use Rattle.pulsar_calls.specs.Steps.{Step};
+ghost use Rattle.pulsar_machine.specs.Options.{Options};
 ghost use Rattle.std.specs.Prelude.{ℕ, List};
 
 use pulsar_client::Pulsar;

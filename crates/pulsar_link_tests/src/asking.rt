@@ -1,8 +1,8 @@
 //! Each raw call is copied, and asked for.
 
-use pulsar_link::ask::ask;
-use pulsar_link::content::Request;
-use pulsar_link::{Authentication, ConsumerOptions, ProducerMessage, ProducerOptions, RawCall};
+use pulsar_exchange::content::Request;
+use pulsar_exchange::{Authentication, ConsumerOptions, ProducerMessage, ProducerOptions, RawCall};
+use pulsar_links::ask::ask;
 use pulsar_session::{Asked, Connection};
 use pulsar_wire::commands::enumerations::SubType;
 use pulsar_wire::commands::topics::Mode;

@@ -1,7 +1,7 @@
 //! What is read in messages of a broker.
 
+use pulsar_exchange::content::Received;
 use pulsar_frame::Message;
-use pulsar_link::content::Received;
 use pulsar_wire::commands::base::{BaseCommand, Body};
 use pulsar_wire::commands::connection::{CommandError, CommandPong};
 use pulsar_wire::{ConnectionError, NoMemory, bodies};

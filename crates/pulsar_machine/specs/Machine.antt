@@ -3,11 +3,11 @@ use Rattle.std.specs.Prelude.{ℕ, List, None, map}
 use Rattle.pulsar_calls.specs.declared.effect.Effect.{Effect}
 use Rattle.pulsar_calls.specs.declared.event.Event.{Event}
 use Rattle.pulsar_calls.specs.Content.{heard, shown}
-use Rattle.pulsar_plans.specs.Backoff.{default_connection_retry, default_operation_retry}
+use Rattle.pulsar_addresses.specs.Backoff.{default_connection_retry, default_operation_retry}
 use Rattle.pulsar_producer.specs.Routing.{Policy}
-use Rattle.pulsar_tables.specs.Address.{base_in}
-use Rattle.pulsar_tables.specs.View.{Chosen, Options}
-use Rattle.pulsar_agenda.specs.Run.{Step}
+use Rattle.pulsar_addresses.specs.Address.{base_in}
+use Rattle.pulsar_machine.specs.Options.{Chosen, Options}
+use Rattle.pulsar_calls.specs.Steps.{Step}
 
 -- an event with its effects
 abbrev pub step : Event → List Effect → Step

@@ -17,7 +17,7 @@ use std::collections::BTreeMap;
 const DEFAULT_QUEUE_SIZE: u32 = 1000;
 
 /// How a consumer is made, and how many messages it holds.
-#[derive(Debug, Drop)]
+#[derive(Debug)]
 pub struct ConsumerOptions {
     /// The broker serves consumers of a lower level first.
     pub priority_level: Option<i32>,
@@ -35,6 +35,21 @@ pub struct ConsumerOptions {
     pub receiver_queue_size: Option<u32>,
     /// Where a new subscription begins.
     pub initial_position: InitialPosition,
+}
+
+impl Drop for ConsumerOptions {
+    fn drop(self) {
+        let ConsumerOptions {
+            priority_level: _,
+            durable: _,
+            start_message_id: _,
+            metadata: _,
+            read_compacted: _,
+            schema: _,
+            receiver_queue_size: _,
+            initial_position: _,
+        } = self;
+    }
 }
 
 impl ConsumerOptions {

@@ -12,7 +12,7 @@ use std::alloc::Global;
 use std::collections::BTreeMap;
 
 /// How a producer is made, and how it sends.
-#[derive(Debug, Drop)]
+#[derive(Debug)]
 pub struct ProducerOptions {
     /// Whether it says that its messages are encrypted.
     pub encrypted: Option<bool>,
@@ -31,6 +31,22 @@ pub struct ProducerOptions {
     /// A message waits for room on its connection, where it is refused otherwise.
     pub block_queue_if_full: bool,
     pub routing_policy: Option<RoutingPolicy>,
+}
+
+impl Drop for ProducerOptions {
+    fn drop(self) {
+        let ProducerOptions {
+            encrypted: _,
+            metadata: _,
+            schema: _,
+            batch_size: _,
+            batch_byte_size: _,
+            batch_timeout: _,
+            access_mode: _,
+            block_queue_if_full: _,
+            routing_policy: _,
+        } = self;
+    }
 }
 
 impl ProducerOptions {

@@ -1,6 +1,2 @@
-pub mod Address
-pub mod Backoff
-pub mod Closing
-pub mod Question
-pub mod Replies
-pub mod Plans
+pub mod Plan
+pub mod Standing

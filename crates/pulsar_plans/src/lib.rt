@@ -1,21 +1,18 @@
-//! How brokers are found and asked: plans, each a machine over the outcomes of what it does.
+//! The plan of each procedure of a client: a machine over the outcomes of its actions.
 #![tactic(auto)]
 
-pub mod address;
-pub mod closing;
-pub mod content;
-pub mod count;
-pub mod laws;
-pub mod look;
-pub mod making;
-pub mod names;
-pub mod options;
+pub mod answers;
+pub mod batches;
+pub mod departing;
+pub mod gathering;
 pub mod plan;
-pub mod question;
-pub mod random;
-mod replies;
-pub mod retry;
-pub mod turn;
-
-pub use address::BrokerAddress;
-pub use options::{ConnectionRetryOptions, OperationRetryOptions};
+pub mod producing;
+pub mod search;
+pub mod search_state;
+pub mod sends;
+pub mod service;
+pub mod serving;
+pub mod states;
+pub mod subscribing;
+pub mod table;
+pub mod visiting;

@@ -1,8 +1,5 @@
 pub mod Cutting
-pub mod Entries
 pub mod Numbers
-pub mod PartialSends
-pub mod Properties
 pub mod Reading
 pub mod Routes
 pub mod Sends

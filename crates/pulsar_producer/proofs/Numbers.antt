@@ -1,8 +1,8 @@
 -- The numbers of a topic producer's messages.
 use Rattle.std.proofs.Common.{◌≡◌, ◌∙◌, sym, ap, refl, ℕ, ◌+◌, ◌≤◌, add-zero, Bool, true, false, cond, List, [], ◌∷◌, ◌++◌, Option, Some, None, arith}
 use Rattle.std.specs.Option.{is_some}
-use Rattle.pulsar_session.specs.Link.{is_spent}
-use Rattle.pulsar_producer.specs.Storage.{SingleMessage}
+use Rattle.pulsar_messages.specs.Claims.{is_spent}
+use Rattle.pulsar_outgoing.specs.Storage.{SingleMessage}
 use Rattle.pulsar_producer.specs.Topic.{Act, Takes, Passes, Draws, Remakes, Closes, Stores, Flushes, Cuts, TakesBatch, Halts, Seen, Setup, after, drawn, passes, seen, takes_in}
 use Rattle.pulsar_producer.specs.Laws.{NumbersCount, NumbersRise, RefusedSpendsItsNumber, draws_of, given_by}
 use Rattle.pulsar_producer.proofs.Untouched.{stores_keeps, flushes_keeps, cuts_keeps, takes_batch_keeps}

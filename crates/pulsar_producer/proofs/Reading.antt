@@ -11,7 +11,7 @@ use Rattle.pulsar_wire.specs.declared.error.Reason.TheVariants as reason
 use Rattle.pulsar_frame.specs.Batch.{EntryValues, FitsSize, IsSound, SaysItsSize, batch_bytes, entries}
 use Rattle.pulsar_frame.proofs.Batches.{batch-again}
 use Rattle.pulsar_messages.specs.Content.{ProducerMessageValues}
-use Rattle.pulsar_producer.specs.Batch.{batch_counted, batch_with, entry_of, entry_refusal, entry_with, first_refusal, refusal_or, size_in_i32, unless_refused}
+use Rattle.pulsar_outgoing.specs.Batch.{batch_counted, batch_with, entry_of, entry_refusal, entry_with, first_refusal, refusal_or, size_in_i32, unless_refused}
 use Rattle.pulsar_producer.specs.BatchLaws.{BatchIsReadAgain, EntrySaysItsMessage, IsEntry}
 
 sized : (n : ℕ) (z : ℤ) → size_in_i32 n ≡ Some z → z ≡ pos n

@@ -2,26 +2,26 @@
 use Rattle.std.proofs.Common.{◌≡◌, ◌∙◌, ap, refl, ℕ, Bool, true, false, cond, List, [], ◌∷◌, ◌++◌, Option, Some, None, Result, Ok, Err}
 use Rattle.std.specs.List.{list_any}
 use Rattle.pulsar_messages.specs.Content.{ProducerMessageValues}
-use Rattle.pulsar_session.specs.Failures.{Fault, Failure}
-use Rattle.pulsar_session.specs.Reply.{Reply}
-use Rattle.pulsar_plans.specs.Address.{Place}
-use Rattle.pulsar_plans.specs.Plans.{is_lost, look_begins, look_told, made_gets, made_told, verdict}
-use Rattle.pulsar_plans.specs.declared.look.Looking.{Looking}
-use Rattle.pulsar_plans.specs.declared.making.Command.{Command}
-use Rattle.pulsar_plans.specs.declared.making.Making.{Making}
-use Rattle.pulsar_plans.specs.declared.making.Served.{Served}
-use Rattle.pulsar_plans.specs.declared.turn.Turn.{Turn}
-use Rattle.pulsar_plans.specs.declared.turn.Turn.TheVariants as turn
-use Rattle.pulsar_plans.specs.declared.turn.Ways.{Ways}
-use Rattle.pulsar_producer.specs.Errors.{in_producer}
+use Rattle.pulsar_wire.specs.Failures.{Fault, Failure}
+use Rattle.pulsar_frame.specs.Reply.{Reply}
+use Rattle.pulsar_addresses.specs.Address.{Place}
+use Rattle.pulsar_searches.specs.Plans.{is_lost, look_begins, look_told, made_gets, made_told, verdict}
+use Rattle.pulsar_searches.specs.declared.look.Looking.{Looking}
+use Rattle.pulsar_searches.specs.declared.making.Command.{Command}
+use Rattle.pulsar_searches.specs.declared.making.Making.{Making}
+use Rattle.pulsar_searches.specs.declared.making.Served.{Served}
+use Rattle.pulsar_searches.specs.declared.turn.Turn.{Turn}
+use Rattle.pulsar_searches.specs.declared.turn.Turn.TheVariants as turn
+use Rattle.pulsar_searches.specs.declared.turn.Ways.{Ways}
+use Rattle.pulsar_outgoing.specs.Errors.{in_producer}
 use Rattle.pulsar_producer.specs.Plans.{fault_told, in_asked, in_drawing, in_looking, in_making, in_recalling, in_remaking, in_sent, in_waiting, not_drawn, not_queued, receipt, send_asks, send_ends, send_looks, send_makes, send_of, send_recalls, send_told}
 use Rattle.pulsar_producer.specs.Laws.{EachFrameHasItsNumber, QueuedIsNotAskedAgain, deeds_in, deeds_of, is_send, state_after, state_in}
 use Rattle.pulsar_producer.specs.declared.deed.Deed.TheVariants.{Sends}
-use Rattle.pulsar_producer.specs.declared.deed.Drawn.{Drawn}
-use Rattle.pulsar_producer.specs.declared.deed.News.{News}
-use Rattle.pulsar_producer.specs.declared.deed.News.TheVariants.{Told, Queued, InLine, HasTurn, Drew, Recalled, Numbered, Ready, HasBatch, Done}
+use Rattle.pulsar_outgoing.specs.declared.news.Drawn.{Drawn}
+use Rattle.pulsar_producer.specs.News.{News}
+use Rattle.pulsar_outgoing.specs.declared.news.News.TheVariants.{Told, Queued, InLine, HasTurn, Drew, Recalled, Numbered, Ready, HasBatch, Done}
 use Rattle.pulsar_producer.specs.declared.deed.Send.{Send}
-use Rattle.pulsar_producer.specs.declared.sending.Errand.{Errand}
+use Rattle.pulsar_outgoing.specs.declared.orders.Errand.{Errand}
 use Rattle.pulsar_producer.specs.declared.sending.Sending.{Sending}
 use Rattle.pulsar_producer.specs.declared.sending.Sending.TheVariants as send
 
@@ -56,7 +56,7 @@ looks_none e m c (turn.Gives (Err f)) link s is = cc
 -- EACH FRAME
 
 frame_of : (e : Errand) (d : Drawn) (m : ProducerMessageValues) (link : ℕ) (s : Send) → deeds_in (send_asks e d m) ≡ Sends link s ∷ []
-    → (d' : Drawn) × (m' : ProducerMessageValues) × (Drew d ≡ Drew d') × (send.Drawing m ≡ send.Drawing m') × (link ≡ d'.link) × (s ≡ send_of e d' m')
+    → (d' : Drawn) × (m' : ProducerMessageValues) × (◌≡◌ {A = News} (Drew d) (Drew d')) × (send.Drawing m ≡ send.Drawing m') × (link ≡ d'.link) × (s ≡ send_of e d' m')
 frame_of e d m link s is = (d, m, refl, refl, cc, cc)
 
 in_waiting_none : (e : Errand) (m : ProducerMessageValues) (n : News) (link : ℕ) (s : Send) → deeds_in (in_waiting e m n) ≡ Sends link s ∷ [] → ⊥

@@ -1,12 +1,13 @@
 -- What is stored is not ready, and was not before.
 use Rattle.std.proofs.Common.{◌≡◌, ◌∙◌, sym, ap, refl, subst, ℕ, ◌||◌, nat_lt, nat_le, Bool, true, false, cond, List, [], ◌∷◌, ◌++◌, Option, Some, None, arith, append-nil, ◌⊎◌, inl, inr}
 use Rattle.std.proofs.lemmas.Bool.Decides.{nat_tests}
-use Rattle.pulsar_session.specs.Link.{is_spent}
+use Rattle.pulsar_messages.specs.Claims.{is_spent}
 use Rattle.pulsar_wire.specs.Sink.{capped}
 use Rattle.pulsar_producer.specs.BatchLaws.{NeverReady, StoredIsNotReady, is_full, is_positive}
-use Rattle.pulsar_producer.specs.Storage.{Item, SingleMessage, Flush, Storage, ends_in_flush, is_ready, pushed, reaches}
-use Rattle.pulsar_producer.specs.Topic.{Act, Takes, Passes, Draws, Remakes, Closes, Stores, Flushes, Cuts, TakesBatch, Halts, Seen, Setup, after, cuts, is_nothing, is_settled, left_of, seen, stores, takes_in}
-use Rattle.pulsar_producer.specs.declared.storage.Limits.{Limits}
+use Rattle.pulsar_outgoing.specs.Storage.{Item, SingleMessage, Flush, Storage, ends_in_flush, is_ready, pushed, reaches}
+use Rattle.pulsar_producer.specs.Topic.{Act, Takes, Passes, Draws, Remakes, Closes, Stores, Flushes, Cuts, TakesBatch, Halts, Seen, Setup, after, cuts, is_settled, left_of, seen, stores, takes_in}
+use Rattle.pulsar_outgoing.specs.Storage.{is_nothing}
+use Rattle.pulsar_outgoing.specs.declared.storage.Limits.{Limits}
 
 -- WHERE IT STAYS
 

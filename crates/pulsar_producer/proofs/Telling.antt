@@ -6,35 +6,36 @@ use Rattle.std.specs.Option.{option_map}
 use Rattle.pulsar_frame.specs.Batch.{EntryValues}
 use Rattle.pulsar_messages.specs.Content.{ProducerMessageValues}
 use Rattle.pulsar_wire.specs.declared.error.Reason.{Reason}
-use Rattle.pulsar_session.specs.Failures.{Fault, Failure}
-use Rattle.pulsar_session.specs.Reply.{Reply}
-use Rattle.pulsar_plans.specs.Address.{Place}
-use Rattle.pulsar_plans.specs.Plans.{is_lost, look_begins, look_told, made_gets, made_told, verdict}
-use Rattle.pulsar_plans.specs.declared.look.Looking.{Looking}
-use Rattle.pulsar_plans.specs.declared.making.Command.{Command}
-use Rattle.pulsar_plans.specs.declared.making.Making.{Making}
-use Rattle.pulsar_plans.specs.declared.making.Served.{Served}
-use Rattle.pulsar_plans.specs.declared.turn.Turn.{Turn}
-use Rattle.pulsar_plans.specs.declared.turn.Turn.TheVariants as turn
-use Rattle.pulsar_plans.specs.declared.turn.Ways.{Ways}
-use Rattle.pulsar_producer.specs.Batch.{batch_of, cut_report, entries_in, member_of, report_at, reports_from}
+use Rattle.pulsar_wire.specs.Failures.{Fault, Failure}
+use Rattle.pulsar_frame.specs.Reply.{Reply}
+use Rattle.pulsar_addresses.specs.Address.{Place}
+use Rattle.pulsar_searches.specs.Plans.{is_lost, look_begins, look_told, made_gets, made_told, verdict}
+use Rattle.pulsar_searches.specs.declared.look.Looking.{Looking}
+use Rattle.pulsar_searches.specs.declared.making.Command.{Command}
+use Rattle.pulsar_searches.specs.declared.making.Making.{Making}
+use Rattle.pulsar_searches.specs.declared.making.Served.{Served}
+use Rattle.pulsar_searches.specs.declared.turn.Turn.{Turn}
+use Rattle.pulsar_searches.specs.declared.turn.Turn.TheVariants as turn
+use Rattle.pulsar_searches.specs.declared.turn.Ways.{Ways}
+use Rattle.pulsar_outgoing.specs.Batch.{batch_of, cut_report, entries_in, member_of, report_at, reports_from}
 use Rattle.pulsar_producer.specs.Batching.{begins, cuts_off, is_sent_send, sends, sends_batch, settles, starts_with, told}
 use Rattle.pulsar_producer.specs.BatchLaws.{EachHasItsPlace, EachHasItsReport, EachIsTold, HaltTellsAll, TakesWhereSettled, ToldInOrder, batching_after, given_at, given_from, joined, taken_of, ticket_in, told_by, told_from, under_way}
-use Rattle.pulsar_producer.specs.Errors.{in_producer}
+use Rattle.pulsar_outgoing.specs.Errors.{in_producer}
 use Rattle.pulsar_producer.specs.Plans.{Sent, fault_told, in_asked, in_drawing, in_looking, in_making, in_recalling, in_remaking, in_sent, in_waiting, not_drawn, not_queued, receipt, send_begins, send_ends, send_looks, send_makes, send_recalls, send_told}
-use Rattle.pulsar_producer.specs.Storage.{Item, SingleMessage, Flush}
-use Rattle.pulsar_producer.specs.Topic.{seen, ticket_of, unsent_tickets}
-use Rattle.pulsar_producer.specs.declared.batch.Fate.{Fate}
-use Rattle.pulsar_producer.specs.declared.batch.Fate.TheVariants as fate
-use Rattle.pulsar_producer.specs.declared.batch.Member.{Member}
-use Rattle.pulsar_producer.specs.declared.batch.Member.TheVariants as member
+use Rattle.pulsar_outgoing.specs.Storage.{Item, SingleMessage, Flush}
+use Rattle.pulsar_producer.specs.Topic.{seen, unsent_tickets}
+use Rattle.pulsar_outgoing.specs.Storage.{ticket_of}
+use Rattle.pulsar_outgoing.specs.declared.batch.Fate.{Fate}
+use Rattle.pulsar_outgoing.specs.declared.batch.Fate.TheVariants as fate
+use Rattle.pulsar_outgoing.specs.declared.batch.Member.{Member}
+use Rattle.pulsar_outgoing.specs.declared.batch.Member.TheVariants as member
 use Rattle.pulsar_producer.specs.declared.batching.Batching.{Batching}
 use Rattle.pulsar_producer.specs.declared.batching.Batching.TheVariants.{Resting, Taking, Sending, Settling}
 use Rattle.pulsar_producer.specs.declared.deed.Deed.TheVariants as deed
-use Rattle.pulsar_producer.specs.declared.deed.News.{News}
-use Rattle.pulsar_producer.specs.declared.deed.News.TheVariants.{Told, Queued, InLine, HasTurn, Drew, Recalled, Numbered, Ready, HasBatch, Done}
+use Rattle.pulsar_producer.specs.News.{News}
+use Rattle.pulsar_outgoing.specs.declared.news.News.TheVariants.{Told, Queued, InLine, HasTurn, Drew, Recalled, Numbered, Ready, HasBatch, Done}
 use Rattle.pulsar_producer.specs.declared.deed.Step.TheVariants.{Stays, Gives}
-use Rattle.pulsar_producer.specs.declared.sending.Errand.{Errand}
+use Rattle.pulsar_outgoing.specs.declared.orders.Errand.{Errand}
 use Rattle.pulsar_producer.specs.declared.sending.Sending.{Sending as Send}
 use Rattle.pulsar_producer.specs.declared.sending.Sending.TheVariants as send
 use Rattle.pulsar_producer.proofs.Cutting.{batches_in_order, items_in_order, joined_append, joined_one}

@@ -7,8 +7,8 @@ use Rattle.std.specs.List.{list_all, list_any}
 use Rattle.std.specs.Option.{is_none}
 use Rattle.std.specs.Ordering.{match_ordering, nat_cmp}
 use Rattle.std.specs.declared.cmp.Ordering.TheVariants.{Less, Equal, Greater}
-use Rattle.pulsar_session.specs.Link.{is_spent}
-use Rattle.pulsar_producer.specs.Storage.{SingleMessage}
+use Rattle.pulsar_messages.specs.Claims.{is_spent}
+use Rattle.pulsar_outgoing.specs.Storage.{SingleMessage}
 use Rattle.pulsar_producer.specs.Topic.{Act, Takes, Passes, Draws, Remakes, Closes, Stores, Flushes, Cuts, TakesBatch, Halts, Seen, Setup, after, first_of, is_free, rest_of, seen, takes_in}
 use Rattle.pulsar_producer.specs.Laws.{AreAbove, LowestIsNext, NobodyWaitsForFree, OneAtATime, WaitsInLine, gives_turn, is_listed, keeps, turn_if}
 use Rattle.pulsar_producer.proofs.Untouched.{KeepsTurns, stores_keeps, flushes_keeps, cuts_keeps, takes_batch_keeps}

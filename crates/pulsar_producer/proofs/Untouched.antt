@@ -1,7 +1,8 @@
 -- What acts on batches leave as it was: the numbers and the turns.
 use Rattle.std.proofs.Common.{◌≡◌, refl, ℕ, Bool, true, false, cond, List, [], ◌∷◌}
-use Rattle.pulsar_producer.specs.Storage.{Item, Flush, is_ready, pushed}
-use Rattle.pulsar_producer.specs.Topic.{Seen, cuts, cuts_some, flushes, is_nothing, is_settled, left_of, stores}
+use Rattle.pulsar_outgoing.specs.Storage.{Item, Flush, is_ready, pushed}
+use Rattle.pulsar_producer.specs.Topic.{Seen, cuts, cuts_some, flushes, is_settled, left_of, stores}
+use Rattle.pulsar_outgoing.specs.Storage.{is_nothing}
 
 abbrev pub KeepsTurns : Seen → Seen → Type 0
 KeepsTurns v w = (w.next ≡ v.next) × (w.holder ≡ v.holder) × (w.waiting ≡ v.waiting)

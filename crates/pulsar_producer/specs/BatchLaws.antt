@@ -9,22 +9,23 @@ use Rattle.pulsar_wire.specs.Rows as rows
 use Rattle.pulsar_frame.specs.Batch.{◌▸◌, EntryValues, entries}
 use Rattle.pulsar_messages.specs.Content.{ProducerMessageValues}
 use Rattle.pulsar_messages.specs.Messages.{properties_values}
-use Rattle.pulsar_plans.specs.declared.turn.Ways.{Ways}
-use Rattle.pulsar_producer.specs.Batch.{batch_of, entry_of, placed, placed_id, report_at, reports}
+use Rattle.pulsar_searches.specs.declared.turn.Ways.{Ways}
+use Rattle.pulsar_outgoing.specs.Batch.{batch_of, entry_of, placed, placed_id, report_at, reports}
 use Rattle.pulsar_producer.specs.Batching.{begins, halted, told}
-use Rattle.pulsar_producer.specs.Storage.{Item, SingleMessage, Flush, is_ready, pushed}
-use Rattle.pulsar_producer.specs.Topic.{Act, Takes, Passes, Draws, Remakes, Closes, Stores, Flushes, Cuts, TakesBatch, Halts, Seen, Setup, is_nothing, is_settled, next_batch, seen, ticket_of, unsent_tickets}
-use Rattle.pulsar_producer.specs.declared.batch.Fate.{Fate}
-use Rattle.pulsar_producer.specs.declared.batch.Member.{Member}
-use Rattle.pulsar_producer.specs.declared.batch.Member.TheVariants as member
+use Rattle.pulsar_outgoing.specs.Storage.{Item, SingleMessage, Flush, is_ready, pushed}
+use Rattle.pulsar_producer.specs.Topic.{Act, Takes, Passes, Draws, Remakes, Closes, Stores, Flushes, Cuts, TakesBatch, Halts, Seen, Setup, is_settled, next_batch, seen, unsent_tickets}
+use Rattle.pulsar_outgoing.specs.Storage.{is_nothing, ticket_of}
+use Rattle.pulsar_outgoing.specs.declared.batch.Fate.{Fate}
+use Rattle.pulsar_outgoing.specs.declared.batch.Member.{Member}
+use Rattle.pulsar_outgoing.specs.declared.batch.Member.TheVariants as member
 use Rattle.pulsar_producer.specs.declared.batching.Batching.{Batching}
 use Rattle.pulsar_producer.specs.declared.batching.Batching.TheVariants.{Resting, Taking, Sending, Settling}
 use Rattle.pulsar_producer.specs.declared.deed.Deed.{Deed}
 use Rattle.pulsar_producer.specs.declared.deed.Deed.TheVariants as deed
-use Rattle.pulsar_producer.specs.declared.deed.News.{News}
-use Rattle.pulsar_producer.specs.declared.deed.News.TheVariants.{HasBatch}
-use Rattle.pulsar_producer.specs.declared.sending.Errand.{Errand}
-use Rattle.pulsar_producer.specs.declared.storage.Limits.{Limits}
+use Rattle.pulsar_producer.specs.News.{News}
+use Rattle.pulsar_outgoing.specs.declared.news.News.TheVariants.{HasBatch}
+use Rattle.pulsar_outgoing.specs.declared.orders.Errand.{Errand}
+use Rattle.pulsar_outgoing.specs.declared.storage.Limits.{Limits}
 
 -- WHAT IS STORED
 

@@ -2,7 +2,7 @@
 use Rattle.std.specs.Prelude.{ℕ, List, Option, Some}
 use Rattle.pulsar_messages.specs.Content.{ProducerOptionsValues}
 use Rattle.pulsar_messages.specs.Words.{CreateProducer}
-use Rattle.pulsar_plans.specs.declared.making.Command.{Command}
+use Rattle.pulsar_searches.specs.declared.making.Command.{Command}
 use Rattle.pulsar_producer.specs.Topic.{Seen}
 
 -- it is answered by a producer_success

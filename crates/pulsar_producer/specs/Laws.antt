@@ -4,19 +4,19 @@ use Rattle.std.specs.Prelude.{◌≡◌, ℕ, ◌+◌, ◌<◌, ◌==◌, Bool, 
 use Rattle.std.specs.List.{list_all, list_any}
 use Rattle.std.specs.Option.{is_some}
 use Rattle.pulsar_messages.specs.Content.{ProducerMessageValues}
-use Rattle.pulsar_plans.specs.declared.turn.Ways.{Ways}
+use Rattle.pulsar_searches.specs.declared.turn.Ways.{Ways}
 use Rattle.pulsar_producer.specs.Plans.{Sent, send_of, send_told}
 use Rattle.pulsar_producer.specs.Routing.{Policy, Routed, IsRouted, chosen, count}
 use Rattle.pulsar_producer.specs.Topic.{Act, Takes, Passes, Draws, Remakes, Closes, Stores, Flushes, Cuts, TakesBatch, Halts, Seen, Setup, drawn, is_free, next_holder, seen}
 use Rattle.pulsar_producer.specs.declared.deed.Deed.{Deed}
 use Rattle.pulsar_producer.specs.declared.deed.Deed.TheVariants.{Does, TakesTurn, Sends, PassesTurn, Recalls, Numbers, ClosesProducer, Settles, Rests}
 use Rattle.pulsar_producer.specs.declared.deed.Deed.TheVariants as deed
-use Rattle.pulsar_producer.specs.declared.deed.Drawn.{Drawn}
-use Rattle.pulsar_producer.specs.declared.deed.News.{News}
-use Rattle.pulsar_producer.specs.declared.deed.News.TheVariants.{Queued, Drew}
+use Rattle.pulsar_outgoing.specs.declared.news.Drawn.{Drawn}
+use Rattle.pulsar_producer.specs.News.{News}
+use Rattle.pulsar_outgoing.specs.declared.news.News.TheVariants.{Queued, Drew}
 use Rattle.pulsar_producer.specs.declared.deed.Send.{Send}
 use Rattle.pulsar_producer.specs.declared.deed.Step.TheVariants.{Stays, Gives}
-use Rattle.pulsar_producer.specs.declared.sending.Errand.{Errand}
+use Rattle.pulsar_outgoing.specs.declared.orders.Errand.{Errand}
 use Rattle.pulsar_producer.specs.declared.sending.Sending.{Sending}
 use Rattle.pulsar_producer.specs.declared.sending.Sending.TheVariants.{Drawing, Asked}
 

@@ -1,13 +1,6 @@
-pub mod Errors
-pub mod Message
-pub mod Composed
-pub mod Wanted
 pub mod Routing
 pub mod Producer
 pub mod Random
-pub mod Replies
-pub mod Storage
-pub mod Batch
 pub mod Topic
 pub mod Kept
 pub mod Commands
@@ -15,3 +8,4 @@ pub mod Plans
 pub mod Batching
 pub mod Laws
 pub mod BatchLaws
+pub mod News

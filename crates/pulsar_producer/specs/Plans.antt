@@ -2,34 +2,34 @@
 -- gives its value. A line is a rule.  (Pulsar binary protocol, Producer)
 use Rattle.std.specs.Prelude.{ℕ, Bool, ◌&&◌, not, List, [], ◌∷◌, ◌++◌, Option, Some, None, Result, Ok, Err, if◌then◌else◌}
 use Rattle.pulsar_messages.specs.Content.{ProducerMessageValues}
-use Rattle.pulsar_session.specs.Failures.{Fault, Disconnected, Failure, OfConnection}
-use Rattle.pulsar_session.specs.Reply.{Reply}
-use Rattle.pulsar_plans.specs.Address.{Named, Place}
-use Rattle.pulsar_plans.specs.Plans.{fault_of, is_lost, look_begins, look_told, made_gets, made_told, names_begins, names_told, verdict}
-use Rattle.pulsar_plans.specs.declared.look.Looking.{Looking}
-use Rattle.pulsar_plans.specs.declared.making.Command.{Command}
-use Rattle.pulsar_plans.specs.declared.making.Making.{Making}
-use Rattle.pulsar_plans.specs.declared.making.Served.{Served}
-use Rattle.pulsar_plans.specs.declared.names.Naming.{Naming}
-use Rattle.pulsar_plans.specs.declared.turn.Turn.{Turn}
-use Rattle.pulsar_plans.specs.declared.turn.Turn.TheVariants as turn
-use Rattle.pulsar_plans.specs.declared.turn.Ways.{Ways}
+use Rattle.pulsar_wire.specs.Failures.{Fault, Disconnected, Failure, OfConnection}
+use Rattle.pulsar_frame.specs.Reply.{Reply}
+use Rattle.pulsar_addresses.specs.Address.{Named, Place}
+use Rattle.pulsar_searches.specs.Plans.{fault_of, is_lost, look_begins, look_told, made_gets, made_told, names_begins, names_told, verdict}
+use Rattle.pulsar_searches.specs.declared.look.Looking.{Looking}
+use Rattle.pulsar_searches.specs.declared.making.Command.{Command}
+use Rattle.pulsar_searches.specs.declared.making.Making.{Making}
+use Rattle.pulsar_searches.specs.declared.making.Served.{Served}
+use Rattle.pulsar_searches.specs.declared.names.Naming.{Naming}
+use Rattle.pulsar_searches.specs.declared.turn.Turn.{Turn}
+use Rattle.pulsar_searches.specs.declared.turn.Turn.TheVariants as turn
+use Rattle.pulsar_searches.specs.declared.turn.Ways.{Ways}
 use Rattle.pulsar_producer.specs.Commands.{command}
-use Rattle.pulsar_producer.specs.Errors.{in_producer}
-use Rattle.pulsar_producer.specs.Message.{with_version}
-use Rattle.pulsar_producer.specs.Replies.{given}
-use Rattle.pulsar_producer.specs.declared.content.Built.{Built}
+use Rattle.pulsar_outgoing.specs.Errors.{in_producer}
+use Rattle.pulsar_messages.specs.Message.{with_version}
+use Rattle.pulsar_outgoing.specs.Replies.{given}
+use Rattle.pulsar_outgoing.specs.declared.content.Built.{Built}
 use Rattle.pulsar_producer.specs.declared.deed.Deed.TheVariants.{Does, TakesTurn, Draws, Sends, PassesTurn, Recalls, Remakes, Numbers, ClosesProducer, Rests}
-use Rattle.pulsar_producer.specs.declared.deed.Drawn.{Drawn}
-use Rattle.pulsar_producer.specs.declared.deed.News.{News}
-use Rattle.pulsar_producer.specs.declared.deed.News.TheVariants.{Told, Queued, InLine, HasTurn, Drew, Recalled, Numbered, Ready, HasBatch, Done}
+use Rattle.pulsar_outgoing.specs.declared.news.Drawn.{Drawn}
+use Rattle.pulsar_producer.specs.News.{News}
+use Rattle.pulsar_outgoing.specs.declared.news.News.TheVariants.{Told, Queued, InLine, HasTurn, Drew, Recalled, Numbered, Ready, HasBatch, Done}
 use Rattle.pulsar_producer.specs.declared.deed.Send.{Send}
 use Rattle.pulsar_producer.specs.declared.deed.Step.{Step}
 use Rattle.pulsar_producer.specs.declared.deed.Step.TheVariants.{Stays, Gives}
-use Rattle.pulsar_producer.specs.declared.sending.Errand.{Errand}
+use Rattle.pulsar_outgoing.specs.declared.orders.Errand.{Errand}
 use Rattle.pulsar_producer.specs.declared.sending.Sending.{Sending}
 use Rattle.pulsar_producer.specs.declared.sending.Sending.TheVariants as send
-use Rattle.pulsar_producer.specs.declared.building.Order.{Order}
+use Rattle.pulsar_outgoing.specs.declared.orders.Order.{Order}
 use Rattle.pulsar_producer.specs.declared.building.Part.{Part}
 use Rattle.pulsar_producer.specs.declared.building.Building.{Building}
 use Rattle.pulsar_producer.specs.declared.building.Building.TheVariants as build

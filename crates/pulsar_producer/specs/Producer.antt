@@ -1,5 +1,5 @@
 -- A producer as its user sees it: its topic, how it is made, and its partitions.
-use Rattle.std.specs.Prelude.{ℕ, ◌==◌, Bool, if◌then◌else◌, List, map, Option, Some, None}
+use Rattle.std.specs.Prelude.{ℕ, ◌==◌, Bool, if◌then◌else◌, List, [], ◌∷◌, map, Option, Some, None}
 use Rattle.std.specs.Option.{option_map}
 use Rattle.pulsar_messages.specs.Content.{ProducerMessageValues, ProducerOptionsValues}
 use Rattle.pulsar_producer.specs.Routing.{Policy, Routed, begun, chosen_on, count, number_at, routed}
@@ -19,6 +19,14 @@ is_single p = count p.routes == 1
 abbrev pub made : (topic : List ℕ) → ProducerOptionsValues → List Partition → (last : ℕ) → Option Seen
 made topic options ps last =
     option_map (λ r. record { topic = topic; options = options; routes = r }) (begun ps options.routing_policy last)
+
+-- its topic; a single one has the name that was found
+abbrev pub topic_in : (topic : List ℕ) → List Partition → List ℕ
+topic_in topic (p ∷ []) = p.name
+topic_in topic _ = topic
+
+abbrev pub topic_of : Seen → List ℕ
+topic_of p = topic_in p.topic p.routes.partitions
 
 -- the names of its partitions in order; a single one has none
 abbrev pub names : Seen → Option (List (List ℕ))

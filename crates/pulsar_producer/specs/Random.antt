@@ -1,7 +1,7 @@
 -- What is drawn for a producer.
 use Rattle.std.specs.Prelude.{ℕ, ◌+◌, ◌*◌, ◌^◌, ◌%◌, ◌==◌, if◌then◌else◌}
 use Rattle.rand_pcg.specs.Pcg.{pcg32}
-use Rattle.pulsar_plans.specs.Backoff.{generator}
+use Rattle.pulsar_addresses.specs.Backoff.{generator}
 
 -- a producer draws from the stream of four times its ticket and three
 abbrev pub stream_of_producer : (ticket : ℕ) → ℕ

@@ -7,11 +7,12 @@ use Rattle.std.specs.BTreeSet.{insert_key}
 use Rattle.std.specs.Option.{is_none}
 use Rattle.std.specs.Ordering.{nat_cmp}
 use Rattle.pulsar_frame.specs.Batch.{EntryValues}
-use Rattle.pulsar_session.specs.Link.{is_spent}
-use Rattle.pulsar_producer.specs.Storage.{Item, SingleMessage, Flush, Storage, empty, emptied, is_ready, pushed}
-use Rattle.pulsar_producer.specs.declared.content.Built.{Built}
-use Rattle.pulsar_producer.specs.declared.replies.Given.{Given}
-use Rattle.pulsar_producer.specs.declared.storage.Limits.{Limits}
+use Rattle.pulsar_messages.specs.Claims.{is_spent}
+use Rattle.pulsar_outgoing.specs.Storage.{Item, SingleMessage, Flush, Storage, empty, emptied, is_ready, pushed}
+use Rattle.pulsar_outgoing.specs.declared.content.Built.{Built}
+use Rattle.pulsar_outgoing.specs.declared.replies.Given.{Given}
+use Rattle.pulsar_outgoing.specs.declared.storage.Limits.{Limits}
+use Rattle.pulsar_outgoing.specs.Storage.{is_nothing, ticket_of}
 
 -- WHAT IS DONE TO IT: an act for each call that changes it
 
@@ -111,13 +112,6 @@ drawn v = if is_spent v.next then None else Some v.next
 abbrev pub draws : Seen → Seen
 draws v = if is_spent v.next then v else record v { next = v.next + 1 }
 
--- BATCHES. What is stored is cut into a batch once it is ready, and batches are under way one at a time.
-
--- nothing is stored
-abbrev pub is_nothing : List Item → Bool
-is_nothing [] = true
-is_nothing (x ∷ xs) = false
-
 -- all that was stored is settled
 abbrev pub is_settled : Seen → Bool
 is_settled v = not v.is_under_way && is_nothing v.storage.items
@@ -158,11 +152,6 @@ closes v = record v { is_closed = true; storage = emptied v.storage }
 
 abbrev pub halts : Seen → Seen
 halts v = record v { storage = emptied v.storage; cut = [] }
-
--- who waits for what is stored, and for all that was cut and isn't under way
-abbrev pub ticket_of : Item → ℕ
-ticket_of (SingleMessage ticket e) = ticket
-ticket_of (Flush ticket) = ticket
 
 abbrev pub stored_tickets : Seen → List ℕ
 stored_tickets v = map ticket_of v.storage.items

@@ -3,11 +3,12 @@
 ghost use Rattle.std.specs.Prelude.{◌≡◌, IfOk};
 ghost use Rattle.pulsar_producer.specs.Batching as meaning;
 
-use crate::batch::Fate;
-use crate::content::{Batch, Members};
 use crate::deed::{Deed, News, Step};
-use crate::sending::{self, Errand, Sending, Sent};
-use pulsar_plans::turn::Ways;
+use crate::sending::{self, Sending, Sent};
+use pulsar_outgoing::batch::Fate;
+use pulsar_outgoing::content::{Batch, Members};
+use pulsar_outgoing::orders::Errand;
+use pulsar_searches::turn::Ways;
 use pulsar_wire::error::NoMemory;
 use std::alloc::Global;
 

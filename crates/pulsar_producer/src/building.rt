@@ -3,24 +3,17 @@
 ghost use Rattle.std.specs.Prelude.{◌≡◌, IfOk};
 ghost use Rattle.pulsar_producer.specs.Plans as meaning;
 
-use crate::content::{Built, Left, Parts, Settings};
 use crate::deed::{Deed, News, Step, error_told};
-use crate::replies::given_by;
 use crate::topic_producer::command;
-use pulsar_plans::content::{Address, Names, Refusal, Text};
-use pulsar_plans::making::{self, Command, Making, Served};
-use pulsar_plans::names::{self, Naming};
-use pulsar_plans::turn::{Turn, Ways};
+use pulsar_addresses::content::{Address, Names, Refusal, Text};
+use pulsar_outgoing::content::{Built, Left, Parts, Settings};
+use pulsar_outgoing::orders::Order;
+use pulsar_outgoing::replies::given_by;
+use pulsar_searches::making::{self, Command, Making, Served};
+use pulsar_searches::names::{self, Naming};
+use pulsar_searches::turn::{Turn, Ways};
 use pulsar_wire::error::NoMemory;
 use std::alloc::Global;
-
-/// The producer that is to be built.
-#[derive(Drop)]
-pub struct Order {
-    pub topic: Text,
-    pub name: Option<Text>,
-    pub options: Settings,
-}
 
 /// A topic, or a partition of one, for which a number is drawn: its broker, the names that are left behind it, and the topic producers
 /// that were made before it.

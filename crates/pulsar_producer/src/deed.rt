@@ -1,17 +1,22 @@
 //! What the plans of producers do, and what they are told.
 
 ghost use Rattle.std.specs.Prelude.{◌≡◌, IfOk};
-ghost use Rattle.pulsar_session.specs.Failures.{fault};
-ghost use Rattle.pulsar_producer.specs.Errors.{in_producer};
+ghost use Rattle.pulsar_wire.specs.Failures.{fault};
+ghost use Rattle.pulsar_outgoing.specs.Errors.{in_producer};
 ghost use Rattle.pulsar_producer.specs.Plans.{fault_told};
 
-use crate::content::{Batch, Outgoing, Reports, Version};
-use crate::replies::Given;
-use pulsar_plans::content::{Refusal, Text};
-use pulsar_plans::making::Command;
-use pulsar_plans::turn::{self, Action, Outcome};
+use pulsar_addresses::content::{Refusal, Text};
+use pulsar_outgoing::content::{Batch, Outgoing, Reports, Version};
+use pulsar_outgoing::failing::in_producer;
+use pulsar_outgoing::news;
+use pulsar_outgoing::replies::Given;
+use pulsar_searches::making::Command;
+use pulsar_searches::turn::{self, Action, Outcome};
 use pulsar_wire::error::{ConnectionError, Error, NoMemory, ProducerError};
 use std::alloc::Global;
+
+/// What a plan is told.
+pub type News = news::News<Outcome, Command>;
 
 /// A message as it is asked of a link. Where `block` is not set, it is refused where there is no room.
 #[derive(Drop)]
@@ -62,40 +67,6 @@ pub enum Deed {
     Rests,
 }
 
-/// The number that was drawn for a message, its link, and whether there is room on it; and the name of its producer.
-#[derive(Drop)]
-pub struct Drawn {
-    pub number: u64,
-    pub link: u64,
-    pub room: bool,
-    pub name: Text,
-}
-
-/// What a plan is told.
-#[derive(Drop)]
-pub enum News {
-    /// What came of an action or of a request. A link that is not ready, and numbers that are spent, fail a draw.
-    Told(Outcome),
-    /// Its frame is queued.
-    Queued,
-    /// Its frame stands in the line.
-    InLine,
-    /// It has its turn. The schema version of the topic producer is this.
-    HasTurn(Option<Version>),
-    /// It drew the number of a message.
-    Drew(Drawn),
-    /// A topic producer is made again by this command.
-    Recalled(Command),
-    /// It drew the number of a new topic producer.
-    Numbered(u64),
-    /// A batch was cut, and none was under way.
-    Ready,
-    /// The next batch, where one was cut.
-    HasBatch(Option<Batch>),
-    /// What it did is done.
-    Done,
-}
-
 /// A plan stays, in this state, and does this, or it ends and gives its value.
 #[derive(Drop)]
 pub enum Step<S, A> {
@@ -111,11 +82,4 @@ pub fn error_told(news: News) -> ConnectionError
         News::Told(outcome) => turn::error_of(outcome),
         _ => ConnectionError::Disconnected,
     }
-}
-
-/// An error of a connection as one of a producer.
-pub fn in_producer(alloc: Global, error: ConnectionError) -> Result<Refusal, NoMemory>
-    ensures { IfOk result (λ r. r ≡ in_producer (fault error)) }
-{
-    Refusal::new(alloc, Error::Producer(ProducerError::Connection(error)))
 }

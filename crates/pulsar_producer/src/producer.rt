@@ -3,14 +3,14 @@
 ghost use Rattle.std.specs.Prelude.{◌≡◌, ◌⊎◌, map, Some, None, IfOk, MatchResult, string_bytes};
 ghost use Rattle.std.specs.Option.{option_map};
 ghost use Rattle.pulsar_messages.specs.Content.{message_content, producer_options_values};
-ghost use Rattle.pulsar_session.specs.Failures.{failure};
-ghost use Rattle.pulsar_producer.specs.Errors.{IsNoMemory, no_such_index};
-ghost use Rattle.pulsar_producer.specs.Producer.{advice, after, is_single, made, names, number_for, number_on};
+ghost use Rattle.pulsar_wire.specs.Failures.{failure};
+ghost use Rattle.pulsar_outgoing.specs.Errors.{IsNoMemory, no_such_index};
+ghost use Rattle.pulsar_producer.specs.Producer.{advice, after, is_single, made, names, number_for, number_on, topic_of};
 
-use crate::content::Settings;
 use crate::routing::{CustomRoutingPolicy, Partition, PartitionedProducer};
+use pulsar_addresses::content::Text;
 use pulsar_messages::{Message, ProducerOptions};
-use pulsar_plans::content::Text;
+use pulsar_outgoing::content::Settings;
 use pulsar_wire::error::{Error, NoMemory};
 use std::marker::Model;
 
@@ -59,11 +59,14 @@ impl Producer {
         })
     }
 
-    /// Its topic.
+    /// Its topic. A single one has the name that was found: that of the one partition, where its topic has one.
     pub fn topic(&self) -> &str
-        ensures { result.now ≡ self.now.topic }
+        ensures { result.now ≡ topic_of self.now }
     {
-        self.topic.as_str()
+        match self.routes.as_slice() {
+            [single] => single.name.as_str(),
+            _ => self.topic.as_str(),
+        }
     }
 
     /// The names of its partitions in order. A single producer has none.

@@ -3,12 +3,12 @@
 ghost use Rattle.std.specs.Prelude.{◌≡◌, ◌<◌, ◌⊎◌, ℕ, map, Some, None, IfOk, MatchResult, slice_get, string_bytes};
 ghost use Rattle.std.specs.Option.{option_map};
 ghost use Rattle.pulsar_messages.specs.Content.{ProducerMessageValues, message_content};
-ghost use Rattle.pulsar_session.specs.Failures.{failure};
-ghost use Rattle.pulsar_producer.specs.Errors.{IsNoMemory, no_such_index};
+ghost use Rattle.pulsar_wire.specs.Failures.{failure};
+ghost use Rattle.pulsar_outgoing.specs.Errors.{IsNoMemory, no_such_index};
 ghost use Rattle.pulsar_producer.specs.Routing.{advice, asked, begun, chosen, chosen_on, count, in_range, last_by_key, number_at, of_key, routed, stepped};
 
+use pulsar_addresses::content::Text;
 use pulsar_messages::{Message, RoutingPolicy};
-use pulsar_plans::content::Text;
 use pulsar_wire::error::{ConnectionError, Error, NoMemory, ProducerError};
 use std::alloc::Global;
 use std::marker::Model;

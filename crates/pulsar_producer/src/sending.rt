@@ -1,32 +1,28 @@
 //! A send: its turn, its number, its frame, its receipt.
 
 ghost use Rattle.std.specs.Prelude.{◌≡◌, IfOk};
-ghost use Rattle.pulsar_session.specs.Failures.{fault};
-ghost use Rattle.pulsar_plans.specs.Plans.{verdict};
+ghost use Rattle.pulsar_wire.specs.Failures.{fault};
+ghost use Rattle.pulsar_searches.specs.Plans.{verdict};
 ghost use Rattle.pulsar_producer.specs.Batching.{is_sent_send};
-ghost use Rattle.pulsar_producer.specs.Errors.{in_producer};
+ghost use Rattle.pulsar_outgoing.specs.Errors.{in_producer};
 ghost use Rattle.pulsar_producer.specs.Plans as meaning;
 
-use crate::content::Outgoing;
-use crate::deed::{Deed, Drawn, News, Send, Step, error_told, in_producer};
-use crate::replies::given_by;
-use pulsar_plans::content::{Address, Refusal};
-use pulsar_plans::look::{self, Looking};
-use pulsar_plans::making::{self, Command, Making, Served, verdict};
-use pulsar_plans::turn::{Outcome, Turn, Ways, is_lost};
-use pulsar_session::Received;
+use crate::deed::{Deed, News, Send, Step, error_told};
+use pulsar_addresses::content::{Address, Refusal};
+use pulsar_frame::received::Received;
+use pulsar_outgoing::content::Outgoing;
+use pulsar_outgoing::failing::in_producer;
+use pulsar_outgoing::news::Drawn;
+use pulsar_outgoing::orders::Errand;
+use pulsar_outgoing::replies::given_by;
+use pulsar_searches::look::{self, Looking};
+use pulsar_searches::making::{self, Command, Making, Served, verdict};
+use pulsar_searches::turn::{Outcome, Turn, Ways, is_lost};
 use pulsar_wire::error::{ConnectionError, NoMemory};
 use std::alloc::Global;
 
 /// The number of the body that answers a message.
 const SEND_RECEIPT: u32 = 7;
-
-/// The number of the topic producer that is to send, and whether a message waits for room on its link.
-#[derive(Clone, Copy)]
-pub struct Errand {
-    pub producer: u64,
-    pub block: bool,
-}
 
 /// Where a send stands.
 #[derive(Drop)]

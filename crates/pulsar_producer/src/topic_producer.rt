@@ -3,15 +3,16 @@
 
 ghost use Rattle.std.specs.Prelude.{◌≡◌, not, ◌&&◌, IfOk, OnOk};
 ghost use Rattle.pulsar_producer.specs.Commands.{command, command_of};
-ghost use Rattle.pulsar_producer.specs.Storage.{item_of};
-ghost use Rattle.pulsar_producer.specs.Topic.{Closes, Cuts, Draws, Flushes, Halts, Passes, Remakes, Stores, Takes, TakesBatch, after, cuts, drawn, fresh, is_free, is_nothing, is_settled, next_batch, next_holder, stored_tickets, stores, unsent_tickets, wakes};
+ghost use Rattle.pulsar_outgoing.specs.Storage.{item_of};
+ghost use Rattle.pulsar_producer.specs.Topic.{Closes, Cuts, Draws, Flushes, Halts, Passes, Remakes, Stores, Takes, TakesBatch, after, cuts, drawn, fresh, is_free, is_settled, next_batch, next_holder, stored_tickets, stores, unsent_tickets, wakes};
+ghost use Rattle.pulsar_outgoing.specs.Storage.{is_nothing};
 
-use crate::content::{Batch, Built, Entry, Settings, Version};
-use crate::replies::Given;
-use crate::storage::{BatchItem, BatchStorage, Limits};
-use pulsar_plans::content::Text;
-use pulsar_plans::making::Command;
-use pulsar_plans::question::{Question, Request};
+use pulsar_addresses::content::Text;
+use pulsar_outgoing::content::{Batch, Built, Entry, Settings, Version};
+use pulsar_outgoing::replies::Given;
+use pulsar_outgoing::storage::{BatchItem, BatchStorage, Limits};
+use pulsar_searches::making::Command;
+use pulsar_searches::question::{Question, Request};
 use pulsar_wire::error::NoMemory;
 use std::alloc::Global;
 use std::collections::{BTreeSet, VecDeque};

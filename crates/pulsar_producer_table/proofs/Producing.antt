@@ -11,11 +11,11 @@ use Rattle.pulsar_messages.specs.Content.{ProducerMessageValues}
 use Rattle.pulsar_producer.specs.Producer as producer
 use Rattle.pulsar_producer.specs.Producer.{made}
 use Rattle.pulsar_producer.specs.Random.{first_index}
-use Rattle.pulsar_producer.specs.Storage.{limits_of}
+use Rattle.pulsar_outgoing.specs.Storage.{limits_of}
 use Rattle.pulsar_producer.specs.Topic.{Act, Closes, Seen, fresh}
-use Rattle.pulsar_producer.specs.declared.content.Built.{Built}
+use Rattle.pulsar_outgoing.specs.declared.content.Built.{Built}
 use Rattle.pulsar_producer.specs.declared.routing.Partition.{Partition}
-use Rattle.pulsar_producer.specs.declared.storage.Limits.{Limits}
+use Rattle.pulsar_outgoing.specs.declared.storage.Limits.{Limits}
 use Rattle.pulsar_calls.specs.declared.content.Building.{Building}
 use Rattle.pulsar_producer_table.specs.declared.table.Topic.{Topic}
 use Rattle.pulsar_producer_table.specs.Producers.{Producers, changed, joined, made_of, partition_of, routed, shut_all, topic_after, with_built, with_topic, with_topics}

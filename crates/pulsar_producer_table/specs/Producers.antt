@@ -5,22 +5,23 @@ use Rattle.std.specs.List.{flat_map, list_any}
 use Rattle.std.specs.Option.{is_some, option_map}
 use Rattle.std.specs.Ordering.{nat_cmp}
 use Rattle.pulsar_messages.specs.Content.{ProducerMessageValues}
-use Rattle.pulsar_session.specs.Link.{is_spent}
-use Rattle.pulsar_link.specs.Request.{named_producer}
-use Rattle.pulsar_plans.specs.declared.making.Command.{Command}
+use Rattle.pulsar_messages.specs.Claims.{is_spent}
+use Rattle.pulsar_exchange.specs.Request.{named_producer}
+use Rattle.pulsar_searches.specs.declared.making.Command.{Command}
 use Rattle.pulsar_producer.specs.Commands.{command_of}
 use Rattle.pulsar_producer.specs.Producer as producer
 use Rattle.pulsar_producer.specs.Producer.{number_on}
 use Rattle.pulsar_producer.specs.Random.{first_index}
 use Rattle.pulsar_producer.specs.Routing.{Policy}
 use Rattle.pulsar_producer.specs.Topic as topic
-use Rattle.pulsar_producer.specs.Storage.{Item, is_batching, limits_of}
-use Rattle.pulsar_producer.specs.Topic.{Act, Closes, Halts, fresh, is_free, is_nothing, is_settled, next_batch, next_holder, stored_tickets, unsent_tickets, wakes}
-use Rattle.pulsar_producer.specs.declared.content.Built.{Built}
-use Rattle.pulsar_producer.specs.declared.deed.Drawn.{Drawn}
+use Rattle.pulsar_outgoing.specs.Storage.{Item, is_batching, limits_of}
+use Rattle.pulsar_producer.specs.Topic.{Act, Closes, Halts, fresh, is_free, is_settled, next_batch, next_holder, stored_tickets, unsent_tickets, wakes}
+use Rattle.pulsar_outgoing.specs.Storage.{is_nothing}
+use Rattle.pulsar_outgoing.specs.declared.content.Built.{Built}
+use Rattle.pulsar_outgoing.specs.declared.news.Drawn.{Drawn}
 use Rattle.pulsar_producer.specs.declared.routing.Partition.{Partition}
-use Rattle.pulsar_producer.specs.declared.sending.Errand.{Errand}
-use Rattle.pulsar_producer.specs.declared.storage.Limits.{Limits}
+use Rattle.pulsar_outgoing.specs.declared.orders.Errand.{Errand}
+use Rattle.pulsar_outgoing.specs.declared.storage.Limits.{Limits}
 use Rattle.pulsar_calls.specs.declared.act.Refusal.{Refusal}
 use Rattle.pulsar_calls.specs.declared.act.Refusal.TheVariants as refusal
 use Rattle.pulsar_calls.specs.declared.content.Building.{Building}

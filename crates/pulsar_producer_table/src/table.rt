@@ -16,19 +16,19 @@ ghost use Rattle.pulsar_producer_table.specs.Notices.{stopped_all, stopped_call}
 ghost use Rattle.pulsar_calls.specs.Who.{in_turn};
 ghost use Rattle.pulsar_producer_table.specs.KeptProducers.{producers_of};
 
+use pulsar_addresses::content::Text;
 use pulsar_calls::act::{Notice, Outcome, Who};
 use pulsar_calls::content::{Advice, Building, Numbers, Remaking};
 use pulsar_calls::who::in_turn;
 use pulsar_messages::Message;
-use pulsar_plans::content::Text;
-use pulsar_plans::making::Command;
-use pulsar_producer::content::{Batch, Built, Entry, Parts, Settings, Version};
-use pulsar_producer::deed::Drawn;
+use pulsar_outgoing::content::{Batch, Built, Entry, Parts, Settings, Version};
+use pulsar_outgoing::news::Drawn;
+use pulsar_outgoing::orders::Errand;
+use pulsar_outgoing::storage::Limits;
 use pulsar_producer::random::first_index;
 use pulsar_producer::routing::Partition;
-use pulsar_producer::sending::Errand;
-use pulsar_producer::storage::Limits;
 use pulsar_producer::{CustomRoutingPolicy, Producer, TopicProducer};
+use pulsar_searches::making::Command;
 use pulsar_wire::error::NoMemory;
 use std::alloc::Global;
 use std::collections::{BTreeMap, BTreeSet};
@@ -136,7 +136,8 @@ impl Producers {
         messages: &[Message],
         policies: &[Box<dyn CustomRoutingPolicy>],
     ) -> Result<Advice, NoMemory>
-        ensures { IfOk result (λ a. a ≡ meaning.advice_in (map (λ p. routes p) policies.now) ((producers_of self.now).built ticket) (map message_content messages.now)) }
+        ensures { IfOk result (λ a. a ≡ meaning.advice_in (map (λ p. routes p) policies.now) ((producers_of self.now).built ticket)
+            (map message_content messages.now)) }
     {
         match self.built.get(&ticket) {
             Some(producer) => advice_of(self.alloc, producer, messages, policies),
@@ -548,7 +549,8 @@ fn behind(taken: u64, number: u64) -> u64
 }
 
 fn close(topics: &mut BTreeMap<u64, Topic>, number: u64)
-    ensures { (n : ℕ) → get nat_cmp topics.new n ≡ (if n == number then option_map (meaning.topic_after topic.Closes) (get nat_cmp topics.old n) else get nat_cmp topics.old n) }
+    ensures { (n : ℕ) → get nat_cmp topics.new n
+        ≡ (if n == number then option_map (meaning.topic_after topic.Closes) (get nat_cmp topics.old n) else get nat_cmp topics.old n) }
 {
     if let Some(topic) = topics.get_mut(&number) {
         topic.seen.close();

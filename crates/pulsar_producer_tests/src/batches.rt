@@ -2,9 +2,10 @@
 
 use pulsar_frame::batch::BatchedMessage;
 use pulsar_messages::ProducerOptions;
-use pulsar_producer::batch::{Receipt, size_in_i32};
-use pulsar_producer::content::{Entry, Settings};
-use pulsar_producer::{BatchItem, BatchStorage, message_from_text};
+use pulsar_messages::serialize::message_from_text;
+use pulsar_outgoing::batch::{Receipt, size_in_i32};
+use pulsar_outgoing::content::{Entry, Settings};
+use pulsar_outgoing::storage::{BatchItem, BatchStorage};
 use pulsar_wire::commands::ids::MessageIdData;
 use pulsar_wire::commands::producer::CommandSendReceipt;
 use pulsar_wire::error::NoMemory;

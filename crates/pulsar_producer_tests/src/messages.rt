@@ -1,9 +1,9 @@
 //! What is sent, by what is said of it.
 
+use pulsar_messages::message_builder::MessageBuilder;
+use pulsar_messages::serialize::{SerializeMessage, message_from_bytes, message_from_text};
 use pulsar_messages::{Message, ProducerMessage, ProducerOptions};
-use pulsar_producer::{
-    MessageBuilder, ProducerBuilder, SerializeMessage, message_from_bytes, message_from_text,
-};
+use pulsar_outgoing::producer_builder::ProducerBuilder;
 use std::alloc::Global;
 use std::test::Fail;
 

@@ -1,10 +1,10 @@
 //! Which partition a message goes to.
 
+use pulsar_addresses::content::Text;
+use pulsar_addresses::random::connection_id;
 use pulsar_messages::{Message, ProducerOptions, RoutingPolicy};
-use pulsar_plans::content::Text;
-use pulsar_plans::random::connection_id;
+use pulsar_outgoing::content::Settings;
 use pulsar_producer::Producer;
-use pulsar_producer::content::Settings;
 use pulsar_producer::routing::{Partition, PartitionedProducer};
 use std::alloc::Global;
 use std::test::Fail;
@@ -96,6 +96,21 @@ fn partitions_are_chosen(rt: HostRuntime) -> Result<(), Fail> {
                 .is_ok_and(|chosen| chosen == index)
         );
     }
+    Ok(())
+}
+
+#[test]
+fn a_single_producer_has_the_found_name(rt: HostRuntime) -> Result<(), Fail> {
+    let alloc = rt.alloc();
+    let settings = Settings::new(alloc, ProducerOptions::new(alloc))?;
+    let name = Text::new(String::from_str(alloc, "t-partition-0")?);
+    let mut partitions = Vec::new(alloc);
+    partitions.push(Partition { name, number: 5 })?;
+    let topic = Text::new(String::from_str(alloc, "t")?);
+    let Some(producer) = Producer::new(topic, settings, partitions, 0) else {
+        return Err(Fail::new("no producer"));
+    };
+    assert_eq!(rt; producer.topic(), "t-partition-0");
     Ok(())
 }
 

@@ -93,7 +93,8 @@ fn submit_bytes<S: Submitter>(
     piece: Vec<u8>,
     made: &mut Vec<(Event, Receipt)>,
 ) -> Result<(), NoMemory>
-    ensures ok { OnOk result ((m : Made) × (m.event ≡ Bytes link piece.items) × (map made_of made.new.items ≡ map made_of made.old.items ++ m ∷ []) × Grows (S.told submitter.old) (S.told submitter.new) (m ∷ [])) }
+    ensures ok { OnOk result ((m : Made) × (m.event ≡ Bytes link piece.items) × (map made_of made.new.items ≡ map made_of made.old.items ++ m ∷ [])
+        × Grows (S.told submitter.old) (S.told submitter.new) (m ∷ [])) }
     ensures made { OnErr result (map made_of made.new.items ≡ map made_of made.old.items) }
     ensures told { OnErr result (S.told submitter.new ≡ S.told submitter.old) }
 {
@@ -110,7 +111,8 @@ fn submit_lost<S: Submitter>(
     link: u64,
     made: &mut Vec<(Event, Receipt)>,
 ) -> Result<(), NoMemory>
-    ensures ok { OnOk result ((m : Made) × (m.event ≡ Lost link) × (map made_of made.new.items ≡ map made_of made.old.items ++ m ∷ []) × Grows (S.told submitter.old) (S.told submitter.new) (m ∷ [])) }
+    ensures ok { OnOk result ((m : Made) × (m.event ≡ Lost link) × (map made_of made.new.items ≡ map made_of made.old.items ++ m ∷ [])
+        × Grows (S.told submitter.old) (S.told submitter.new) (m ∷ [])) }
     ensures made { OnErr result (map made_of made.new.items ≡ map made_of made.old.items) }
     ensures told { OnErr result (S.told submitter.new ≡ S.told submitter.old) }
 {
@@ -122,7 +124,8 @@ fn submit_lost<S: Submitter>(
 
 /// The next piece, or none where the take failed or gave nothing.
 fn take_piece<I: Input>(alloc: Global, input: &mut I) -> Result<Option<Vec<u8>>, NoMemory>
-    ensures piece { IfOk result (λ o. MatchOption o (Grows (I.given input.old) (I.given input.new) []) (λ v. Grows (I.given input.old) (I.given input.new) v.items)) }
+    ensures piece { IfOk result (λ o. MatchOption o (Grows (I.given input.old) (I.given input.new) [])
+        (λ v. Grows (I.given input.old) (I.given input.new) v.items)) }
     ensures rises { IfOk result (λ o. MatchOption o (Rose (I.faults input.old) (I.faults input.new)) (λ v. Unit {0})) }
     ensures err { OnErr result ((rest : List ℕ) × Grows (I.given input.old) (I.given input.new) rest) }
     ensures grows { I.faults input.old ≤ I.faults input.new }
@@ -210,7 +213,8 @@ fn to_write(effect: &Effect) -> Option<&[u8]>
 
 /// Puts the bytes of each Write.
 fn put_effects<O: Output>(output: &mut O, effects: &[Effect]) -> Put
-    ensures puts { (rest : List ℕ) × Puts (O.taken output.old) (O.taken output.new) (O.faults output.old) (O.faults output.new) (bytes_in (map shown effects.now)) rest × PutEnds result (map shown effects.now) (O.faults output.old) (O.faults output.new) rest }
+    ensures puts { (rest : List ℕ) × Puts (O.taken output.old) (O.taken output.new) (O.faults output.old) (O.faults output.new)
+        (bytes_in (map shown effects.now)) rest × PutEnds result (map shown effects.now) (O.faults output.old) (O.faults output.new) rest }
     ensures stays { O.is_shut output.new ≡ O.is_shut output.old }
 {
     let mut any = false;

@@ -9,9 +9,9 @@ use Rattle.std.specs.Ordering.{nat_cmp}
 use Rattle.std.specs.BTreeMap.{is_at, insert_entry}
 use Rattle.std.specs.Map.{lookup, remove_entry}
 use Rattle.std.specs.Global.{Vec}
-use Rattle.pulsar_requests.specs.declared.awaited.Awaited.{Awaited}
+use Rattle.pulsar_wire.specs.declared.awaited.Awaited.{Awaited}
 use Rattle.pulsar_requests.specs.declared.requests.Waiter.{Waiter}
-use Rattle.pulsar_requests.specs.Awaited.{is_same}
+use Rattle.pulsar_wire.specs.Awaited.{is_same}
 use Rattle.pulsar_wire.specs.Sink.{capped}
 use Rattle.pulsar_requests.specs.Waits.{Pending, found, is_due, is_excused, later_of, others, places, request_at}
 use Rattle.pulsar_requests.specs.Kept.{AllFrom, AllUpTo, Ascends, Taken, all_pending, listed, pending_at, places_of}

@@ -13,10 +13,10 @@ use Rattle.std.specs.Ordering.{is_gt}
 use Rattle.std.specs.Ordering.{nat_cmp}
 use Rattle.std.specs.BTreeMap.{is_at}
 use Rattle.std.specs.Map.{keys_of, lookup}
-use Rattle.pulsar_requests.specs.declared.awaited.Awaited.{Awaited}
-use Rattle.pulsar_requests.specs.declared.awaited.Awaited.TheVariants.{Pong, Reply, Receipt}
+use Rattle.pulsar_wire.specs.declared.awaited.Awaited.{Awaited}
+use Rattle.pulsar_wire.specs.declared.awaited.Awaited.TheVariants.{Pong, Reply, Receipt}
 use Rattle.pulsar_requests.specs.declared.requests.Waiter.{Waiter}
-use Rattle.pulsar_requests.specs.Awaited.{is_same}
+use Rattle.pulsar_wire.specs.Awaited.{is_same}
 use Rattle.pulsar_requests.specs.Kept.{Ascends, all_pending, excuses, is_timed, pending_at, places_of}
 use Rattle.pulsar_requests.specs.Waits.{is_due, is_excused, is_listed}
 use Rattle.pulsar_requests.proofs.Awaiting.{is_at-eqb}

@@ -6,11 +6,11 @@ use Rattle.std.specs.BTreeSet.{BTreeSet, contains}
 use Rattle.std.specs.Map.{lookup}
 use Rattle.std.specs.Global.{Vec}
 use Rattle.pulsar_wire.specs.Sink.{capped}
-use Rattle.pulsar_requests.specs.declared.awaited.Awaited.{Awaited}
-use Rattle.pulsar_requests.specs.declared.awaited.Awaited.TheVariants.{Reply}
+use Rattle.pulsar_wire.specs.declared.awaited.Awaited.{Awaited}
+use Rattle.pulsar_wire.specs.declared.awaited.Awaited.TheVariants.{Reply}
 use Rattle.pulsar_requests.specs.declared.requests.Waiter.{Waiter}
 use Rattle.pulsar_requests.specs.declared.requests.Requests.TheInside.{Inside}
-use Rattle.pulsar_requests.specs.Awaited.{awaited_cmp, is_same}
+use Rattle.pulsar_wire.specs.Awaited.{awaited_cmp, is_same}
 use Rattle.pulsar_requests.specs.Waits.{Pending, Waits, is_excused, others}
 
 abbrev pub pending_at : ℕ × Waiter → Pending

@@ -1,4 +1,3 @@
-pub mod Awaited
 pub mod Waits
 pub mod Kept
 pub mod Soonest

@@ -6,10 +6,10 @@ use Rattle.std.specs.BTreeMap.{is_at}
 use Rattle.std.specs.BTreeSet.{insert_key}
 use Rattle.std.specs.Set.{remove_key}
 use Rattle.pulsar_wire.specs.Sink.{capped}
-use Rattle.pulsar_requests.specs.declared.awaited.Awaited.{Awaited}
-use Rattle.pulsar_requests.specs.declared.awaited.Awaited.TheVariants.{Pong, Reply, Receipt}
-use Rattle.pulsar_requests.specs.declared.awaited.Claim.{Claim}
-use Rattle.pulsar_requests.specs.Awaited.{is_same, is_one}
+use Rattle.pulsar_wire.specs.declared.awaited.Awaited.{Awaited}
+use Rattle.pulsar_wire.specs.declared.awaited.Awaited.TheVariants.{Pong, Reply, Receipt}
+use Rattle.pulsar_wire.specs.declared.awaited.Claim.{Claim}
+use Rattle.pulsar_wire.specs.Awaited.{is_same, is_one}
 
 -- A request that waits: what for, its place on the connection, when it is due, and whether it makes a producer.
 pub record Pending : Type 0 where

@@ -6,12 +6,12 @@ ghost use Rattle.std.specs.Ordering.{nat_cmp};
 ghost use Rattle.std.specs.BTreeMap as maps;
 ghost use Rattle.std.specs.BTreeSet.{contains, insert_key};
 ghost use Rattle.pulsar_wire.specs.Sink.{capped};
-ghost use Rattle.pulsar_requests.specs.Awaited.{is_same};
+ghost use Rattle.pulsar_wire.specs.Awaited.{is_same};
 ghost use Rattle.pulsar_requests.specs.Kept.{AreTimed, AreUntimed, IsTimedToo, Taken, excuses, is_timed, places_of};
 ghost use Rattle.pulsar_requests.specs.Soonest.{due_at};
 ghost use Rattle.pulsar_requests.specs.Waits.{Waits, answered_by, any_due, ended, found, is_empty, is_excused, is_listed, is_overdue, later_of, named, places, told, with_next, without};
 
-use crate::awaited::{Awaited, Claim};
+use pulsar_wire::awaited::{Awaited, Claim};
 use pulsar_wire::error::NoMemory;
 use std::alloc::Global;
 use std::collections::{BTreeMap, BTreeSet};

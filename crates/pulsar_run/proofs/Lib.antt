@@ -3,3 +3,4 @@ pub mod Unique
 pub mod Effects
 pub mod Steps
 pub mod Arising
+pub mod Things

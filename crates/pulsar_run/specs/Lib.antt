@@ -2,3 +2,4 @@ pub mod Order
 pub mod Run
 pub mod Standing
 pub mod Laws
+pub mod Things

@@ -56,13 +56,16 @@ pub record Agenda (A N P : Type 0) : Type 0 where
 abbrev pub only : {A N P : Type 0} → List P → Agenda A N P
 only parts = record { now = []; here = []; behind = []; parts = parts }
 
--- the act that is first in these lists
+-- the act that is first in these lists, where these are the acts of a notice and of a part
+abbrev pub first_by : {A N P : Type 0} → (N → A) → (P → A) → List A → List N → List (List N) → List P → Option A
+first_by told comes (a ∷ now) here behind parts = Some a
+first_by told comes [] (n ∷ here) behind parts = Some (told n)
+first_by told comes [] [] (cause ∷ behind) parts = first_by told comes [] cause behind parts
+first_by told comes [] [] [] (part ∷ parts) = Some (comes part)
+first_by told comes [] [] [] [] = None
+
 abbrev pub first_of : {O H V A N P E : Type 0} → Rules O H V A N P E → List A → List N → List (List N) → List P → Option A
-first_of r (a ∷ now) here behind parts = Some a
-first_of r [] (n ∷ here) behind parts = Some (r.told n)
-first_of r [] [] (cause ∷ behind) parts = first_of r [] cause behind parts
-first_of r [] [] [] (part ∷ parts) = Some (r.comes part)
-first_of r [] [] [] [] = None
+first_of r now here behind parts = first_by r.told r.comes now here behind parts
 
 -- what is left behind it
 abbrev pub rest_of : {A N P : Type 0} → List A → List N → List (List N) → List P → Agenda A N P

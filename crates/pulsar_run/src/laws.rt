@@ -2,6 +2,7 @@
 //! The types are those of the rules: options, events, what is seen, acts, notices, parts of events and effects.
 
 ghost use Rattle.pulsar_run.specs.Laws.{ActsArise, CausesInOrder, Determined, EffectsArranged, KindsInOrder, OlderIsRun};
+ghost use Rattle.pulsar_run.specs.Things.{ThingsAlone};
 
 /// Options and events determine the effects of a good run.
 pub fn determined<O, H, V, A, N, P, E>()
@@ -32,4 +33,9 @@ pub fn causes_in_order<O, H, V, A, N, P, E>()
 /// Whatever is done has arisen before, in the same step: from an event, as a part of it, or from an act.
 pub fn acts_arise<O, H, V, A, N, P, E>()
     ensures { ActsArise O H V A N P E }
+{}
+
+/// A thing, as a link or a producer, is what was done to it since it was born, and nothing else: `Keeps` says what makes it one.
+pub fn things_alone<O, H, V, A, N, P, F, K, S, E>()
+    ensures { ThingsAlone O H V A N P F K S E }
 {}

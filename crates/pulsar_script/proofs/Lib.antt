@@ -1,14 +1,7 @@
-pub mod Lines
-pub mod Errors
-pub mod Numbers
-pub mod Printed
 pub mod WrittenLines
 pub mod WrittenRaw
 pub mod WrittenProducers
 pub mod WrittenConsumers
 pub mod WrittenMessages
 pub mod WrittenAsked
-pub mod Producers
-pub mod Consumers
 pub mod ReadBack
-pub mod Folds

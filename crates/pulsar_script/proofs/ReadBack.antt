@@ -12,14 +12,14 @@ use Rattle.pulsar_wire.specs.declared.error.IoKind.{IoKind}
 use Rattle.pulsar_wire.specs.declared.error.IoKind.TheVariants.{ConnectionRefused, TimedOut, Other}
 use Rattle.pulsar_messages.specs.Content.{ProducerMessageValues}
 use Rattle.pulsar_messages.specs.Words.{Words}
-use Rattle.pulsar_consumer.specs.Content.{ConsumerWanted}
-use Rattle.pulsar_producer.specs.Wanted.{ProducerWanted}
+use Rattle.pulsar_incoming.specs.Content.{ConsumerWanted}
+use Rattle.pulsar_outgoing.specs.Wanted.{ProducerWanted}
 use Rattle.pulsar_calls.specs.Content.{Asked, Build, Stop, Topics, Lookup, Partitions, Brokers, Producer, Send, SendAll, Flush, CheckProducer, CloseProducer, Consumer, Ack, Nack, CloseConsumer, Raw, Heard, Called, Opened, FailedToOpen, Bytes, Lost, Drain, Ticked, Poll}
-use Rattle.pulsar_script.specs.Words.{words}
-use Rattle.pulsar_script.specs.WordText.{word}
-use Rattle.pulsar_script.specs.Choices.{kind as kind_in}
-use Rattle.pulsar_script.specs.ErrorText.{io_kind}
-use Rattle.pulsar_script.specs.Grammar.{Setting, Url, Auth, Outbound, Timeout, RetryDelay, OpRetries, Retries, MinBackoff, MaxBackoff, ConnectionTimeout, KeepAlive, MaxIdle, Seed, First, Now, Sets, Happens, line, words_line}
+use Rattle.pulsar_grammar.specs.Words.{words}
+use Rattle.pulsar_printing.specs.WordText.{word}
+use Rattle.pulsar_grammar.specs.Choices.{kind as kind_in}
+use Rattle.pulsar_printing.specs.ErrorText.{io_kind}
+use Rattle.pulsar_grammar.specs.Grammar.{Setting, Url, Auth, Outbound, Timeout, RetryDelay, OpRetries, Retries, MinBackoff, MaxBackoff, ConnectionTimeout, KeepAlive, MaxIdle, Seed, First, Now, Sets, Happens, line, words_line}
 use Rattle.pulsar_script.specs.Written.{CanBeAsked, CanBeSet, CanBeWritten, ack_word, acked_words, written, written_setting}
 use Rattle.pulsar_script.specs.WrittenRaw.{CanBeMade, CanBeSaid, CanBeSent, CanConsume, IsCount, IsId, IsNumber, IsText, Where, consumer_words, credential_words, message_words, messages_words, mode_word, producer_words, raw_words}
 use Rattle.pulsar_script.proofs.WrittenLines.{IsWithinWord, one-word, first-word, decimal-within, number-decimal, hex-within, hex-encoded, word-within, text-word}

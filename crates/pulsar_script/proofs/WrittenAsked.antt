@@ -2,7 +2,7 @@
 use Rattle.std.proofs.Common.{◌≡◌, ◌^◌, ◌<◌, arith, codes, refl, Some}
 use Rattle.std.specs.List.{AllByRecursion}
 use Rattle.pulsar_messages.specs.Words.{Words, SendPing, SendPong, AuthChallenge, LookupTopic, LookupPartitionedTopic, GetTopicsOfNamespace, GetSchema, CreateProducer, Send, CloseProducer, Subscribe, SendFlow, SendAck, SendRedeliver, Seek, GetLastMessageId, GetConsumerStats, Unsubscribe, CloseConsumer, CloseConsumerUnawaited}
-use Rattle.pulsar_script.specs.RawLines.{raw_call}
+use Rattle.pulsar_grammar.specs.RawLines.{raw_call}
 use Rattle.pulsar_script.specs.WrittenRaw.{CanBeSaid, raw_words}
 use Rattle.pulsar_script.proofs.WrittenLines.{IsWithinWord, decimal-within, number-decimal, text-word, word-within}
 use Rattle.pulsar_script.proofs.WrittenConsumers.{subscriber-reads, subscriber-within}

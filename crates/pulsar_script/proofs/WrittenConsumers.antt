@@ -15,9 +15,9 @@ use Rattle.pulsar_wire.specs.declared.commands.enumerations.InitialPosition.{Ini
 use Rattle.pulsar_wire.specs.declared.commands.enumerations.InitialPosition.TheVariants.{Latest, Earliest}
 use Rattle.pulsar_wire.specs.declared.commands.enumerations.SubType.{SubType}
 use Rattle.pulsar_messages.specs.Content.{ConsumerOptionsValues, Property, empty_consumer_options}
-use Rattle.pulsar_consumer.specs.Content.{ConsumerWanted, also_reads, no_consumer}
-use Rattle.pulsar_script.specs.ConsumerWords.{Draft, all, blank, consumer, level, one, subscriber_in, who_subscribes, with_meta, with_options}
-use Rattle.pulsar_script.specs.WordText.{word}
+use Rattle.pulsar_incoming.specs.Content.{ConsumerWanted, also_reads, no_consumer}
+use Rattle.pulsar_grammar.specs.ConsumerWords.{Draft, all, blank, consumer, level, one, subscriber_in, who_subscribes, with_meta, with_options}
+use Rattle.pulsar_printing.specs.WordText.{word}
 use Rattle.pulsar_script.specs.WrittenRaw.{CanConsume, CanSubscribe, IsCount, IsId, IsNumber, IsProperty, IsSchema, IsText, IsUnsigned, Where, consumer_words, flag_word, id_word, meta_word, position_words, signed_word, sub_type_word, subscriber_words}
 use Rattle.pulsar_script.proofs.WrittenLines.{IsWithinWord, decimal-within, hex-within, number-decimal, same-some, text-word, word-within}
 use Rattle.pulsar_script.proofs.WrittenProducers.{meta-within, schema-read, small}

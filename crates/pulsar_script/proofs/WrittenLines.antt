@@ -10,10 +10,10 @@ use Rattle.std.proofs.lemmas.List.Splits.{slice_split_at, slice_split_none}
 use Rattle.std.proofs.lemmas.Option.{none-some}
 use Rattle.hex.specs.Hex.{IsBytes, decode_of, encode_lower, hex_digit_value, is_hex_digit}
 use Rattle.hex.proofs.HexLemmas.{decode_of-encode_lower, decode_of-ok}
-use Rattle.pulsar_script.specs.Words.{digits_from, hex, in_range, is_digit, is_plain, number, text, unescaped, word_bytes, words}
-use Rattle.pulsar_script.specs.WordText.{is_printed, printed, upper_digit, word}
+use Rattle.pulsar_grammar.specs.Words.{digits_from, hex, in_range, is_digit, is_plain, number, text, unescaped, word_bytes, words}
+use Rattle.pulsar_printing.specs.WordText.{is_printed, printed, upper_digit, word}
 use Rattle.std.proofs.lemmas.Slice.Eq.{bytes_eq-Decides}
-use Rattle.pulsar_script.proofs.Numbers.{all-read}
+use Rattle.pulsar_grammar.proofs.Numbers.{all-read}
 
 -- no blank is in a word
 abbrev pub IsWithinWord : List ℕ → Type 0

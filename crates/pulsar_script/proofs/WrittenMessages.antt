@@ -7,8 +7,8 @@ use Rattle.std.proofs.lemmas.List.Elements.{All-cons, All-nil}
 use Rattle.std.proofs.lemmas.List.Splits.{slice_split_at, slice_split_none}
 use Rattle.std.specs.Fmt.{decimal}
 use Rattle.pulsar_messages.specs.Content.{ProducerMessageValues}
-use Rattle.pulsar_script.specs.MessageWords.{all_messages, messages, with_message}
-use Rattle.pulsar_script.specs.WordText.{word}
+use Rattle.pulsar_grammar.specs.MessageWords.{all_messages, messages, with_message}
+use Rattle.pulsar_printing.specs.WordText.{word}
 use Rattle.pulsar_script.specs.WrittenRaw.{CanBeSent, message_words, messages_words, property_word, signed_word}
 use Rattle.pulsar_script.proofs.WrittenLines.{IsWithinWord}
 use Rattle.pulsar_script.proofs.WrittenRaw.{all-both, message-reads, message-said, tested-within}

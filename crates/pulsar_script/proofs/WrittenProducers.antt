@@ -17,10 +17,10 @@ use Rattle.pulsar_wire.proofs.RoundTrip.{round_trip}
 use Rattle.pulsar_messages.specs.Content.{ProducerOptionsValues, Property, empty_producer_options}
 use Rattle.pulsar_messages.specs.declared.routing_policy.RoutingPolicy.{RoutingPolicy}
 use Rattle.pulsar_messages.specs.declared.routing_policy.RoutingPolicy.TheVariants.{RoundRobin, Single, Custom}
-use Rattle.pulsar_producer.specs.Wanted.{ProducerWanted}
-use Rattle.pulsar_script.specs.Encoded.{schema_of}
-use Rattle.pulsar_script.specs.ProducerWords.{Draft, all, blank, one, options, options_in, policy, producer, signed_32, unsigned_32, with_meta, with_options}
-use Rattle.pulsar_script.specs.WordText.{word}
+use Rattle.pulsar_outgoing.specs.Wanted.{ProducerWanted}
+use Rattle.pulsar_grammar.specs.Encoded.{schema_of}
+use Rattle.pulsar_grammar.specs.ProducerWords.{Draft, all, blank, one, options, options_in, policy, producer, signed_32, unsigned_32, with_meta, with_options}
+use Rattle.pulsar_printing.specs.WordText.{word}
 use Rattle.pulsar_script.specs.WrittenRaw.{CanBeMade, IsCount, IsUnsigned, IsNumber, IsPolicy, IsProperty, IsSchema, IsText, Where, block_words, flag_word, meta_word, option_words, policy_word, producer_words, signed_word}
 use Rattle.pulsar_script.proofs.WrittenLines.{IsWithinWord, decimal-within, hex-encoded, hex-within, number-decimal, same-some, text-word, word-within}
 use Rattle.pulsar_script.proofs.WrittenRaw.{AreBelow, NoEquals, all-both, all-map, cut-at, flag-reads, flag-within, front-within, more-below, none-below, stands-last, tested-within, word-free}

@@ -29,12 +29,12 @@ use Rattle.pulsar_wire.specs.declared.commands.topics.Mode.{Mode}
 use Rattle.pulsar_wire.specs.declared.commands.topics.Mode.TheVariants.{Persistent, NonPersistent, All}
 use Rattle.pulsar_wire.proofs.RoundTrip.{round_trip}
 use Rattle.pulsar_messages.specs.Content.{AuthenticationValues, ProducerMessageValues, Property}
-use Rattle.pulsar_script.specs.Words.{hex, in_range, is_digit, number, optional, small_number, text, word_bytes, words}
-use Rattle.pulsar_script.specs.Choices.{cumulative, flag, mode, sub_type}
-use Rattle.pulsar_script.specs.WordText.{is_printed, printed, upper_digit, word}
-use Rattle.pulsar_script.specs.MessageWords.{Draft, all, blank, cut, message, minus, one, plus, signed, with_cluster, with_data, with_property}
-use Rattle.pulsar_script.specs.Encoded.{id, id_bytes}
-use Rattle.pulsar_script.specs.RawLines.{credential}
+use Rattle.pulsar_grammar.specs.Words.{hex, in_range, is_digit, number, optional, small_number, text, word_bytes, words}
+use Rattle.pulsar_grammar.specs.Choices.{cumulative, flag, mode, sub_type}
+use Rattle.pulsar_printing.specs.WordText.{is_printed, printed, upper_digit, word}
+use Rattle.pulsar_grammar.specs.MessageWords.{Draft, all, blank, cut, message, minus, one, plus, signed, with_cluster, with_data, with_property}
+use Rattle.pulsar_grammar.specs.Encoded.{id, id_bytes}
+use Rattle.pulsar_grammar.specs.RawLines.{credential}
 use Rattle.pulsar_script.specs.WrittenRaw.{CanBeSent, IsCredential, IsId, IsNumber, IsProperty, IsSigned, IsText, Where, behind_blanks, credential_words, cumulative_word, flag_word, id_word, message_words, mode_word, optional_word, plain, property_word, signed_word, sub_type_word}
 use Rattle.pulsar_script.proofs.WrittenLines.{IsWithinWord, decimal-within, first-word, hex-encoded, hex-within, number-decimal, one-word, same-some, single, step-off, text-word, word-bytes, word-within}
 

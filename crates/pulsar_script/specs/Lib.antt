@@ -1,14 +1,2 @@
-pub mod Words
-pub mod Choices
-pub mod Encoded
-pub mod MessageWords
-pub mod ProducerWords
-pub mod ConsumerWords
-pub mod RawLines
-pub mod Grammar
-pub mod WordText
-pub mod ErrorText
-pub mod Text
-pub mod Parsed
 pub mod WrittenRaw
 pub mod Written

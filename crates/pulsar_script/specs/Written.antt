@@ -6,9 +6,9 @@ use Rattle.hex.specs.Hex.{IsBytes, encode_lower}
 use Rattle.pulsar_wire.specs.Row.{Values}
 use Rattle.pulsar_wire.specs.Rows.{message_id}
 use Rattle.pulsar_calls.specs.Content.{Asked, Build, Stop, Topics, Lookup, Partitions, Brokers, Producer, Send, SendAll, Flush, CheckProducer, CloseProducer, Consumer, Ack, Nack, CloseConsumer, Raw, Heard, Called, Opened, FailedToOpen, Bytes, Lost, Drain, Ticked, Poll}
-use Rattle.pulsar_script.specs.Grammar.{Setting, Url, Auth, Outbound, Timeout, RetryDelay, OpRetries, Retries, MinBackoff, MaxBackoff, ConnectionTimeout, KeepAlive, MaxIdle, Seed, First, Now, Sets, Happens, line}
-use Rattle.pulsar_script.specs.ErrorText.{io_kind}
-use Rattle.pulsar_script.specs.WordText.{word}
+use Rattle.pulsar_grammar.specs.Grammar.{Setting, Url, Auth, Outbound, Timeout, RetryDelay, OpRetries, Retries, MinBackoff, MaxBackoff, ConnectionTimeout, KeepAlive, MaxIdle, Seed, First, Now, Sets, Happens, line}
+use Rattle.pulsar_printing.specs.ErrorText.{io_kind}
+use Rattle.pulsar_printing.specs.WordText.{word}
 use Rattle.pulsar_script.specs.WrittenRaw.{CanBeMade, CanBeSaid, CanBeSent, CanConsume, IsCount, IsCredential, IsId, IsNumber, IsText, Where, behind_blanks, consumer_words, credential_words, id_word, message_words, messages_words, mode_word, producer_words, raw_words}
 
 -- one message, or all up to it

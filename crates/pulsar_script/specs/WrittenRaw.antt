@@ -20,10 +20,10 @@ use Rattle.pulsar_wire.specs.declared.commands.topics.Mode.TheVariants.{Persiste
 use Rattle.pulsar_messages.specs.Content.{AuthenticationValues, ConsumerOptionsValues, ProducerMessageValues, ProducerOptionsValues, Property}
 use Rattle.pulsar_messages.specs.declared.routing_policy.RoutingPolicy.{RoutingPolicy}
 use Rattle.pulsar_messages.specs.declared.routing_policy.RoutingPolicy.TheVariants.{RoundRobin, Single, Custom}
-use Rattle.pulsar_consumer.specs.Content.{ConsumerWanted}
-use Rattle.pulsar_producer.specs.Wanted.{ProducerWanted}
+use Rattle.pulsar_incoming.specs.Content.{ConsumerWanted}
+use Rattle.pulsar_outgoing.specs.Wanted.{ProducerWanted}
 use Rattle.pulsar_messages.specs.Words.{Words, SendPing, SendPong, AuthChallenge, LookupTopic, LookupPartitionedTopic, GetTopicsOfNamespace, GetSchema, CreateProducer, Send, CloseProducer, Subscribe, SendFlow, SendAck, SendRedeliver, Seek, GetLastMessageId, GetConsumerStats, Unsubscribe, CloseConsumer, CloseConsumerUnawaited}
-use Rattle.pulsar_script.specs.WordText.{word}
+use Rattle.pulsar_printing.specs.WordText.{word}
 
 -- WORDS
 

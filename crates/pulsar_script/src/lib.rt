@@ -1,6 +1,4 @@
-//! The lines of a script: what each one says, and the text of what a client shows.
+//! What is written in the language of scripts reads back: laws of its lines.
 #![tactic(auto)]
 
-pub mod grammar;
 pub mod laws;
-pub mod printing;

@@ -11,9 +11,10 @@ use Rattle.pulsar_frame.specs.declared.message.Message.{Message}
 use Rattle.pulsar_messages.specs.declared.messages.MessageParts.{MessageParts}
 use Rattle.pulsar_messages.specs.Messages.{PayloadContent, payload_content}
 use Rattle.pulsar_messages.specs.Words.{Words, is_numbered, when_full}
-use Rattle.pulsar_requests.specs.declared.awaited.Claim.{Claim}
+use Rattle.pulsar_wire.specs.declared.awaited.Claim.{Claim}
 use Rattle.pulsar_session.specs.declared.states.Asked.{Asked}
-use Rattle.pulsar_session.specs.Link.{Asks, Seen, after, after_of, answer_of, asked, asked_for, asks_for, bare, can_wait, claim, drawn, frame_for, is_memory, message_of, number_for, payload_values_of, place_of, put_frame, request, ticked}
+use Rattle.pulsar_session.specs.Link.{Asks, Seen, after, after_of, answer_of, asked, asked_for, asks_for, bare, can_wait, drawn, frame_for, is_memory, message_of, number_for, payload_values_of, place_of, put_frame, request, ticked}
+use Rattle.pulsar_messages.specs.Claims.{claim}
 
 module _ (now id : ℕ) (words : Words) (v u w x : Seen) (r : Result Asked ConnectionError) (f : Option (List ℕ)) (c : Option Claim) (b : Bool)
     (told : u ≡ ticked now v) (number : Ok id ≡ number_for (is_numbered words) u) (draws : w ≡ drawn (is_numbered words) u)

@@ -8,9 +8,9 @@ use Rattle.pulsar_wire.specs.declared.key.RequestKey.{RequestKey}
 use Rattle.pulsar_wire.specs.declared.key.RequestKey.TheVariants.{RequestId, ProducerSend, Consumer, CloseConsumer, AuthChallenge}
 use Rattle.pulsar_frame.specs.Message.{MessageValues}
 use Rattle.pulsar_frame.specs.Key.{body_key, key}
-use Rattle.pulsar_requests.specs.declared.awaited.Awaited.{Awaited}
-use Rattle.pulsar_requests.specs.declared.awaited.Awaited.TheVariants.{Pong, Reply, Receipt}
-use Rattle.pulsar_requests.specs.Awaited.{is_one, is_same}
+use Rattle.pulsar_wire.specs.declared.awaited.Awaited.{Awaited}
+use Rattle.pulsar_wire.specs.declared.awaited.Awaited.TheVariants.{Pong, Reply, Receipt}
+use Rattle.pulsar_wire.specs.Awaited.{is_one, is_same}
 use Rattle.pulsar_requests.specs.Waits.{Pending, Waits, answered_by, found, others, without}
 use Rattle.pulsar_requests.proofs.Awaiting.{is_at-eqb}
 use Rattle.pulsar_session.specs.Answers.{answers, answers_by, awaited_by, awaited_by_key, is}

@@ -5,9 +5,10 @@ use Rattle.std.specs.List.{list_any}
 use Rattle.std.specs.Option.{is_none, option_map}
 use Rattle.pulsar_wire.specs.declared.error.ConnectionError.{ConnectionError}
 use Rattle.pulsar_wire.specs.declared.error.ConnectionError.TheVariants as error
-use Rattle.pulsar_requests.specs.declared.awaited.Claim.{Claim}
+use Rattle.pulsar_wire.specs.declared.awaited.Claim.{Claim}
 use Rattle.pulsar_session.specs.declared.states.Asked.TheVariants.{Queued}
-use Rattle.pulsar_session.specs.Link.{Seen, after_of, answer_of, can_wait, claim, drawn, due_in, frame_for, has_room, is_ready, is_spent, number_for, place_in, place_of, put_frame, put_in, request, seen, ticked}
+use Rattle.pulsar_session.specs.Link.{Seen, after_of, answer_of, can_wait, drawn, due_in, frame_for, has_room, is_ready, number_for, place_in, place_of, put_frame, put_in, request, seen, ticked}
+use Rattle.pulsar_messages.specs.Claims.{claim, is_spent}
 use Rattle.pulsar_requests.specs.Waits.{Pending, Waits, is_due, is_overdue, is_some_due, request_at, request_of, waits_for}
 use Rattle.pulsar_messages.specs.Words.{Words, is_numbered, when_full}
 use Rattle.pulsar_session.specs.Laws.{DueIsOverdue, Outcome, QueuedWaits, WaitsUntilSettled, outcome, told_of}

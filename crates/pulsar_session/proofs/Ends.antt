@@ -8,7 +8,8 @@ use Rattle.pulsar_requests.specs.Waits.{ended, places}
 use Rattle.pulsar_session.specs.declared.states.Stage.{Stage}
 use Rattle.pulsar_session.specs.declared.states.Stage.TheVariants.{Dialing, Handshaking, Ready, Over}
 use Rattle.pulsar_session.specs.Answers.{is}
-use Rattle.pulsar_session.specs.Link.{Act, Opens, Feeds, Takes, Asks, Drains, Closes, Seen, after, after_of, answered_to, greeted, is_open, is_over, is_ready, is_spent, moved_up, number_for, opens_in, seen, settled_by, taken_in, ticked}
+use Rattle.pulsar_session.specs.Link.{Act, Opens, Feeds, Takes, Asks, Drains, Closes, Seen, after, after_of, answered_to, greeted, is_open, is_over, is_ready, moved_up, number_for, opens_in, seen, settled_by, taken_in, ticked}
+use Rattle.pulsar_messages.specs.Claims.{is_spent}
 use Rattle.pulsar_session.specs.Laws.{CauseAtEnd, EndedStays}
 use Rattle.pulsar_session.proofs.Still.{asked_of, moving, opening, unless}
 

@@ -1,7 +1,7 @@
 -- What leaves the line waits from then on.
 use Rattle.std.proofs.Common.{◌≡◌, ◌∙◌, sym, ap, subst, refl, ℕ, ◌+◌, ◌<◌, Bool, true, false, cond, List, [], ◌∷◌, ◌++◌, length, drop, Option, arith}
 use Rattle.std.specs.Option.{option_map}
-use Rattle.pulsar_requests.specs.declared.awaited.Claim.{Claim}
+use Rattle.pulsar_wire.specs.declared.awaited.Claim.{Claim}
 use Rattle.pulsar_requests.specs.Waits.{Waits, request_at, request_of, with_next}
 use Rattle.pulsar_session.specs.Link.{Seen, Standing, has_room, is_open, moved_up, queue, seen, ticked}
 use Rattle.pulsar_session.specs.Laws.{MovedUpWaits, requests_at, requests_of}

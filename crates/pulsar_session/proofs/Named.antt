@@ -15,9 +15,9 @@ use Rattle.pulsar_frame.specs.Message.{MessageValues}
 use Rattle.pulsar_frame.specs.Key.{is_unready, key}
 use Rattle.pulsar_frame.specs.Frame.{Front, Short, Refused, Whole, front}
 use Rattle.pulsar_messages.specs.Words.{is_numbered}
-use Rattle.pulsar_requests.specs.declared.awaited.Awaited.{Awaited}
-use Rattle.pulsar_requests.specs.declared.awaited.Awaited.TheVariants.{Pong, Reply, Receipt}
-use Rattle.pulsar_requests.specs.Awaited.{is_one, is_same}
+use Rattle.pulsar_wire.specs.declared.awaited.Awaited.{Awaited}
+use Rattle.pulsar_wire.specs.declared.awaited.Awaited.TheVariants.{Pong, Reply, Receipt}
+use Rattle.pulsar_wire.specs.Awaited.{is_one, is_same}
 use Rattle.pulsar_requests.specs.Waits.{Pending, ended, is_listed, is_overdue, is_some_due, places, request_at, without}
 use Rattle.pulsar_requests.proofs.Awaiting.{is_at-eqb, same_refl}
 use Rattle.pulsar_session.specs.declared.states.Stage.{Stage}

@@ -11,14 +11,15 @@ use Rattle.pulsar_wire.specs.Command.{BodyValues}
 use Rattle.pulsar_frame.specs.Message.{MessageValues}
 use Rattle.pulsar_frame.specs.Key.{key}
 use Rattle.pulsar_frame.specs.Frame.{Front, Short, Refused, Whole, front}
-use Rattle.pulsar_requests.specs.declared.awaited.Awaited.{Awaited}
-use Rattle.pulsar_requests.specs.declared.awaited.Awaited.TheVariants.{Pong, Reply, Receipt}
-use Rattle.pulsar_requests.specs.declared.awaited.Claim.{Claim}
+use Rattle.pulsar_wire.specs.declared.awaited.Awaited.{Awaited}
+use Rattle.pulsar_wire.specs.declared.awaited.Awaited.TheVariants.{Pong, Reply, Receipt}
+use Rattle.pulsar_wire.specs.declared.awaited.Claim.{Claim}
 use Rattle.pulsar_session.specs.declared.states.Stage.{Stage}
 use Rattle.pulsar_session.specs.declared.states.Stage.TheVariants.{Dialing, Handshaking, Ready, Over}
-use Rattle.pulsar_requests.specs.Awaited.{is_same}
+use Rattle.pulsar_wire.specs.Awaited.{is_same}
 use Rattle.pulsar_session.specs.Answers.{answers, answers_by, is, is_number}
-use Rattle.pulsar_session.specs.Link.{Act, Asks, Closes, Drains, Feeds, Opens, Request, Seen, Standing, Takes, after, after_of, answer_of, answered_to, asks_for, bare, came, came_by, came_in, can_wait, challenged, claim, drawn, feeds, frame_for, greeted, greets_with, has_room, is_open, is_over, message_of, moved_up, named_by, number_for, opens_in, place_in, place_of, pongs, put_frame, put_in, queue, reacts, reacts_unless, received, request, responds, seen, settled_by, taken_in, ticked, unready_in}
+use Rattle.pulsar_session.specs.Link.{Act, Asks, Closes, Drains, Feeds, Opens, Request, Seen, Standing, Takes, after, after_of, answer_of, answered_to, asks_for, bare, came, came_by, came_in, can_wait, challenged, drawn, feeds, frame_for, greeted, greets_with, has_room, is_open, is_over, message_of, moved_up, named_by, number_for, opens_in, place_in, place_of, pongs, put_frame, put_in, queue, reacts, reacts_unless, received, request, responds, seen, settled_by, taken_in, ticked, unready_in}
+use Rattle.pulsar_messages.specs.Claims.{claim}
 use Rattle.pulsar_messages.specs.Messages.{connect_command}
 use Rattle.pulsar_requests.specs.Waits.{Pending, ended, places}
 use Rattle.pulsar_messages.specs.Content.{AuthenticationValues}

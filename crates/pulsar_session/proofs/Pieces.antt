@@ -6,14 +6,14 @@ use Rattle.pulsar_frame.specs.Message.{MessageValues}
 use Rattle.pulsar_frame.specs.Key.{key}
 use Rattle.pulsar_frame.specs.Frame.{Front, Short, Refused, Whole, front}
 use Rattle.pulsar_frame.proofs.Streams.{front-refused-append, front-whole-append}
-use Rattle.pulsar_requests.specs.declared.awaited.Claim.{Claim}
+use Rattle.pulsar_wire.specs.declared.awaited.Claim.{Claim}
 use Rattle.pulsar_session.specs.declared.states.Stage.{Stage}
 use Rattle.pulsar_session.specs.declared.states.Stage.TheVariants.{Dialing, Handshaking, Ready, Over}
 use Rattle.pulsar_session.specs.Answers.{is}
 use Rattle.pulsar_session.specs.Link.{Bad, Challenged, Request, Seen, Takes, after, answered_to, asks_for, came, came_by, came_in, can_wait, challenged, feeds, for_consumer, frame_for, greeted, greeted_by, has_room, is_open, named_by, pongs, put_frame, put_in, reacts, reacts_unless, responds, settled_by, taken_in, ticked, unready_in}
 use Rattle.pulsar_requests.specs.Waits.{places}
 use Rattle.pulsar_messages.specs.Content.{AuthenticationValues}
-use Rattle.pulsar_session.specs.Failures.{Fault}
+use Rattle.pulsar_wire.specs.Failures.{Fault}
 use Rattle.pulsar_session.specs.Laws.{BadStays, TakenBeforeOrAfter, is_there}
 
 -- other bytes wait to be taken

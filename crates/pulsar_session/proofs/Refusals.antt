@@ -5,7 +5,8 @@ use Rattle.pulsar_wire.specs.declared.error.Reason.TheVariants as reason
 use Rattle.pulsar_frame.specs.Message.{MessageValues}
 use Rattle.pulsar_frame.specs.Frame.{frame_bytes}
 use Rattle.pulsar_messages.specs.Words.{is_numbered, when_full}
-use Rattle.pulsar_session.specs.Link.{Seen, answer_of, can_wait, drawn, fits, has_room, is_ready, is_spent, message_of, place_in, ticked}
+use Rattle.pulsar_session.specs.Link.{Seen, answer_of, can_wait, drawn, fits, has_room, is_ready, message_of, place_in, ticked}
+use Rattle.pulsar_messages.specs.Claims.{is_spent}
 use Rattle.pulsar_session.specs.Laws.{RefusedExactly, refusal}
 
 placed : (room waits fit : Bool) (frame : List ℕ) (v : Seen) →

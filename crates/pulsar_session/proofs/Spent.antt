@@ -8,14 +8,15 @@ use Rattle.pulsar_wire.specs.declared.error.ConnectionError.{ConnectionError}
 use Rattle.pulsar_wire.specs.declared.error.ConnectionError.TheVariants as error
 use Rattle.pulsar_frame.specs.Message.{MessageValues}
 use Rattle.pulsar_frame.specs.Frame.{Front, Short, Refused, Whole, front}
-use Rattle.pulsar_requests.specs.declared.awaited.Awaited.TheVariants.{Reply}
-use Rattle.pulsar_requests.specs.declared.awaited.Claim.{Claim}
+use Rattle.pulsar_wire.specs.declared.awaited.Awaited.TheVariants.{Reply}
+use Rattle.pulsar_wire.specs.declared.awaited.Claim.{Claim}
 use Rattle.pulsar_session.specs.declared.states.Stage.{Stage}
 use Rattle.pulsar_session.specs.declared.states.Stage.TheVariants.{Dialing, Handshaking, Ready, Over}
-use Rattle.pulsar_requests.specs.Awaited.{is_same}
+use Rattle.pulsar_wire.specs.Awaited.{is_same}
 use Rattle.pulsar_session.specs.Answers.{answers, is}
 use Rattle.pulsar_messages.specs.Messages.{connect_command}
-use Rattle.pulsar_session.specs.Link.{Act, Asks, Closes, Drains, Feeds, Opens, Request, Seen, Setup, Standing, Takes, after, after_of, answered_to, asks_for, bare, can_wait, challenged, claim, drawn, frame_for, greeted, greets_with, has_room, is_open, is_over, is_ready, is_spent, moved_up, named_by, number_for, opens_in, pongs, put_frame, put_in, queue, reacts, reacts_unless, request, responds, seen, settled_by, taken_in, ticked, unready_in}
+use Rattle.pulsar_session.specs.Link.{Act, Asks, Closes, Drains, Feeds, Opens, Request, Seen, Setup, Standing, Takes, after, after_of, answered_to, asks_for, bare, can_wait, challenged, drawn, frame_for, greeted, greets_with, has_room, is_open, is_over, is_ready, moved_up, named_by, number_for, opens_in, pongs, put_frame, put_in, queue, reacts, reacts_unless, request, responds, seen, settled_by, taken_in, ticked, unready_in}
+use Rattle.pulsar_messages.specs.Claims.{claim, is_spent}
 use Rattle.pulsar_requests.specs.Waits.{Pending, ended, places, waits_for}
 use Rattle.pulsar_messages.specs.Content.{AuthenticationValues}
 use Rattle.pulsar_messages.specs.Words.{Words, SendPing, SendPong, AuthChallenge, LookupTopic, LookupPartitionedTopic, GetTopicsOfNamespace, GetSchema, CreateProducer, Send, CloseProducer, Subscribe, SendFlow, SendAck, SendRedeliver, Seek, GetLastMessageId, GetConsumerStats, Unsubscribe, CloseConsumer, CloseConsumerUnawaited, is_numbered}

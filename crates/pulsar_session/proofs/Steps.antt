@@ -4,7 +4,7 @@ use Rattle.std.proofs.lemmas.Bool.Decides.{nat_tests}
 use Rattle.std.specs.List.{list_any}
 use Rattle.std.specs.Option.{is_some}
 use Rattle.pulsar_frame.specs.Message.{MessageValues}
-use Rattle.pulsar_requests.specs.declared.awaited.Claim.{Claim}
+use Rattle.pulsar_wire.specs.declared.awaited.Claim.{Claim}
 use Rattle.pulsar_session.specs.Answers.{is}
 use Rattle.pulsar_session.specs.Link.{Request, Seen, Standing, asks_for, can_wait, challenged, frame_for, greets, greets_with, has_room, is_over, moved_up, named_by, pongs, put_frame, put_in, queue, reacts, reacts_unless, responds, unready_in}
 use Rattle.pulsar_requests.specs.Waits.{Pending, places, request_at, waits_for}
@@ -138,9 +138,9 @@ challenged_moves (Some c) v = asks_for_moves (responds c) v
 
 named_moves : (n : Option ℕ) (v : Seen) → Moves v (named_by n v)
 named_moves None v = moves_same v
-named_moves (Some n) v = by (list_any (λ p. Rattle.pulsar_requests.specs.Awaited.is_same (Rattle.pulsar_requests.specs.declared.awaited.Awaited.TheVariants.Reply n) p.awaits) v.waits.waiting) refl
+named_moves (Some n) v = by (list_any (λ p. Rattle.pulsar_wire.specs.Awaited.is_same (Rattle.pulsar_wire.specs.declared.awaited.Awaited.TheVariants.Reply n) p.awaits) v.waits.waiting) refl
   where
-    by : (b : Bool) → list_any (λ p. Rattle.pulsar_requests.specs.Awaited.is_same (Rattle.pulsar_requests.specs.declared.awaited.Awaited.TheVariants.Reply n) p.awaits) v.waits.waiting ≡ b → Moves v (named_by (Some n) v)
+    by : (b : Bool) → list_any (λ p. Rattle.pulsar_wire.specs.Awaited.is_same (Rattle.pulsar_wire.specs.declared.awaited.Awaited.TheVariants.Reply n) p.awaits) v.waits.waiting ≡ b → Moves v (named_by (Some n) v)
     by true e = record { more = []; frames = []; waiting = rw e (sym (append-nil v.waits.waiting)); unwritten = sym (append-nil v.unwritten); rises = rw e (omega arith); count = rw e (omega arith); over = refl }
     by false e = record { more = []; frames = []; waiting = rw e (sym (append-nil v.waits.waiting)); unwritten = sym (append-nil v.unwritten); rises = rw e (omega arith); count = rw e (omega arith); over = refl }
 

@@ -11,9 +11,9 @@ use Rattle.pulsar_frame.specs.Message.{MessageValues}
 use Rattle.pulsar_messages.specs.Content.{AuthenticationValues}
 use Rattle.pulsar_messages.specs.Messages.{connect_command}
 use Rattle.pulsar_messages.specs.Words.{Words, is_numbered}
-use Rattle.pulsar_requests.specs.declared.awaited.Awaited.TheVariants.{Reply}
-use Rattle.pulsar_requests.specs.declared.awaited.Claim.{Claim}
-use Rattle.pulsar_requests.specs.Awaited.{is_same}
+use Rattle.pulsar_wire.specs.declared.awaited.Awaited.TheVariants.{Reply}
+use Rattle.pulsar_wire.specs.declared.awaited.Claim.{Claim}
+use Rattle.pulsar_wire.specs.Awaited.{is_same}
 use Rattle.pulsar_requests.specs.Waits.{is_listed}
 use Rattle.pulsar_session.specs.declared.states.Stage.{Stage}
 use Rattle.pulsar_session.specs.declared.states.Stage.TheVariants.{Dialing, Handshaking, Ready, Over}

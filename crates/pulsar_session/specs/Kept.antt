@@ -19,7 +19,7 @@ use Rattle.pulsar_session.specs.declared.link.Setup as codes
 use Rattle.pulsar_session.specs.declared.link.Standing as standings
 use Rattle.pulsar_session.specs.declared.link.Link.{Link}
 use Rattle.pulsar_session.specs.Answers.{is}
-use Rattle.pulsar_session.specs.Failures.{fault}
+use Rattle.pulsar_wire.specs.Failures.{fault}
 use Rattle.pulsar_session.specs.Link.{Came, Nothing, Readied, Settles, Gives, Challenged, Dropped, Bad, Seen, Setup, Standing, is_memory}
 
 abbrev pub setup_of : codes.Setup → Setup

@@ -11,17 +11,18 @@ use Rattle.pulsar_frame.specs.Message.{MessageValues}
 use Rattle.pulsar_frame.specs.Key.{key}
 use Rattle.pulsar_frame.specs.Frame.{Front, Short, Refused, Whole, cut, front}
 use Rattle.pulsar_messages.specs.Words.{Words, is_numbered, when_full}
-use Rattle.pulsar_requests.specs.declared.awaited.Awaited.TheVariants.{Pong, Reply}
-use Rattle.pulsar_requests.specs.declared.awaited.Claim.{Claim}
-use Rattle.pulsar_requests.specs.Awaited.{is_same}
+use Rattle.pulsar_wire.specs.declared.awaited.Awaited.TheVariants.{Pong, Reply}
+use Rattle.pulsar_wire.specs.declared.awaited.Claim.{Claim}
+use Rattle.pulsar_wire.specs.Awaited.{is_same}
 use Rattle.pulsar_requests.specs.Waits.{Pending, Waits, is_overdue, places, request_at, request_of}
 use Rattle.pulsar_session.specs.declared.states.Asked.{Asked}
 use Rattle.pulsar_session.specs.declared.states.Asked.TheVariants.{Queued}
 use Rattle.pulsar_session.specs.declared.states.Stage.{Stage}
 use Rattle.pulsar_session.specs.declared.states.Stage.TheVariants.{Dialing, Handshaking, Ready, Over}
 use Rattle.pulsar_session.specs.Answers.{answers, is}
-use Rattle.pulsar_session.specs.Failures.{Fault}
-use Rattle.pulsar_session.specs.Link.{Act, Opens, Feeds, Takes, Asks, Drains, Closes, Came, Nothing, Readied, Settles, Gives, Challenged, Dropped, Bad, Seen, Setup, Standing, after, asked, came, came_by, can_wait, claim, drawn, due, ends, fits, frame_at, fresh, has_room, is_open, is_over, is_ready, is_spent, message_of, seen, settled_by, ticked, unready_in, written}
+use Rattle.pulsar_wire.specs.Failures.{Fault}
+use Rattle.pulsar_session.specs.Link.{Act, Opens, Feeds, Takes, Asks, Drains, Closes, Came, Nothing, Readied, Settles, Gives, Challenged, Dropped, Bad, Seen, Setup, Standing, after, asked, came, came_by, can_wait, drawn, due, ends, fits, frame_at, fresh, has_room, is_open, is_over, is_ready, message_of, seen, settled_by, ticked, unready_in, written}
+use Rattle.pulsar_messages.specs.Claims.{claim, is_spent}
 
 -- HISTORIES
 

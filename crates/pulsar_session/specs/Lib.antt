@@ -1,7 +1,4 @@
 pub mod Answers
-pub mod Failures
-pub mod FailureCode
-pub mod Reply
 pub mod Link
 pub mod Greeting
 pub mod Kept

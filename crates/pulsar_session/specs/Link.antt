@@ -1,6 +1,6 @@
 -- One connection: what is done to it, what is seen of it, and what it answers. It knows places on itself, and no calls.
 -- (Pulsar binary protocol, Connection establishment, Keep alive, Simple commands)
-use Rattle.std.specs.Prelude.{ℕ, ◌+◌, ◌-◌, ◌^◌, nat_lt, nat_le, ◌==◌, ◌&&◌, not, Bool, true, false, if◌then◌else◌, List, [], ◌∷◌, ◌++◌, length, take, drop, filter, Option, Some, None, Result, Ok, Err, slice_get}
+use Rattle.std.specs.Prelude.{ℕ, ◌+◌, ◌-◌, ◌^◌, nat_lt, nat_le, ◌&&◌, not, Bool, true, false, if◌then◌else◌, List, [], ◌∷◌, ◌++◌, length, take, drop, filter, Option, Some, None, Result, Ok, Err, slice_get}
 use Rattle.std.specs.Option.{option_map}
 use Rattle.url.specs.Parts.{Parts}
 use Rattle.pulsar_wire.specs.Sink.{capped}
@@ -18,16 +18,16 @@ use Rattle.pulsar_frame.specs.Key.{is_unready, key}
 use Rattle.pulsar_frame.specs.Frame.{Front, Short, Refused, Whole, counted_bytes, frame_bytes, front}
 use Rattle.pulsar_messages.specs.Content.{AuthenticationValues}
 use Rattle.pulsar_messages.specs.Messages.{PayloadContent, command_of, connect_command, payload_of}
-use Rattle.pulsar_messages.specs.Words.{WhenFull, Wait, Refuse, Drop, Words, SendPing, SendPong, AuthChallenge, LookupTopic, LookupPartitionedTopic, GetTopicsOfNamespace, GetSchema, CreateProducer, Send, CloseProducer, Subscribe, SendFlow, SendAck, SendRedeliver, Seek, GetLastMessageId, GetConsumerStats, Unsubscribe, CloseConsumer, CloseConsumerUnawaited, is_numbered, when_full}
-use Rattle.pulsar_requests.specs.declared.awaited.Awaited.TheVariants.{Pong, Reply, Receipt}
-use Rattle.pulsar_requests.specs.declared.awaited.Claim.{Claim}
+use Rattle.pulsar_messages.specs.Words.{WhenFull, Wait, Refuse, Drop, Words, SendPong, AuthChallenge, is_numbered, when_full}
+use Rattle.pulsar_wire.specs.declared.awaited.Claim.{Claim}
 use Rattle.pulsar_requests.specs.Waits.{Pending, Waits, any_due, ended, named, places, told, with_next, without}
 use Rattle.pulsar_session.specs.declared.states.Stage.{Stage}
 use Rattle.pulsar_session.specs.declared.states.Stage.TheVariants.{Dialing, Handshaking, Ready, Over}
 use Rattle.pulsar_session.specs.declared.states.Asked.{Asked}
 use Rattle.pulsar_session.specs.declared.states.Asked.TheVariants.{Queued, Waiting}
 use Rattle.pulsar_session.specs.Answers.{answers, awaited_by, is}
-use Rattle.pulsar_session.specs.Failures.{Fault, Io, Decoding}
+use Rattle.pulsar_wire.specs.Failures.{Fault, Io, Decoding}
+use Rattle.pulsar_messages.specs.Claims.{claim, is_spent}
 
 -- WHAT IS DONE TO A CONNECTION: an act for each public call that changes it
 
@@ -178,38 +178,8 @@ whole command payload = record { command = command; payload = Some (payload_valu
 abbrev pub message_of : (id now : ℕ) → Words → MessageValues
 message_of id now words = record { command = command_of id words; payload = option_map payload_values_of (payload_of now words) }
 
--- what answers it: the reply to its number, which may make a producer
-abbrev pub reply_to : ℕ → Option Claim
-reply_to id = Some (record { awaits = Reply id; creates = false })
-
-abbrev pub claim : ℕ → Words → Option Claim
-claim id SendPing = Some (record { awaits = Pong; creates = false })
-claim id SendPong = None
-claim id (AuthChallenge auth) = None
-claim id (LookupTopic topic authoritative) = reply_to id
-claim id (LookupPartitionedTopic topic) = reply_to id
-claim id (GetTopicsOfNamespace namespace mode) = reply_to id
-claim id (GetSchema topic version) = reply_to id
-claim id (CreateProducer topic producer name options) = Some (record { awaits = Reply id; creates = true })
-claim id (Send producer name sequence message block) = Some (record { awaits = Receipt producer sequence; creates = false })
-claim id (CloseProducer producer) = reply_to id
-claim id (Subscribe topic subscription sub_type consumer name options) = reply_to id
-claim id (SendFlow consumer permits) = None
-claim id (SendAck consumer ids cumulative) = None
-claim id (SendRedeliver consumer ids) = None
-claim id (Seek consumer place time) = reply_to id
-claim id (GetLastMessageId consumer) = reply_to id
-claim id (GetConsumerStats consumer) = reply_to id
-claim id (Unsubscribe consumer) = reply_to id
-claim id (CloseConsumer consumer) = reply_to id
-claim id (CloseConsumerUnawaited consumer) = None
-
 abbrev pub request : (id now : ℕ) → Words → Request
 request id now words = record { message = message_of id now words; claim = claim id words; when_full = when_full words }
-
--- the greatest number is never drawn
-abbrev pub is_spent : ℕ → Bool
-is_spent n = n == (2 ^ 64 - 1)
 
 -- the number of what is asked for next, where it may be asked for
 abbrev pub number_for : (numbered : Bool) → Seen → Result ℕ ConnectionError

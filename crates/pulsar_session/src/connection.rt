@@ -8,7 +8,7 @@ ghost use Rattle.pulsar_messages.specs.Content.{authentication_values, consumer_
 ghost use Rattle.pulsar_messages.specs.Words.{AuthChallenge, CloseConsumer, CloseConsumerUnawaited, CloseProducer, CreateProducer, GetConsumerStats, GetLastMessageId, GetSchema, GetTopicsOfNamespace, LookupPartitionedTopic, LookupTopic, Seek, Send, SendAck, SendFlow, SendPing, SendRedeliver, Subscribe, Unsubscribe};
 ghost use Rattle.pulsar_requests.specs.Soonest.{has_come};
 ghost use Rattle.pulsar_requests.specs.Waits.{is_empty, is_overdue};
-ghost use Rattle.pulsar_session.specs.Failures.{fault};
+ghost use Rattle.pulsar_wire.specs.Failures.{fault};
 ghost use Rattle.pulsar_session.specs.Kept.{OnAnswer, arrives, came_of};
 ghost use Rattle.pulsar_session.specs.Link.{Asks, Closes, Drains, Feeds, Opens, Takes, after, asked, came, due, ends, frame_at, fresh, has_room, written};
 ghost use Rattle.pulsar_session.specs.Soonest.{due_at};
@@ -19,7 +19,7 @@ use crate::states::{Arrived, Asked, Stage};
 use pulsar_messages::{
     Authentication, ConsumerOptions, ProducerMessage, ProducerOptions, messages as builders,
 };
-use pulsar_requests::{Awaited, Claim};
+use pulsar_wire::awaited::{Awaited, Claim};
 use pulsar_wire::commands::enumerations::SubType;
 use pulsar_wire::commands::ids::MessageIdData;
 use pulsar_wire::commands::topics::Mode;
@@ -32,9 +32,14 @@ use uuid::Uuid;
 /// One connection to a broker, from the moment at which it is dialed. It is told what happens to its stream, and the moments,
 /// in milliseconds; it knows its frames by their places, from 0 in the order of their queueing. Where a call answers
 /// `NoMemory`, nothing is said of the connection afterwards.
-#[derive(Drop)]
 pub struct Connection {
     link: Link,
+}
+
+impl Drop for Connection {
+    fn drop(self) {
+        let Connection { link: _ } = self;
+    }
 }
 
 /// What sends on a connection is the connection.
@@ -262,7 +267,9 @@ impl Connection {
         Ok(places)
     }
 
-    /// Sends a message of a producer. `block` says that it may stand in the line, and not that the call waits.
+    /// Sends a message of a producer. `now` is the caller's clock in milliseconds, and becomes the message's publish time as it
+    /// is: a connection has no clock of its own, and what it was told before decides only what is due. `block` says that the
+    /// message may stand in the line, and not that the call waits.
     pub fn send(
         &mut self,
         now: u64,

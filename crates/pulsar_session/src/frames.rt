@@ -16,7 +16,7 @@ use pulsar_frame::message::Message;
 use pulsar_frame::payload::Payload;
 use pulsar_frame::reader::FrameReader;
 use pulsar_messages::messages::MessageParts;
-use pulsar_requests::awaited::Awaited;
+use pulsar_wire::awaited::Awaited;
 use pulsar_wire::bodies;
 use pulsar_wire::commands::base::{BaseCommand, Body};
 use pulsar_wire::commands::producer::CommandProducerSuccess;

@@ -23,12 +23,21 @@ pub enum First {
 }
 
 /// The bytes that came and were not taken.
-#[derive(Drop)]
 pub struct Incoming {
     alloc: Global,
     reader: FrameReader,
     // all of them once more until the first frame is taken, so that a wrong one stays in front
     greeting: Option<Vec<u8>>,
+}
+
+impl Drop for Incoming {
+    fn drop(self) {
+        let Incoming {
+            alloc: _,
+            reader: _,
+            greeting: _,
+        } = self;
+    }
 }
 
 impl Model for Incoming {

@@ -7,7 +7,6 @@ mod incoming;
 pub mod laws;
 mod link;
 pub mod messages;
-pub mod received;
 pub mod states;
 
 pub use connection::{Connection, ConnectionSender, SharedError};
@@ -15,5 +14,4 @@ pub use frames::Arrival;
 pub use pulsar_messages::{
     Authentication, ConsumerOptions, Message, ProducerMessage, ProducerOptions, RoutingPolicy,
 };
-pub use received::Received;
 pub use states::{Arrived, Asked};

@@ -6,7 +6,8 @@ use crate::texts::frame;
 use crate::values::{credential, ids, message, message_id, mode, optional_credential, sub_type};
 use crate::words::Words;
 use pulsar_frame::Message;
-use pulsar_session::{ConsumerOptions, ProducerOptions, Received, messages};
+use pulsar_frame::received::Received;
+use pulsar_session::{ConsumerOptions, ProducerOptions, messages};
 use pulsar_wire::{NoMemory, SubType};
 use std::alloc::Global;
 

@@ -7,7 +7,7 @@ use Rattle.std.specs.Global.{Vec}
 use Rattle.pulsar_calls.specs.declared.event.Event.{Event}
 use Rattle.pulsar_calls.specs.declared.effect.Effect.{Effect}
 use Rattle.pulsar_calls.specs.Content.{heard}
-use Rattle.pulsar_agenda.specs.Run.{Step}
+use Rattle.pulsar_calls.specs.Steps.{Step}
 use Rattle.pulsar_pumps.specs.Made.{of_link}
 use Rattle.pulsar_shared.specs.Trace.{has_news, is_new, step_of, steps}
 

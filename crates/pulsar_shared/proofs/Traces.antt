@@ -8,8 +8,8 @@ use Rattle.pulsar_calls.specs.declared.event.Event.{Event}
 use Rattle.pulsar_calls.specs.declared.effect.Effect.{Effect}
 use Rattle.pulsar_calls.specs.Content.{heard, shown}
 use Rattle.pulsar_wire.specs.declared.error.NoMemory.{NoMemory}
-use Rattle.pulsar_agenda.specs.Run.{Step}
-use Rattle.pulsar_tables.specs.View.{Options}
+use Rattle.pulsar_calls.specs.Steps.{Step}
+use Rattle.pulsar_machine.specs.Options.{Options}
 use Rattle.pulsar_machine.specs.Machine.{step}
 use Rattle.pulsar_pumps.specs.declared.submitter.Receipt.{Receipt}
 use Rattle.pulsar_pumps.specs.Made.{made_by}

@@ -3,8 +3,8 @@ use Rattle.std.specs.Prelude.{◌≡◌, ◌≤◌, ◌||◌, ℕ, ◌+◌, Bool
 use Rattle.std.specs.Global.{Vec}
 use Rattle.pulsar_calls.specs.declared.event.Event.{Event}
 use Rattle.pulsar_calls.specs.declared.effect.Effect.{Effect}
-use Rattle.pulsar_agenda.specs.Run.{Step}
-use Rattle.pulsar_tables.specs.View.{Options}
+use Rattle.pulsar_calls.specs.Steps.{Step}
+use Rattle.pulsar_machine.specs.Options.{Options}
 use Rattle.pulsar_machine.specs.Machine.{step}
 use Rattle.pulsar_pumps.specs.Made.{Made, OfLink, NoLink, Dialed, Came, WasLost, MayWrite, of_link}
 

@@ -1,6 +1,6 @@
 -- The options of nothing: what a name stands for until a call picks it.
 use Rattle.std.specs.Prelude.{[], None}
-use Rattle.pulsar_tables.specs.View.{Options}
+use Rattle.pulsar_machine.specs.Options.{Options}
 
 abbrev pub unset : Options
 unset =

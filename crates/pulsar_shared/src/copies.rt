@@ -8,7 +8,7 @@ ghost use Rattle.pulsar_shared.specs.Trace.{has_news, is_new, steps};
 use pulsar_calls::copying::copy_answer;
 use pulsar_calls::effect::{Effect, Handed};
 use pulsar_calls::event::Event;
-use pulsar_producer::copying::copy_error;
+use pulsar_outgoing::copying::copy_error;
 use pulsar_wire::error::{Error, NoMemory};
 use std::alloc::Global;
 

@@ -1,8 +1,8 @@
 //! The client behind a lock, with a ledger that counts its events.
 
 ghost use Rattle.std.specs.Prelude.{◌≡◌, ◌∷◌, ◌++◌, ◌+◌, ◌<◌, ◌≤◌, [], ℕ, true, List, IfOk, IfSome, MatchOption, OnErr, OnOk, drop, length, reverse, sum_by};
-ghost use Rattle.pulsar_agenda.specs.Run.{Step};
-ghost use Rattle.pulsar_tables.specs.View.{Options};
+ghost use Rattle.pulsar_calls.specs.Steps.{Step};
+ghost use Rattle.pulsar_machine.specs.Options.{Options};
 ghost use Rattle.pulsar_machine.specs.Machine.{step};
 ghost use Rattle.pulsar_shared.specs.Trace.{Had, Legal, has_news, steps};
 ghost use Rattle.pulsar_shared.specs.Unset.{unset};
@@ -71,7 +71,8 @@ impl<L: Opening> Pass<L> {
 
 impl<L: Opening, C: Machine> Desk<L, C> {
     fn submit(&mut self, pass: &mut Pass<L>, event: Event) -> Result<Receipt, NoMemory>
-        ensures stands { IfOk result (λ r. (ss : List Step) × Had C.good L.given (L.opening + pass.old.share.amount) ss × (r.index ≡ length ss) × Legal C.good L.given (ss ++ step event r.effects.items ∷ [])) }
+        ensures stands { IfOk result (λ r. (ss : List Step) × Had C.good L.given (L.opening + pass.old.share.amount) ss × (r.index ≡ length ss)
+            × Legal C.good L.given (ss ++ step event r.effects.items ∷ [])) }
         ensures counted { OnOk result (pass.new.share.amount ≡ pass.old.share.amount + 1) }
         ensures err { OnErr result (pass.new.share.amount ≡ pass.old.share.amount) }
         ensures parts { pass.new.parts ≡ pass.old.parts }
@@ -90,7 +91,8 @@ impl<L: Opening, C: Machine> Desk<L, C> {
 
     /// None while it has neither run out of memory nor has news from this place on.
     fn news(&mut self, pass: &mut Pass<L>, seen: u64) -> Option<Result<(), NoMemory>>
-        ensures had { IfSome result (λ r. OnOk r ((ss : List Step) × Had C.good L.given (L.opening + pass.old.share.amount) ss × (has_news (drop seen ss) ≡ true))) }
+        ensures had { IfSome result (λ r. OnOk r ((ss : List Step) × Had C.good L.given (L.opening + pass.old.share.amount) ss
+            × (has_news (drop seen ss) ≡ true))) }
         ensures same { (pass.new.parts ≡ pass.old.parts) × (pass.new.share.amount ≡ pass.old.share.amount) }
     {
         let Desk { traced, events } = self;
@@ -106,7 +108,8 @@ impl<L: Opening, C: Machine> Desk<L, C> {
     }
 
     fn ended(&mut self, pass: &mut Pass<L>, link: u64) -> Result<bool, NoMemory>
-        ensures had { IfOk result (λ b. (ss : List Step) × Had C.good L.given (L.opening + pass.old.share.amount) ss × ∥ C.says_ended L.given (reverse ss) link b ∥₁) }
+        ensures had { IfOk result (λ b. (ss : List Step) × Had C.good L.given (L.opening + pass.old.share.amount) ss
+            × ∥ C.says_ended L.given (reverse ss) link b ∥₁) }
         ensures same { (pass.new.parts ≡ pass.old.parts) × (pass.new.share.amount ≡ pass.old.share.amount) }
     {
         let Desk { traced, events } = self;
@@ -189,7 +192,8 @@ impl<L: Opening, C: Machine> Shared<L, C> {
         pass: &mut Pass<L>,
         event: Event,
     ) -> Result<Receipt, NoMemory>
-        ensures stands { IfOk result (λ r. (ss : List Step) × Had C.good L.given (L.opening + pass.old.share.amount) ss × (r.index ≡ length ss) × Legal C.good L.given (ss ++ step event r.effects.items ∷ [])) }
+        ensures stands { IfOk result (λ r. (ss : List Step) × Had C.good L.given (L.opening + pass.old.share.amount) ss × (r.index ≡ length ss)
+            × Legal C.good L.given (ss ++ step event r.effects.items ∷ [])) }
         ensures counted { OnOk result (pass.new.share.amount ≡ pass.old.share.amount + 1) }
         ensures err { OnErr result (pass.new.share.amount ≡ pass.old.share.amount) }
         ensures parts { pass.new.parts ≡ pass.old.parts }
@@ -230,7 +234,8 @@ impl<L: Opening, C: Machine> Shared<L, C> {
 
     /// Waits for the lock, and says whether the link has ended. Once the client has run out of memory it answers that.
     pub fn ended<R: Wait>(&self, rt: &R, pass: &mut Pass<L>, link: u64) -> Result<bool, NoMemory>
-        ensures had { IfOk result (λ b. (ss : List Step) × Had C.good L.given (L.opening + pass.old.share.amount) ss × ∥ C.says_ended L.given (reverse ss) link b ∥₁) }
+        ensures had { IfOk result (λ b. (ss : List Step) × Had C.good L.given (L.opening + pass.old.share.amount) ss
+            × ∥ C.says_ended L.given (reverse ss) link b ∥₁) }
         ensures same { (pass.new.parts ≡ pass.old.parts) × (pass.new.share.amount ≡ pass.old.share.amount) }
     {
         self.desk.lock(rt).ended(pass, link)
@@ -256,7 +261,8 @@ impl<L: Opening, C: Machine> Shared<L, C> {
     /// The client comes back. With all passes, its trace is longer than the opening one by the sum of their shares.
     pub fn finish(self, passes: Vec<Pass<L>>) -> Result<Traced<C>, NoMemory>
         requires { L.parts ≡ 4294967295 }
-        ensures count { IfOk result (λ t. sum_by (λ p. p.parts) passes.items ≡ 4294967295 → length t.trace.items ≡ L.opening + sum_by (λ p. p.share.amount) passes.items) }
+        ensures count { IfOk result (λ t. sum_by (λ p. p.parts) passes.items ≡ 4294967295 → length t.trace.items
+            ≡ L.opening + sum_by (λ p. p.share.amount) passes.items) }
         ensures same { IfOk result (λ t. C.given t.client ≡ L.given) }
     {
         let Shared { desk, moved: _ } = self;

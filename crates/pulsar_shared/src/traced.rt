@@ -2,8 +2,8 @@
 
 ghost use Rattle.std.specs.Prelude.{◌≡◌, ◌∷◌, ◌++◌, ◌+◌, [], List, false, true, IfOk, IsErr, OnErr, OnOk, Some, drop, length};
 ghost use Rattle.pulsar_calls.specs.Content.{heard};
-ghost use Rattle.pulsar_agenda.specs.Run.{Step};
-ghost use Rattle.pulsar_tables.specs.View.{Options};
+ghost use Rattle.pulsar_calls.specs.Steps.{Step};
+ghost use Rattle.pulsar_machine.specs.Options.{Options};
 ghost use Rattle.pulsar_machine.specs.Machine.{step};
 ghost use Rattle.pulsar_shared.specs.Trace.{has_news, history, numbered, steps};
 

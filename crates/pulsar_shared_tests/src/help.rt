@@ -1,7 +1,9 @@
 //! Clients to which the lines of a script have happened.
 
-use pulsar_client::{ClientOptions, ConnectionRetryOptions, Event, OperationRetryOptions};
-use pulsar_script::grammar::line::{Line, parse};
+use pulsar_addresses::options::{ConnectionRetryOptions, OperationRetryOptions};
+use pulsar_client::Event;
+use pulsar_client::options::ClientOptions;
+use pulsar_grammar::line::{Line, parse};
 use pulsar_shared::{Machine, Traced};
 use pulsar_wire::NoMemory;
 use std::alloc::Global;

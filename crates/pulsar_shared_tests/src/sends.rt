@@ -5,7 +5,7 @@ ghost use Rattle.std.specs.Prelude.{◌≡◌, ◌≤◌, length};
 use crate::gate::{GateInput, GateOutput};
 use crate::help::{IS_READY, event, happen, options};
 use pulsar_client::{Call, Effect, Event, Pulsar};
-use pulsar_script::printing::effect::push_step;
+use pulsar_printing::effect::push_step;
 use pulsar_shared::{
     Caller, Machine, MemoryOutput, Opening, PARTS, Pass, PumpEnd, Receipt, Shared, Traced, pump_in,
     pump_out,

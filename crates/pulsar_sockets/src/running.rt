@@ -1,8 +1,10 @@
 //! Runs of the program.
 
 use pulsar_cli::{Limits, Status, TcpEdge, run};
-use pulsar_client::{CustomRoutingPolicy, MemorySink, MemorySource};
+use pulsar_client::CustomRoutingPolicy;
 use pulsar_pumps::Edge;
+use pulsar_streams::outside::sink::MemorySink;
+use pulsar_streams::outside::source::MemorySource;
 use pulsar_wire::NoMemory;
 use std::alloc::{AllocError, Global};
 use std::io;

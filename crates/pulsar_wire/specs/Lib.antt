@@ -19,3 +19,6 @@ pub mod Written
 pub mod Equality
 pub mod Run
 pub mod CommandMerge
+pub mod Failures
+pub mod FailureCode
+pub mod Awaited

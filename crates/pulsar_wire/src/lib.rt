@@ -1,6 +1,7 @@
 //! Commands of the Pulsar binary protocol as bytes, and back.
 #![tactic(auto)]
 
+pub mod awaited;
 pub mod bodies;
 pub mod commands;
 pub mod encoding;
@@ -10,6 +11,7 @@ pub mod key;
 pub mod laws;
 pub mod wire;
 
+pub use awaited::{Awaited, Claim};
 pub use commands::auth::{AuthData, CommandAuthChallenge, CommandAuthResponse};
 pub use commands::base::{BaseCommand, Body};
 pub use commands::connection::{

@@ -7,13 +7,13 @@ use Rattle.std.proofs.Math.Nat.{eq-or-lt_of_le}
 use Rattle.std.proofs.lemmas.List.{take_all}
 use Rattle.pulsar_wire.specs.Row.{Values}
 use Rattle.pulsar_wire.specs.Rows.{message_id}
+use Rattle.pulsar_calls.proofs.Fronts.{take_more}
 use Rattle.pulsar_calls.specs.declared.effect.Effect.{Effect}
 use Rattle.std.specs.List.{flat_map, list_any}
-use Rattle.std.proofs.Math.Seq.{take-suc}
 use Rattle.std.proofs.lemmas.Grind.{flat_map-append}
 use Rattle.std.proofs.lemmas.List.{map-append}
 use Rattle.std.proofs.lemmas.List.Folds.{list_any-append}
-use Rattle.pulsar_session.specs.Failures.{Failure}
+use Rattle.pulsar_wire.specs.Failures.{Failure}
 use Rattle.pulsar_calls.specs.Content.{Asked, Ack, Shown, Connect, Queued, Write, Retry, Close, Settles, Ends, Hands, Faults, FindsNothing, FindsEnd, Said, Done, Names, Address, Count, Addresses, Receipt, Sends, Replies, Failed, answered, shown}
 use Rattle.pulsar_calls.specs.declared.effect.Answer.{Answer}
 use Rattle.pulsar_calls.specs.declared.effect.Answer.TheVariants as answer
@@ -58,10 +58,6 @@ full-more (x ∷ xs) ys h = refl
 full-last : {A : Type 0} (xs : List A) (x : A) → is_empty (xs ++ x ∷ []) ≡ false
 full-last [] x = refl
 full-last (y ∷ xs) x = refl
-
--- an element more of the front
-pub one-more : {A : Type 0} (xs : List A) (k : ℕ) (d : A) → k < length xs → take k xs ++ get_or xs k d ∷ [] ≡ take (k + 1) xs
-one-more xs k d lt = let up : k + 1 ≡ suc k = omega arith in sym (ap (λ n. take n xs) up ∙ take-suc xs k d lt)
 
 -- the same of what is known
 pub record Same (p q : Progress) : Type 0 where
@@ -285,7 +281,7 @@ owes topic topic' v w r is same id =
 -- one effect more is known
 shown-next : (xs : List Effect) (k : ℕ) (e : Effect) → k < length xs → e ≡ get_or xs k e → map shown (take k xs) ++ shown e ∷ [] ≡ map shown (take (k + 1) xs)
 shown-next xs k e lt is =
-    sym (map-append shown (take k xs) (e ∷ [])) ∙ ap (λ x. map shown (take k xs ++ x ∷ [])) is ∙ ap (map shown) (one-more xs k e lt)
+    sym (map-append shown (take k xs) (e ∷ [])) ∙ ap (λ x. map shown (take k xs ++ x ∷ [])) is ∙ ap (map shown) (take_more xs k e lt)
 
 pub knows-next : (p : Progress) (es : List Shown) (acked : List Asked) (xs : List Effect) (k : ℕ) (e : Effect) → k < length xs → e ≡ get_or xs k e
     → Knows p ((es ++ map shown (take k xs)) ++ shown e ∷ []) acked → Knows p (es ++ map shown (take (k + 1) xs)) acked

@@ -3,7 +3,7 @@ use Rattle.std.proofs.Common.{◌≡◌, ◌∙◌, ◌+◌, ◌<◌, ◌++◌, 
 use Rattle.std.proofs.lemmas.List.{take-append-drop}
 use Rattle.pulsar_wire.specs.Row.{Values}
 use Rattle.pulsar_wire.specs.Rows.{message_id, send_receipt}
-use Rattle.pulsar_session.specs.Failures.{Failure}
+use Rattle.pulsar_wire.specs.Failures.{Failure}
 use Rattle.std.specs.List.{flat_map}
 use Rattle.std.specs.Global.{Vec}
 use Rattle.std.proofs.lemmas.Grind.{flat_map-append}
@@ -11,9 +11,10 @@ use Rattle.std.proofs.lemmas.List.{map-append}
 use Rattle.pulsar_calls.specs.declared.effect.Effect.{Effect}
 use Rattle.pulsar_calls.specs.declared.event.Event.{Event}
 use Rattle.pulsar_calls.specs.Content.{Shown, shown}
-use Rattle.pulsar_script.specs.Text.{line}
+use Rattle.pulsar_printing.specs.Text.{line}
 use Rattle.pulsar_work.specs.Report.{error_of, errors_of, first, id_in, line_of, lines_told, shown_in, stored_at}
-use Rattle.pulsar_work.proofs.Learning.{behind, one-more}
+use Rattle.pulsar_calls.proofs.Fronts.{take_more}
+use Rattle.pulsar_work.proofs.Learning.{behind}
 
 -- the lines of what comes behind
 lines-more : (es more : List Shown) → flat_map line (lines_told (es ++ more)) ≡ flat_map line (lines_told es) ++ flat_map line (lines_told more)
@@ -48,7 +49,7 @@ module _ {A : Type 0} (h : List A → List Shown) (apart : (xs ys : List A) → 
   pub first-found : (xs : List A) (k : ℕ) (x : A) (f : Failure) → k < length xs → x ≡ get_or xs k x → errors_of (h (take k xs)) ≡ [] → Some f ≡ first (errors_of (h (x ∷ [])))
       → Some f ≡ first (errors_of (h xs))
   first-found xs k x f lt is none found =
-      let here : h (take k xs ++ x ∷ []) ≡ h (take (k + 1) xs) = ap (λ y. h (take k xs ++ y ∷ [])) is ∙ ap h (one-more xs k x lt) in
+      let here : h (take k xs ++ x ∷ []) ≡ h (take (k + 1) xs) = ap (λ y. h (take k xs ++ y ∷ [])) is ∙ ap h (take_more xs k x lt) in
       let till : errors_of (h (take (k + 1) xs)) ≡ errors_of (h (x ∷ [])) =
       ap errors_of (sym here ∙ apart (take k xs) (x ∷ [])) ∙ flat_map-append error_of (h (take k xs)) (h (x ∷ [])) ∙ ap (λ ys. ys ++ errors_of (h (x ∷ []))) none in
       let whole : errors_of (h xs) ≡ errors_of (h (take (k + 1) xs)) ++ errors_of (h (drop (k + 1) xs)) =

@@ -1,6 +1,6 @@
 -- For the code's contracts alone: what is asked next.
 use Rattle.std.specs.Prelude.{◌≡◌, ◌≤◌, ◌-◌, ◌⊎◌, ℕ, zero, suc, Bool, true, false, List, [], ◌∷◌, map, length, slice_get, string_bytes, Option, Some, None}
-use Rattle.pulsar_producer.specs.Message.{bare}
+use Rattle.pulsar_messages.specs.Message.{bare}
 use Rattle.pulsar_calls.specs.Content.{Asked, Build, Producer, Send, Consumer, asked}
 use Rattle.pulsar_work.specs.Calls.{Work, Sends, Takes, consumer_of, producer_of}
 use Rattle.pulsar_work.specs.Progress.{owed_ack}

@@ -7,11 +7,11 @@ use Rattle.pulsar_wire.specs.Rows.{message_id}
 use Rattle.pulsar_wire.specs.declared.commands.enumerations.SubType.TheVariants.{Shared}
 use Rattle.pulsar_wire.specs.declared.commands.enumerations.InitialPosition.TheVariants.{Earliest}
 use Rattle.pulsar_messages.specs.Content.{empty_consumer_options, empty_producer_options}
-use Rattle.pulsar_consumer.specs.Content.{ConsumerWanted, no_consumer}
-use Rattle.pulsar_producer.specs.Message.{bare}
-use Rattle.pulsar_producer.specs.Wanted.{ProducerWanted, no_producer}
+use Rattle.pulsar_incoming.specs.Content.{ConsumerWanted, no_consumer}
+use Rattle.pulsar_messages.specs.Message.{bare}
+use Rattle.pulsar_outgoing.specs.Wanted.{ProducerWanted, no_producer}
 use Rattle.pulsar_calls.specs.Content.{Asked, Build, Stop, Producer, Send, Consumer, Ack, Heard, Called, Said, Failed, Shown, Ends, Hands, FindsEnd}
-use Rattle.pulsar_agenda.specs.Run.{Step}
+use Rattle.pulsar_calls.specs.Steps.{Step}
 use Rattle.pulsar_work.specs.Report.{effects_of, errors_of}
 
 -- what is to be done: a message is sent for each line, or so many messages are taken by a subscription

@@ -3,7 +3,7 @@ use Rattle.std.specs.Prelude.{ℕ, ◌==◌, if◌then◌else◌, List, [], ◌�
 use Rattle.std.specs.List.{slice_split}
 use Rattle.std.specs.Option.{option_map}
 use Rattle.std.specs.Str.{bytes_eq}
-use Rattle.pulsar_script.specs.Words.{number}
+use Rattle.pulsar_grammar.specs.Words.{number}
 use Rattle.pulsar_work.specs.declared.form.Form.{Form}
 use Rattle.pulsar_work.specs.declared.form.Form.TheVariants as form
 

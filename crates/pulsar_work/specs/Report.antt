@@ -5,14 +5,14 @@ use Rattle.std.specs.List.{flat_map}
 use Rattle.std.specs.Fmt.{decimal}
 use Rattle.pulsar_wire.specs.Row.{Values, reading}
 use Rattle.pulsar_wire.specs.Rows.{message_id, send_receipt}
-use Rattle.pulsar_session.specs.Failures.{Failure}
+use Rattle.pulsar_wire.specs.Failures.{Failure}
 use Rattle.pulsar_calls.specs.declared.effect.Effect.{Effect}
 use Rattle.pulsar_calls.specs.declared.event.Event.{Event}
 use Rattle.pulsar_calls.specs.Content.{Receipt, Failed, Shown, Ends, Hands, Faults, shown}
-use Rattle.pulsar_agenda.specs.Run.{Step}
-use Rattle.pulsar_script.specs.ErrorText.{failure}
-use Rattle.pulsar_script.specs.Text.{line}
-use Rattle.pulsar_script.specs.WordText.{word}
+use Rattle.pulsar_calls.specs.Steps.{Step}
+use Rattle.pulsar_printing.specs.ErrorText.{failure}
+use Rattle.pulsar_printing.specs.Text.{line}
+use Rattle.pulsar_printing.specs.WordText.{word}
 
 -- the effects of the entries of a trace, in order
 abbrev pub shown_in : List (Event × Vec Effect) → List Shown

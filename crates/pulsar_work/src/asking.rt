@@ -1,8 +1,8 @@
 //! The calls of `produce` and of `consume`.
 
 ghost use Rattle.std.specs.Prelude.{◌≡◌, ◌∷◌, [], if◌then◌else◌, IfOk, Some, map};
-ghost use Rattle.pulsar_producer.specs.Wanted.{producer_wanted};
-ghost use Rattle.pulsar_consumer.specs.Content.{consumer_wanted};
+ghost use Rattle.pulsar_outgoing.specs.Wanted.{producer_wanted};
+ghost use Rattle.pulsar_incoming.specs.Content.{consumer_wanted};
 ghost use Rattle.pulsar_calls.specs.Content.{asked};
 ghost use Rattle.pulsar_work.specs.Asking.{IsNext, IsSend, IsTake, making, work_in};
 ghost use Rattle.pulsar_work.specs.Calls.{consumer_of, producer_of};
@@ -10,9 +10,11 @@ ghost use Rattle.pulsar_work.specs.Progress.{owed_ack};
 
 use crate::progress::{Owed, Progress};
 use pulsar_calls::event::Call;
-use pulsar_consumer::{ConsumerBuilder, InitialPosition, SubType};
+use pulsar_consumer::{InitialPosition, SubType};
+use pulsar_incoming::builder::ConsumerBuilder;
+use pulsar_messages::serialize::message_from_bytes;
 use pulsar_messages::{ConsumerOptions, ProducerOptions};
-use pulsar_producer::{ProducerBuilder, message_from_bytes};
+use pulsar_outgoing::producer_builder::ProducerBuilder;
 use pulsar_wire::NoMemory;
 use std::alloc::Global;
 use std::cmp::Ordering;

@@ -4,7 +4,7 @@ ghost use Rattle.std.specs.Prelude.{◌≡◌, ◌∷◌, [], codes, if◌then�
 ghost use Rattle.std.specs.Option.{option_map};
 ghost use Rattle.pulsar_work.specs.Form.{Asking, asking, form_of};
 
-use pulsar_script::grammar::word::{is, number};
+use pulsar_grammar::word::{is, number};
 use pulsar_wire::NoMemory;
 
 /// What the words ask for.
@@ -56,8 +56,12 @@ fn consume(
     subscription: &String,
     count: &String,
 ) -> Result<Option<Form>, NoMemory>
-    ensures form { IfOk result (λ f. option_map asking f ≡ form_of (string_bytes word.now ∷ string_bytes url.now ∷ string_bytes topic.now ∷ string_bytes subscription.now ∷ string_bytes count.now ∷ [])) }
-    ensures some { OnErr result ((a : Asking) × (form_of (string_bytes word.now ∷ string_bytes url.now ∷ string_bytes topic.now ∷ string_bytes subscription.now ∷ string_bytes count.now ∷ []) ≡ Some a)) }
+    ensures form { IfOk result (λ f. option_map asking f
+        ≡ form_of (string_bytes word.now ∷ string_bytes url.now ∷ string_bytes topic.now ∷ string_bytes subscription.now ∷ string_bytes count.now ∷
+        [])) }
+    ensures some { OnErr result ((a : Asking)
+        × (form_of (string_bytes word.now ∷ string_bytes url.now ∷ string_bytes topic.now ∷ string_bytes subscription.now ∷ string_bytes count.now ∷
+        []) ≡ Some a)) }
 {
     if !is(word.as_bytes(), "consume") {
         return Ok(None);

@@ -2,7 +2,7 @@
 
 ghost use Rattle.std.specs.Prelude.{◌≡◌, ◌↔◌, ◌+◌, ◌<◌, ◌≤◌, ◌++◌, ◌∷◌, [], ℕ, Bool, true, false, List, None, Some, Ok, IfOk, IsTrue, OnOk, length, map, slice_get, string_bytes};
 ghost use Rattle.pulsar_calls.specs.Content.{Asked, Connect, Ends, Said, Shown, hands, shown};
-ghost use Rattle.pulsar_session.specs.Failures.{Failure};
+ghost use Rattle.pulsar_wire.specs.Failures.{Failure};
 ghost use Rattle.pulsar_work.specs.Calls.{ack_of, is_failure, item_of};
 ghost use Rattle.pulsar_work.specs.Report.{error_of};
 ghost use Rattle.pulsar_work.specs.Progress.{Knows, links_of, owed_ack, wanted_in, wanted_of};
@@ -133,7 +133,8 @@ impl Progress {
     pub fn call(&mut self) -> Result<(), NoMemory>
         ensures knows { OnOk result ((es : List Shown) (acked : List Asked) → Knows self.old es acked → Knows self.new es acked) }
         ensures one { OnOk result (length self.new.ended.items ≡ length self.old.ended.items + 1) }
-        ensures rest { OnOk result ((self.new.dials ≡ self.old.dials) × (self.new.owed ≡ self.old.owed) × (self.new.failed ≡ self.old.failed) × (self.new.stopped ≡ self.old.stopped) × (self.new.failed_before ≡ self.old.failed_before)) }
+        ensures rest { OnOk result ((self.new.dials ≡ self.old.dials) × (self.new.owed ≡ self.old.owed) × (self.new.failed ≡ self.old.failed)
+            × (self.new.stopped ≡ self.old.stopped) × (self.new.failed_before ≡ self.old.failed_before)) }
     {
         self.ended.push(false)?;
         Ok(())
@@ -143,7 +144,8 @@ impl Progress {
     pub fn acknowledge(&mut self)
         ensures knows { (es : List Shown) (acked : List Asked) → Knows self.old es acked → Knows self.new es (acked ++ owed_ack self.old.owed) }
         ensures owed { self.new.owed ≡ None }
-        ensures rest { (self.new.ended ≡ self.old.ended) × (self.new.dials ≡ self.old.dials) × (self.new.failed ≡ self.old.failed) × (self.new.stopped ≡ self.old.stopped) × (self.new.failed_before ≡ self.old.failed_before) }
+        ensures rest { (self.new.ended ≡ self.old.ended) × (self.new.dials ≡ self.old.dials) × (self.new.failed ≡ self.old.failed)
+            × (self.new.stopped ≡ self.old.stopped) × (self.new.failed_before ≡ self.old.failed_before) }
     {
         self.owed = None;
     }
@@ -152,7 +154,8 @@ impl Progress {
     pub fn learn(&mut self, effects: &[Effect]) -> Result<(), NoMemory>
         ensures knows { OnOk result ((es : List Shown) (acked : List Asked) → Knows self.old es acked → Knows self.new (es ++ map shown effects.now) acked) }
         ensures dials { OnOk result (links_of self.new.dials.items ≡ links_of self.old.dials.items ++ wanted_in (map shown effects.now)) }
-        ensures rest { OnOk result ((length self.new.ended.items ≡ length self.old.ended.items) × (self.new.stopped ≡ self.old.stopped) × (self.new.failed_before ≡ self.old.failed_before)) }
+        ensures rest { OnOk result ((length self.new.ended.items ≡ length self.old.ended.items) × (self.new.stopped ≡ self.old.stopped)
+            × (self.new.failed_before ≡ self.old.failed_before)) }
     {
         for effect in effects {
             self.learn_one(effect)?;
@@ -163,7 +166,8 @@ impl Progress {
     fn learn_one(&mut self, effect: &Effect) -> Result<(), NoMemory>
         ensures knows { OnOk result ((es : List Shown) (acked : List Asked) → Knows self.old es acked → Knows self.new (es ++ shown effect.now ∷ []) acked) }
         ensures dials { OnOk result (links_of self.new.dials.items ≡ links_of self.old.dials.items ++ wanted_of (shown effect.now)) }
-        ensures rest { OnOk result ((length self.new.ended.items ≡ length self.old.ended.items) × (self.new.stopped ≡ self.old.stopped) × (self.new.failed_before ≡ self.old.failed_before)) }
+        ensures rest { OnOk result ((length self.new.ended.items ≡ length self.old.ended.items) × (self.new.stopped ≡ self.old.stopped)
+            × (self.new.failed_before ≡ self.old.failed_before)) }
     {
         match effect {
             Effect::Connect { link, host, port } => self.dial(*link, host, *port),
@@ -207,17 +211,21 @@ impl Progress {
 
     /// Something has failed.
     fn fail(&mut self)
-        ensures knows { (es : List Shown) (acked : List Asked) (x : Shown) (f : Failure) → error_of x ≡ f ∷ [] → item_of x ≡ [] → ack_of x ≡ [] → Knows self.old es acked → Knows self.new (es ++ x ∷ []) acked }
-        ensures rest { (self.new.ended ≡ self.old.ended) × (self.new.dials ≡ self.old.dials) × (self.new.stopped ≡ self.old.stopped) × (self.new.failed_before ≡ self.old.failed_before) }
+        ensures knows { (es : List Shown) (acked : List Asked) (x : Shown) (f : Failure) → error_of x ≡ f ∷ [] → item_of x ≡ [] → ack_of x ≡ []
+            → Knows self.old es acked → Knows self.new (es ++ x ∷ []) acked }
+        ensures rest { (self.new.ended ≡ self.old.ended) × (self.new.dials ≡ self.old.dials) × (self.new.stopped ≡ self.old.stopped)
+            × (self.new.failed_before ≡ self.old.failed_before) }
     {
         self.failed = true;
     }
 
     /// A link is to be dialed.
     fn dial(&mut self, link: u64, host: &String, port: u16) -> Result<(), NoMemory>
-        ensures knows { OnOk result ((es : List Shown) (acked : List Asked) → Knows self.old es acked → Knows self.new (es ++ Connect link (string_bytes host.now) port ∷ []) acked) }
+        ensures knows { OnOk result ((es : List Shown) (acked : List Asked) → Knows self.old es acked
+            → Knows self.new (es ++ Connect link (string_bytes host.now) port ∷ []) acked) }
         ensures dials { OnOk result (links_of self.new.dials.items ≡ links_of self.old.dials.items ++ link ∷ []) }
-        ensures rest { OnOk result ((self.new.ended ≡ self.old.ended) × (self.new.stopped ≡ self.old.stopped) × (self.new.failed_before ≡ self.old.failed_before)) }
+        ensures rest { OnOk result ((self.new.ended ≡ self.old.ended) × (self.new.stopped ≡ self.old.stopped)
+            × (self.new.failed_before ≡ self.old.failed_before)) }
     {
         let host = host.clone()?;
         self.dials.push(Dial { link, host, port })?;
@@ -226,8 +234,10 @@ impl Progress {
 
     /// The call of this ticket has ended well. One that was not made does not end.
     fn end(&mut self, ticket: u64) -> Result<(), NoMemory>
-        ensures knows { OnOk result ((es : List Shown) (acked : List Asked) (said : Said) → is_failure said ≡ false → Knows self.old es acked → Knows self.new (es ++ Ends ticket said ∷ []) acked) }
-        ensures rest { OnOk result ((length self.new.ended.items ≡ length self.old.ended.items) × (self.new.dials ≡ self.old.dials) × (self.new.stopped ≡ self.old.stopped) × (self.new.failed_before ≡ self.old.failed_before)) }
+        ensures knows { OnOk result ((es : List Shown) (acked : List Asked) (said : Said) → is_failure said ≡ false → Knows self.old es acked
+            → Knows self.new (es ++ Ends ticket said ∷ []) acked) }
+        ensures rest { OnOk result ((length self.new.ended.items ≡ length self.old.ended.items) × (self.new.dials ≡ self.old.dials)
+            × (self.new.stopped ≡ self.old.stopped) × (self.new.failed_before ≡ self.old.failed_before)) }
     {
         self.mark(ticket as usize)?;
         self.count();
@@ -236,8 +246,10 @@ impl Progress {
 
     /// The call of this place has ended well.
     fn mark(&mut self, place: usize) -> Result<(), NoMemory>
-        ensures knows { OnOk result ((es : List Shown) (acked : List Asked) (said : Said) → is_failure said ≡ false → Knows self.old es acked → Knows self.new (es ++ Ends place said ∷ []) acked) }
-        ensures rest { OnOk result ((length self.new.ended.items ≡ length self.old.ended.items) × (self.new.dials ≡ self.old.dials) × (self.new.stopped ≡ self.old.stopped) × (self.new.failed_before ≡ self.old.failed_before)) }
+        ensures knows { OnOk result ((es : List Shown) (acked : List Asked) (said : Said) → is_failure said ≡ false → Knows self.old es acked
+            → Knows self.new (es ++ Ends place said ∷ []) acked) }
+        ensures rest { OnOk result ((length self.new.ended.items ≡ length self.old.ended.items) × (self.new.dials ≡ self.old.dials)
+            × (self.new.stopped ≡ self.old.stopped) × (self.new.failed_before ≡ self.old.failed_before)) }
     {
         if place >= self.ended.len() {
             return Err(NoMemory);
@@ -249,7 +261,8 @@ impl Progress {
     /// The calls below the first that is open have all ended well.
     fn count(&mut self)
         ensures knows { (es : List Shown) (acked : List Asked) → Knows self.old es acked → Knows self.new es acked }
-        ensures rest { (self.new.ended ≡ self.old.ended) × (self.new.dials ≡ self.old.dials) × (self.new.stopped ≡ self.old.stopped) × (self.new.failed_before ≡ self.old.failed_before) }
+        ensures rest { (self.new.ended ≡ self.old.ended) × (self.new.dials ≡ self.old.dials) × (self.new.stopped ≡ self.old.stopped)
+            × (self.new.failed_before ≡ self.old.failed_before) }
     {
         while self.has_ended(self.first_open as u64) {
             self.first_open += 1;
@@ -258,8 +271,10 @@ impl Progress {
 
     /// An item was given.
     fn give(&mut self, handed: &Handed) -> Result<(), NoMemory>
-        ensures knows { OnOk result ((es : List Shown) (acked : List Asked) (ticket : ℕ) → Knows self.old es acked → Knows self.new (es ++ hands ticket (Ok handed.now) ∷ []) acked) }
-        ensures rest { OnOk result ((self.new.ended ≡ self.old.ended) × (self.new.dials ≡ self.old.dials) × (self.new.stopped ≡ self.old.stopped) × (self.new.failed_before ≡ self.old.failed_before)) }
+        ensures knows { OnOk result ((es : List Shown) (acked : List Asked) (ticket : ℕ) → Knows self.old es acked
+            → Knows self.new (es ++ hands ticket (Ok handed.now) ∷ []) acked) }
+        ensures rest { OnOk result ((self.new.ended ≡ self.old.ended) × (self.new.dials ≡ self.old.dials) × (self.new.stopped ≡ self.old.stopped)
+            × (self.new.failed_before ≡ self.old.failed_before)) }
     {
         if self.owed.is_some() {
             return Err(NoMemory);

@@ -3,21 +3,28 @@
 ghost use Rattle.std.specs.List.{flat_map, list_any};
 ghost use Rattle.std.specs.Prelude.{◌≡◌, ◌++◌, ℕ, List, map, IfOk, OnOk, if◌then◌else◌};
 ghost use Rattle.pulsar_run.specs.Order.{arranged};
-ghost use Rattle.pulsar_tables.specs.Kept.{addresses_of, base_at};
-ghost use Rattle.pulsar_tables.specs.Rules.{below, opens, rung, stopped_with, woken};
-ghost use Rattle.pulsar_agenda.specs.Run.{goes_on};
+ghost use Rattle.pulsar_links.specs.Kept.{addresses_of, base_at};
+ghost use Rattle.pulsar_acts.specs.Rules.{rung, stopped_with, woken};
+ghost use Rattle.pulsar_calls.specs.Order.{below, opens};
+ghost use Rattle.pulsar_acts.specs.Run.{goes_on};
 ghost use Rattle.pulsar_agenda.specs.Agenda.{agenda_of};
-ghost use Rattle.pulsar_acts.specs.Tables.{rung_view, unset_view, view_of};
-ghost use Rattle.pulsar_tables.specs.View.{after, is_to_follow, later, nobody};
+ghost use Rattle.pulsar_consumer_table.specs.KeptConsumers.{consumers_in};
+ghost use Rattle.pulsar_producer_table.specs.KeptProducers.{producers_of};
+ghost use Rattle.pulsar_acts.specs.Tables.{is_unused, unused_act, rung_view, unset_view, view_of};
+ghost use Rattle.pulsar_acts.specs.View.{after, is_to_follow};
+ghost use Rattle.pulsar_links.specs.Seats.{later, nobody};
 
 use crate::tables::Tables;
 use crate::tables::calls::tell;
 use pulsar_agenda::agenda::Tasks;
-use pulsar_calls::act::{Act, Action, Alarm, LinkAct, Notice, Outcome, Part, Who};
-use pulsar_tables::addresses::{Addresses, Pause};
-use pulsar_tables::alarms::Alarms;
+use pulsar_calls::act::{Act, Action, Alarm, End, LinkAct, Notice, Outcome, Part, Who};
+use pulsar_consumer_table::table::Consumers;
+use pulsar_links::addresses::{Addresses, Pause};
+use pulsar_links::alarms::Alarms;
+use pulsar_producer_table::table::Producers;
 use pulsar_wire::error::NoMemory;
 use std::alloc::Global;
+use std::collections::VecDeque;
 
 impl Tables {
     /// An alarm comes, where it rings still.
@@ -40,7 +47,8 @@ impl Tables {
 
     /// The attempt that was to follow that of a link is made.
     fn tries_again(&mut self, link: u64, tasks: &mut Tasks) -> Result<(), NoMemory>
-        ensures left { OnOk result (agenda_of tasks.new ≡ record (agenda_of tasks.old) { now = rung (view_of self.old) (Alarm.Retry link) ++ tasks.old.now.items }) }
+        ensures left { OnOk result (agenda_of tasks.new
+            ≡ record (agenda_of tasks.old) { now = rung (view_of self.old) (Alarm.Retry link) ++ tasks.old.now.items }) }
         ensures sees { OnOk result (view_of self.new ≡ rung_view (Alarm.Retry link) (view_of self.old)) }
         ensures settings { self.new.settings ≡ self.old.settings }
     {
@@ -62,7 +70,11 @@ impl Tables {
 
     /// One has waited.
     fn wakes(&mut self, who: Who, tasks: &mut Tasks) -> Result<(), NoMemory>
-        ensures left { OnOk result (agenda_of tasks.new ≡ record (agenda_of tasks.old) { behind = (agenda_of tasks.old).behind ++ map (arranged below) (opens (woken (view_of self.old) (Alarm.Wake who))) }) }
+        ensures left { OnOk result (agenda_of tasks.new
+            ≡ record (agenda_of tasks.old) {
+              behind = (agenda_of tasks.old).behind
+                  ++ map (arranged below) (opens (woken (view_of self.old) (Alarm.Wake who)));
+            }) }
         ensures sees { OnOk result (view_of self.new ≡ rung_view (Alarm.Wake who) (view_of self.old)) }
         ensures settings { self.new.settings ≡ self.old.settings }
     {
@@ -77,7 +89,8 @@ impl Tables {
 
     /// A link is asked for a sign of life, unless the earlier ping still waits.
     fn keeps_alive(&mut self, link: u64, tasks: &mut Tasks) -> Result<(), NoMemory>
-        ensures left { OnOk result (agenda_of tasks.new ≡ record (agenda_of tasks.old) { now = rung (view_of self.old) (Alarm.KeepAlive link) ++ tasks.old.now.items }) }
+        ensures left { OnOk result (agenda_of tasks.new
+            ≡ record (agenda_of tasks.old) { now = rung (view_of self.old) (Alarm.KeepAlive link) ++ tasks.old.now.items }) }
         ensures sees { OnOk result (view_of self.new ≡ rung_view (Alarm.KeepAlive link) (view_of self.old)) }
         ensures settings { self.new.settings ≡ self.old.settings }
     {
@@ -94,16 +107,16 @@ impl Tables {
 
     /// Links that nothing uses end.
     fn checks_idle(&mut self, tasks: &mut Tasks) -> Result<(), NoMemory>
-        ensures left { OnOk result (agenda_of tasks.new ≡ record (agenda_of tasks.old) { now = rung (view_of self.old) Alarm.CheckIdle ++ tasks.old.now.items }) }
+        ensures left { OnOk result (agenda_of tasks.new
+            ≡ record (agenda_of tasks.old) { now = rung (view_of self.old) Alarm.CheckIdle ++ tasks.old.now.items }) }
         ensures sees { OnOk result (view_of self.new ≡ rung_view Alarm.CheckIdle (view_of self.old)) }
         ensures settings { self.new.settings ≡ self.old.settings }
     {
         self.alarms
             .set(Alarm::CheckIdle, later(self.clock, IDLE_PERIOD))?;
         let most = self.settings.connection.connection_max_idle;
-        let acts = self
-            .links
-            .idle_acts(self.clock, most, &self.consumers, &self.producers)?;
+        let resting = self.links.resting(self.clock, most)?;
+        let acts = ends_idle(self.alloc, &resting, &self.consumers, &self.producers)?;
         tasks.put_all(acts)
     }
 
@@ -171,7 +184,8 @@ fn stop_one(addresses: &Addresses, alarm: Alarm, notices: &mut Vec<Notice>) -> R
 
 /// Nobody waits for an attempt that was to follow.
 fn forget_all(addresses: &mut Addresses, alarms: &[Alarm]) -> Result<(), NoMemory>
-    ensures bases { OnOk result ((key : List ℕ) → base_at addresses.new.bases key ≡ (if list_any (is_to_follow (addresses_of addresses.old) key) alarms.now then nobody else base_at addresses.old.bases key)) }
+    ensures bases { OnOk result ((key : List ℕ) → base_at addresses.new.bases key
+        ≡ (if list_any (is_to_follow (addresses_of addresses.old) key) alarms.now then nobody else base_at addresses.old.bases key)) }
     ensures pauses { OnOk result (addresses.new.pauses ≡ addresses.old.pauses) }
 {
     for alarm in alarms {
@@ -181,7 +195,8 @@ fn forget_all(addresses: &mut Addresses, alarms: &[Alarm]) -> Result<(), NoMemor
 }
 
 fn forget_one(addresses: &mut Addresses, alarm: Alarm) -> Result<(), NoMemory>
-    ensures bases { OnOk result ((key : List ℕ) → base_at addresses.new.bases key ≡ (if is_to_follow (addresses_of addresses.old) key alarm then nobody else base_at addresses.old.bases key)) }
+    ensures bases { OnOk result ((key : List ℕ) → base_at addresses.new.bases key
+        ≡ (if is_to_follow (addresses_of addresses.old) key alarm then nobody else base_at addresses.old.bases key)) }
     ensures pauses { OnOk result (addresses.new.pauses ≡ addresses.old.pauses) }
 {
     match alarm {
@@ -198,4 +213,46 @@ pub(super) fn later(now: u64, delay: u64) -> u64
     ensures { result ≡ later now delay }
 {
     now.saturating_add(delay)
+}
+
+/// The ends of those of these links on which no subscription lives, and which no topic producer has.
+fn ends_idle(
+    alloc: Global,
+    links: &[u64],
+    consumers: &Consumers,
+    producers: &Producers,
+) -> Result<VecDeque<Act>, NoMemory>
+    ensures { IfOk result (λ acts. acts.items
+        ≡ flat_map (unused_act (consumers_in consumers.now.rows consumers.now.numbers) (producers_of producers.now)) links.now) }
+{
+    let mut acts = VecDeque::new(alloc);
+    for link in links {
+        end_unused(*link, consumers, producers, &mut acts)?;
+    }
+    Ok(acts)
+}
+
+fn end_unused(
+    link: u64,
+    consumers: &Consumers,
+    producers: &Producers,
+    acts: &mut VecDeque<Act>,
+) -> Result<(), NoMemory>
+    ensures { OnOk result (acts.new.items ≡ acts.old.items ++ unused_act (consumers_in consumers.now.rows consumers.now.numbers)
+        (producers_of producers.now) link) }
+{
+    if is_unused(link, consumers, producers) {
+        acts.push_back(Act::Comes(Part::ToLink {
+            link,
+            act: LinkAct::Ends(End::Idles),
+        }))?;
+    }
+    Ok(())
+}
+
+/// Whether no subscription lives on a link, and no topic producer has it.
+fn is_unused(link: u64, consumers: &Consumers, producers: &Producers) -> bool
+    ensures { result ≡ is_unused link (consumers_in consumers.now.rows consumers.now.numbers) (producers_of producers.now) }
+{
+    !consumers.hears_on(link) && !producers.holds(link)
 }

@@ -3,26 +3,27 @@
 ghost use Rattle.std.specs.Prelude.{◌≡◌, ◌∷◌, [], ◌++◌, IfOk, OnOk, if◌then◌else◌, map, true, Some};
 ghost use Rattle.pulsar_run.specs.Order.{arranged, put_all};
 ghost use Rattle.pulsar_producer_table.specs.KeptProducers.{producers_of};
-ghost use Rattle.pulsar_procedures.specs.Plan.{closed_notice};
+ghost use Rattle.pulsar_plans.specs.Plan.{closed_notice};
 ghost use Rattle.pulsar_producer_table.specs.Producers.{is_bare, numbers_at, timeout_at};
-ghost use Rattle.pulsar_tables.specs.Rules.{batches_by, batches_from, batches_made, below, opens, ready_notice, woken};
-ghost use Rattle.pulsar_agenda.specs.Run.{goes_on};
+ghost use Rattle.pulsar_acts.specs.Rules.{batches_by, batches_from, batches_made, ready_notice, woken};
+ghost use Rattle.pulsar_calls.specs.Order.{below, opens};
+ghost use Rattle.pulsar_acts.specs.Run.{goes_on};
 ghost use Rattle.pulsar_agenda.specs.Agenda.{agenda_of};
 ghost use Rattle.pulsar_acts.specs.Tables.{chosen_of, rung_view, view_of};
-ghost use Rattle.pulsar_tables.specs.View.{after, alarms_waiting, clear_all, producers_rung, ways_of};
+ghost use Rattle.pulsar_acts.specs.View.{after, alarms_waiting, clear_all, producers_rung, ways_of};
 ghost use Rattle.pulsar_calls.specs.declared.act.Act.{Act};
 
 use crate::tables::Tables;
 use crate::tables::alarms::later;
+use pulsar_addresses::content::Refusal;
 use pulsar_agenda::agenda::Tasks;
 use pulsar_calls::act::{Act as Deed, Action, Alarm, Notice, Outcome, Procedure, Who};
 use pulsar_calls::content::{Building, Granted, Notices};
 use pulsar_calls::who::turn_of;
-use pulsar_plans::content::Refusal;
-use pulsar_plans::turn::Ways;
-use pulsar_producer::content::{Built, Entry};
+use pulsar_outgoing::content::{Built, Entry};
+use pulsar_outgoing::orders::Errand;
 use pulsar_producer::deed::News;
-use pulsar_producer::sending::Errand;
+use pulsar_searches::turn::Ways;
 use pulsar_wire::error::{Error, NoMemory, ProducerError};
 use std::alloc::Global;
 use std::collections::VecDeque;
@@ -104,7 +105,12 @@ impl Tables {
 
     /// What a topic producer stores waits from its first message on; where it stores nothing any longer nothing waits.
     fn waits_from(&mut self, number: u64, was_bare: bool) -> Result<(), NoMemory>
-        ensures sees { OnOk result (view_of self.new ≡ record (view_of self.old) { alarms = alarms_waiting self.old.clock (timeout_at (producers_of self.old.producers) ((producers_of self.old.producers).topics number)) number was_bare (is_bare ((producers_of self.old.producers).topics number)) self.old.alarms }) }
+        ensures sees { OnOk result (view_of self.new
+            ≡ record (view_of self.old) {
+              alarms = alarms_waiting self.old.clock
+                  (timeout_at (producers_of self.old.producers) ((producers_of self.old.producers).topics number)) number was_bare
+                  (is_bare ((producers_of self.old.producers).topics number)) self.old.alarms;
+            }) }
         ensures settings { self.new.settings ≡ self.old.settings }
     {
         if self.producers.is_bare(number) {
@@ -123,8 +129,14 @@ impl Tables {
 
     /// What a topic producer stores has waited: it is cut into a batch.
     pub(super) fn cuts(&mut self, number: u64, tasks: &mut Tasks) -> Result<(), NoMemory>
-        ensures left { OnOk result (agenda_of tasks.new ≡ record (agenda_of tasks.old) { behind = (agenda_of tasks.old).behind ++ map (arranged below) (opens (woken (view_of self.old) (Alarm.Batch number))) }) }
-        ensures sees { OnOk result (view_of self.new ≡ record (rung_view (Alarm.Batch number) (view_of self.old)) { producers = producers_rung true (Alarm.Batch number) (view_of self.old).producers }) }
+        ensures left { OnOk result (agenda_of tasks.new
+            ≡ record (agenda_of tasks.old) {
+              behind = (agenda_of tasks.old).behind
+                  ++ map (arranged below) (opens (woken (view_of self.old) (Alarm.Batch number)));
+            }) }
+        ensures sees { OnOk result (view_of self.new
+            ≡ record (rung_view (Alarm.Batch number) (view_of self.old))
+            { producers = producers_rung true (Alarm.Batch number) (view_of self.old).producers }) }
         ensures settings { self.new.settings ≡ self.old.settings }
     {
         self.alarms.clear(Alarm::Batch(number))?;
@@ -135,7 +147,8 @@ impl Tables {
 
     /// Nothing that the topic producers of a producer store waits.
     pub(super) fn clear_batches(&mut self, producer: u64) -> Result<(), NoMemory>
-        ensures sees { OnOk result (view_of self.new ≡ record (view_of self.old) { alarms = clear_all (numbers_at ((producers_of self.old.producers).built producer)) self.old.alarms }) }
+        ensures sees { OnOk result (view_of self.new
+            ≡ record (view_of self.old) { alarms = clear_all (numbers_at ((producers_of self.old.producers).built producer)) self.old.alarms }) }
         ensures settings { self.new.settings ≡ self.old.settings }
     {
         let mut numbers = self.producers.numbers_of(producer)?;
@@ -205,7 +218,8 @@ fn readied(alloc: Global, number: u64, is_ready: bool) -> Result<Vec<Notice>, No
 }
 
 fn join_ready(alloc: Global, number: u64, is_ready: bool, tasks: &mut Tasks) -> Result<(), NoMemory>
-    ensures { OnOk result (agenda_of tasks.new ≡ record (agenda_of tasks.old) { here = put_all below (if is_ready then ready_notice number ∷ [] else []) tasks.old.here }) }
+    ensures { OnOk result (agenda_of tasks.new
+        ≡ record (agenda_of tasks.old) { here = put_all below (if is_ready then ready_notice number ∷ [] else []) tasks.old.here }) }
 {
     if is_ready {
         tasks.join(ready(alloc, number)?)

@@ -2,25 +2,26 @@
 
 ghost use Rattle.std.specs.Prelude.{◌≡◌, ◌+◌, ◌&&◌, ◌++◌, ◌∷◌, not, map, IfOk, MatchBool, None, Some, OnOk, string_bytes, true, false, if◌then◌else◌};
 ghost use Rattle.pulsar_calls.specs.Content.{Build, asked, lacks_tickets, shares, shown};
-ghost use Rattle.pulsar_tables.specs.Effects.{effects, ends};
-ghost use Rattle.pulsar_link.specs.RawCall.{words_of};
-ghost use Rattle.pulsar_link.specs.Request.{named_consumer, named_producer};
+ghost use Rattle.pulsar_acts.specs.Effects.{effects, ends};
+ghost use Rattle.pulsar_exchange.specs.RawCall.{words_of};
+ghost use Rattle.pulsar_exchange.specs.Request.{named_consumer, named_producer};
 ghost use Rattle.pulsar_consumer_table.specs.Consumers as consumer;
 ghost use Rattle.pulsar_producer_table.specs.Producers.{called_on, names_in, opened_on};
 ghost use Rattle.pulsar_calls.specs.Notices.{notice};
-ghost use Rattle.pulsar_tables.specs.Reading.{unless};
-ghost use Rattle.pulsar_tables.specs.Rules.{asks_raw, asks_topics, builds_with, does, follows, from_base, is_taken, parts_of, procedure_for, searches, taken_by, unless_refused};
-ghost use Rattle.pulsar_agenda.specs.Run.{goes_on, ticket_for};
+ghost use Rattle.pulsar_acts.specs.Reading.{unless};
+ghost use Rattle.pulsar_acts.specs.Rules.{asks_raw, asks_topics, builds_with, does, follows, from_base, is_taken, parts_of, procedure_for, searches, taken_by, unless_refused};
+ghost use Rattle.pulsar_acts.specs.Run.{goes_on, ticket_for};
 ghost use Rattle.pulsar_agenda.specs.Agenda.{agenda_of};
 ghost use Rattle.pulsar_acts.specs.Tables.{chosen_of, view_of};
-ghost use Rattle.pulsar_procedures.specs.Standing.{stand_of};
-ghost use Rattle.pulsar_tables.specs.View.{after, alarms_built, builds, may_call, stays, ways_of};
+ghost use Rattle.pulsar_plans.specs.Standing.{stand_of};
+ghost use Rattle.pulsar_acts.specs.View.{after, alarms_built, builds, may_call, stays, ways_of};
 ghost use Rattle.pulsar_calls.specs.Who.{is_same};
 ghost use Rattle.pulsar_calls.specs.declared.act.Who.{Who as Meant};
 
 use crate::tables::Tables;
 use crate::tables::alarms::{IDLE_PERIOD, later};
 use crate::tables::consumers::{join_all, join_some};
+use pulsar_addresses::content::{Address, Text as Topic};
 use pulsar_agenda::agenda::Tasks;
 use pulsar_calls::act::{
     Act, Action, Alarm, Makes, Notice, Outcome, Part, Place, Procedure, Refusal, Says, Verdict, Who,
@@ -28,13 +29,12 @@ use pulsar_calls::act::{
 use pulsar_calls::content::{Advice, Asking, Said};
 use pulsar_calls::effect::Effect;
 use pulsar_calls::event::Call;
-use pulsar_link::content::Request;
-use pulsar_link::raw_call::RawCall;
-use pulsar_plans::content::{Address, Text as Topic};
-use pulsar_plans::plan::Procedure as Sought;
-use pulsar_procedures::plan::{Plan, Turn, begins, failure, told};
-use pulsar_procedures::table::Plans;
-use pulsar_tables::addresses::Series;
+use pulsar_exchange::content::Request;
+use pulsar_exchange::raw_call::RawCall;
+use pulsar_links::addresses::Series;
+use pulsar_plans::plan::{Plan, Turn, begins, failure, told};
+use pulsar_plans::table::Plans;
+use pulsar_searches::plan::Procedure as Sought;
 use pulsar_wire::commands::topics::Mode;
 use pulsar_wire::error::{ConnectionError, NoMemory};
 use std::collections::VecDeque;
@@ -89,9 +89,15 @@ impl Tables {
         parts: &mut VecDeque<Act>,
     ) -> Result<Procedure, NoMemory>
         requires { lacks_tickets self.old.tickets (shares asking) ≡ false }
-        ensures procedure { IfOk result (λ p. p ≡ procedure_for (view_of self.old).chosen (view_of self.old).calls (view_of self.old).consumers (view_of self.old).producers advice asking) }
+        ensures procedure { IfOk result (λ p. p ≡ procedure_for (view_of self.old).chosen (view_of self.old).calls (view_of self.old).consumers
+            (view_of self.old).producers advice asking) }
         ensures parts { OnOk result (parts.new.items ≡ parts.old.items ++ parts_of (view_of self.old) advice asking) }
-        ensures after { OnOk result (view_of self.new ≡ record (view_of self.old) { consumers = consumer.called_on (may_call (view_of self.old).calls) asking (view_of self.old).consumers; producers = called_on (may_call (view_of self.old).calls) asking (view_of self.old).producers }) }
+        ensures after { OnOk result (view_of self.new
+            ≡ record (view_of self.old) {
+              consumers = consumer.called_on (may_call (view_of self.old).calls) asking
+                  (view_of self.old).consumers;
+              producers = called_on (may_call (view_of self.old).calls) asking (view_of self.old).producers;
+            }) }
         ensures settings { self.new.settings ≡ self.old.settings }
     {
         if is_build(asking.call()) {
@@ -128,9 +134,15 @@ impl Tables {
     ) -> Result<Procedure, NoMemory>
         requires allowed { may_call (view_of self.old).calls ≡ true }
         requires tickets { lacks_tickets self.old.tickets (shares asking) ≡ false }
-        ensures procedure { IfOk result (λ p. p ≡ procedure_for (view_of self.old).chosen (view_of self.old).calls (view_of self.old).consumers (view_of self.old).producers advice asking) }
+        ensures procedure { IfOk result (λ p. p ≡ procedure_for (view_of self.old).chosen (view_of self.old).calls (view_of self.old).consumers
+            (view_of self.old).producers advice asking) }
         ensures parts { OnOk result (parts.new.items ≡ parts.old.items ++ parts_of (view_of self.old) advice asking) }
-        ensures after { OnOk result (view_of self.new ≡ record (view_of self.old) { consumers = consumer.opened_on asking (view_of self.old).consumers; producers = opened_on asking (view_of self.old).producers }) }
+        ensures after { OnOk result (view_of self.new
+            ≡ record (view_of self.old) {
+              consumers = consumer.opened_on asking (view_of self.old).consumers;
+              producers = opened_on asking
+                  (view_of self.old).producers;
+            }) }
         ensures settings { self.new.settings ≡ self.old.settings }
     {
         match asking.into_inner() {
@@ -168,7 +180,12 @@ impl Tables {
     /// A request on a link. Numbers that it names are not given to producers and consumers of the client, and none of those has one.
     fn raw(&mut self, link: u64, call: RawCall) -> Result<Procedure, NoMemory>
         ensures procedure { IfOk result (λ p. p ≡ asks_raw (view_of self.old).consumers (view_of self.old).producers link (words_of call)) }
-        ensures after { OnOk result (view_of self.new ≡ record (view_of self.old) { consumers = consumer.names_in (named_consumer (words_of call)) (view_of self.old).consumers; producers = names_in (named_producer (words_of call)) (view_of self.old).producers }) }
+        ensures after { OnOk result (view_of self.new
+            ≡ record (view_of self.old) {
+              consumers = consumer.names_in (named_consumer (words_of call))
+                  (view_of self.old).consumers;
+              producers = names_in (named_producer (words_of call)) (view_of self.old).producers;
+            }) }
         ensures settings { self.new.settings ≡ self.old.settings }
     {
         let producer = call.named_producer();
@@ -243,7 +260,8 @@ impl Tables {
         outcome: Outcome,
         tasks: &mut Tasks,
     ) -> Result<(), NoMemory>
-        ensures left { OnOk result (agenda_of tasks.new ≡ goes_on (view_of self.old) (Act.Told (record { who = who; outcome = outcome })) (agenda_of tasks.old)) }
+        ensures left { OnOk result (agenda_of tasks.new ≡ goes_on (view_of self.old) (Act.Told (record { who = who; outcome = outcome }))
+            (agenda_of tasks.old)) }
         ensures sees { OnOk result (view_of self.new ≡ after (Act.Told (record { who = who; outcome = outcome })) (view_of self.old)) }
         ensures settings { self.new.settings ≡ self.old.settings }
     {
@@ -370,7 +388,13 @@ impl Tables {
 
     /// The client is built where a verdict makes it. With the first such the idle check begins.
     fn builds(&mut self, makes: &Makes) -> Result<(), NoMemory>
-        ensures sees { OnOk result (view_of self.new ≡ record (view_of self.old) { calls = record { drawn = self.old.tickets; is_built = builds makes.now self.old.is_built; is_stopped = self.old.is_stopped }; alarms = alarms_built self.old.clock (not self.old.is_built && builds makes.now false) self.old.alarms }) }
+        ensures sees { OnOk result (view_of self.new
+            ≡ record (view_of self.old) {
+              calls = record
+                  { drawn = self.old.tickets; is_built = builds makes.now self.old.is_built; is_stopped = self.old.is_stopped };
+              alarms = alarms_built
+                  self.old.clock (not self.old.is_built && builds makes.now false) self.old.alarms;
+            }) }
         ensures settings { self.new.settings ≡ self.old.settings }
     {
         if self.is_built {

@@ -3,36 +3,36 @@
 ghost use Rattle.std.specs.Prelude.{◌≡◌, ◌++◌, ◌∷◌, [], IfOk, OnOk, map};
 ghost use Rattle.std.specs.Option.{option_to_list};
 ghost use Rattle.pulsar_run.specs.Order.{put_all};
-ghost use Rattle.pulsar_link.specs.RawCall.{words_of};
+ghost use Rattle.pulsar_exchange.specs.RawCall.{words_of};
 ghost use Rattle.pulsar_messages.specs.Words.{SendAck, SendRedeliver};
 ghost use Rattle.pulsar_wire.specs.Views.{message_id_values};
 ghost use Rattle.pulsar_calls.specs.Content.{shown};
 ghost use Rattle.pulsar_calls.specs.declared.act.Act.{Act};
-ghost use Rattle.pulsar_consumer.specs.Content.{consumer_wanted};
-ghost use Rattle.pulsar_tables.specs.Effects.{effects};
+ghost use Rattle.pulsar_incoming.specs.Content.{consumer_wanted};
+ghost use Rattle.pulsar_acts.specs.Effects.{effects};
 ghost use Rattle.pulsar_consumer_table.specs.KeptConsumers.{consumers_in};
 ghost use Rattle.pulsar_consumer_table.specs.Consumers.{link_at, why_not};
-ghost use Rattle.pulsar_tables.specs.Reading.{acknowledges, leaves, revived_said, subscribes, subscribes_by, tells_word, unless};
-ghost use Rattle.pulsar_tables.specs.Rules.{below};
-ghost use Rattle.pulsar_agenda.specs.Run.{goes_on};
+ghost use Rattle.pulsar_acts.specs.Reading.{acknowledges, leaves, revived_said, subscribes, subscribes_by, tells_word, unless};
+ghost use Rattle.pulsar_calls.specs.Order.{below};
+ghost use Rattle.pulsar_acts.specs.Run.{goes_on};
 ghost use Rattle.pulsar_agenda.specs.Agenda.{agenda_of};
 ghost use Rattle.pulsar_acts.specs.Tables.{chosen_of, view_of};
-ghost use Rattle.pulsar_tables.specs.View.{after, ways_of};
+ghost use Rattle.pulsar_acts.specs.View.{after, ways_of};
 
 use crate::tables::Tables;
 use crate::tables::calls::tell;
+use pulsar_addresses::content::Refusal as Failure;
 use pulsar_agenda::agenda::Tasks;
 use pulsar_calls::act::{Action, Notice, Outcome, Part, Procedure, Refusal, Who, Word};
 use pulsar_calls::content::{Cause, Recalled};
 use pulsar_calls::effect::Effect;
 use pulsar_calls::who::ticket_of;
-use pulsar_consumer::ConsumerBuilder;
-use pulsar_consumer::naming::{Ordered, order_of};
 use pulsar_consumer_table::numbers::Numbering;
 use pulsar_consumer_table::row::Sought;
-use pulsar_link::content::Request;
-use pulsar_link::raw_call::RawCall;
-use pulsar_plans::content::Refusal as Failure;
+use pulsar_exchange::content::Request;
+use pulsar_exchange::raw_call::RawCall;
+use pulsar_incoming::builder::ConsumerBuilder;
+use pulsar_incoming::naming::{Ordered, order_of};
 use pulsar_wire::commands::ids::MessageIdData;
 use pulsar_wire::error::{ConnectionError, NoMemory};
 use std::alloc::Global;
@@ -88,7 +88,8 @@ impl Tables {
         id: MessageIdData,
         cumulative: bool,
     ) -> Result<Procedure, NoMemory>
-        ensures { IfOk result (λ p. p ≡ acknowledges (consumers_in self.now.consumers.rows self.now.consumers.numbers) ticket (λ n. SendAck n (message_id_values id ∷ []) cumulative)) }
+        ensures { IfOk result (λ p. p ≡ acknowledges (consumers_in self.now.consumers.rows self.now.consumers.numbers) ticket
+            (λ n. SendAck n (message_id_values id ∷ []) cumulative)) }
     {
         let ids = one_id(self.alloc, id)?;
         self.asks_for(
@@ -107,7 +108,8 @@ impl Tables {
         ticket: u64,
         id: MessageIdData,
     ) -> Result<Procedure, NoMemory>
-        ensures { IfOk result (λ p. p ≡ acknowledges (consumers_in self.now.consumers.rows self.now.consumers.numbers) ticket (λ n. SendRedeliver n (message_id_values id ∷ []))) }
+        ensures { IfOk result (λ p. p ≡ acknowledges (consumers_in self.now.consumers.rows self.now.consumers.numbers) ticket
+            (λ n. SendRedeliver n (message_id_values id ∷ []))) }
     {
         let ids = one_id(self.alloc, id)?;
         self.asks_for(
@@ -121,7 +123,8 @@ impl Tables {
 
     /// This is asked for on the link of a consumer, where a subscription of it is live.
     fn asks_for(&self, ticket: u64, call: RawCall) -> Result<Procedure, NoMemory>
-        ensures { IfOk result (λ p. p ≡ unless (why_not (consumers_in self.now.consumers.rows self.now.consumers.numbers) ticket) (Procedure.Acknowledge (link_at ((consumers_in self.now.consumers.rows self.now.consumers.numbers).rows ticket)) (words_of call))) }
+        ensures { IfOk result (λ p. p ≡ unless (why_not (consumers_in self.now.consumers.rows self.now.consumers.numbers) ticket)
+            (Procedure.Acknowledge (link_at ((consumers_in self.now.consumers.rows self.now.consumers.numbers).rows ticket)) (words_of call))) }
     {
         if let Some(refusal) = self.consumers.why_not(ticket) {
             drop(call);

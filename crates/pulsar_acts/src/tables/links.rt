@@ -2,24 +2,24 @@
 
 ghost use Rattle.std.specs.Prelude.{◌≡◌, ◌++◌, map, OnOk};
 ghost use Rattle.pulsar_calls.specs.Content.{shown};
-ghost use Rattle.pulsar_tables.specs.Effects.{effects};
-ghost use Rattle.pulsar_tables.specs.Kept.{addresses_of, live_in};
-ghost use Rattle.pulsar_tables.specs.Rules.{breaks_at, reads_on, served_on, waiters_of};
-ghost use Rattle.pulsar_agenda.specs.Run.{goes_on};
+ghost use Rattle.pulsar_acts.specs.Effects.{effects};
+ghost use Rattle.pulsar_links.specs.Kept.{addresses_of, live_in};
+ghost use Rattle.pulsar_acts.specs.Rules.{breaks_at, reads_on, served_on, waiters_of};
+ghost use Rattle.pulsar_acts.specs.Run.{goes_on};
 ghost use Rattle.pulsar_consumer_table.specs.Consumers.{all_changed, hears, over_rows};
 ghost use Rattle.pulsar_consumer_table.specs.KeptConsumers.{consumers_in};
 ghost use Rattle.pulsar_consumer_table.specs.Notices.{heard_at};
 ghost use Rattle.pulsar_agenda.specs.Agenda.{agenda_of};
 ghost use Rattle.pulsar_acts.specs.Tables.{chosen_of, retry_set, retry_shown, turned_view, view_of, welcomed};
-ghost use Rattle.pulsar_tables.specs.View.{after};
+ghost use Rattle.pulsar_acts.specs.View.{after};
 
 use crate::tables::Tables;
 use crate::tables::alarms::later;
+use pulsar_addresses::content::Address;
 use pulsar_agenda::agenda::Tasks;
 use pulsar_calls::act::{Act, Alarm, Arrival, End, LinkAct, Notice, Part, Who};
 use pulsar_calls::effect::Effect;
-use pulsar_plans::content::Address;
-use pulsar_tables::address::connect;
+use pulsar_links::address::connect;
 use pulsar_wire::error::NoMemory;
 
 impl Tables {
@@ -47,7 +47,8 @@ impl Tables {
 
     /// A link is asked for a sign of life.
     fn pings(&mut self, link: u64, out: &mut Vec<Effect>) -> Result<(), NoMemory>
-        ensures out { OnOk result (map shown out.new.items ≡ map shown out.old.items ++ effects (view_of self.old) (Act.Comes (Part.ToLink link LinkAct.Pings))) }
+        ensures out { OnOk result (map shown out.new.items ≡ map shown out.old.items
+            ++ effects (view_of self.old) (Act.Comes (Part.ToLink link LinkAct.Pings))) }
         ensures sees { OnOk result (view_of self.new ≡ after (Act.Comes (Part.ToLink link LinkAct.Pings)) (view_of self.old)) }
         ensures settings { self.new.settings ≡ self.old.settings }
     {
@@ -56,7 +57,8 @@ impl Tables {
 
     /// A link is open.
     fn opens(&mut self, link: u64, out: &mut Vec<Effect>) -> Result<(), NoMemory>
-        ensures out { OnOk result (map shown out.new.items ≡ map shown out.old.items ++ effects (view_of self.old) (Act.Comes (Part.ToLink link LinkAct.Opens))) }
+        ensures out { OnOk result (map shown out.new.items ≡ map shown out.old.items
+            ++ effects (view_of self.old) (Act.Comes (Part.ToLink link LinkAct.Opens))) }
         ensures sees { OnOk result (view_of self.new ≡ after (Act.Comes (Part.ToLink link LinkAct.Opens)) (view_of self.old)) }
         ensures settings { self.new.settings ≡ self.old.settings }
     {
@@ -65,7 +67,8 @@ impl Tables {
 
     /// The next frame of a link is read.
     fn reads(&mut self, link: u64, tasks: &mut Tasks, out: &mut Vec<Effect>) -> Result<(), NoMemory>
-        ensures out { OnOk result (map shown out.new.items ≡ map shown out.old.items ++ effects (view_of self.old) (Act.Comes (Part.ToLink link LinkAct.Reads))) }
+        ensures out { OnOk result (map shown out.new.items ≡ map shown out.old.items
+            ++ effects (view_of self.old) (Act.Comes (Part.ToLink link LinkAct.Reads))) }
         ensures left { OnOk result (agenda_of tasks.new ≡ goes_on (view_of self.old) (Act.Comes (Part.ToLink link LinkAct.Reads)) (agenda_of tasks.old)) }
         ensures sees { OnOk result (view_of self.new ≡ after (Act.Comes (Part.ToLink link LinkAct.Reads)) (view_of self.old)) }
         ensures settings { self.new.settings ≡ self.old.settings }
@@ -84,7 +87,8 @@ impl Tables {
         arrival: &Arrival,
         notices: &mut Vec<Notice>,
     ) -> Result<(), NoMemory>
-        ensures notices { OnOk result (notices.new.items ≡ notices.old.items ++ waiters_of served_on (addresses_of self.old.addresses) (welcomed link arrival.now (live_in self.old.links.live link))) }
+        ensures notices { OnOk result (notices.new.items ≡ notices.old.items
+            ++ waiters_of served_on (addresses_of self.old.addresses) (welcomed link arrival.now (live_in self.old.links.live link))) }
         ensures sees { OnOk result (view_of self.new ≡ turned_view (welcomed link arrival.now (live_in self.old.links.live link)) (view_of self.old)) }
         ensures settings { self.new.settings ≡ self.old.settings }
     {
@@ -99,7 +103,8 @@ impl Tables {
     }
 
     fn readied(&mut self, link: u64, notices: &mut Vec<Notice>) -> Result<(), NoMemory>
-        ensures notices { OnOk result (notices.new.items ≡ notices.old.items ++ waiters_of served_on (addresses_of self.old.addresses) (welcomed link Arrival.Readied (live_in self.old.links.live link))) }
+        ensures notices { OnOk result (notices.new.items ≡ notices.old.items
+            ++ waiters_of served_on (addresses_of self.old.addresses) (welcomed link Arrival.Readied (live_in self.old.links.live link))) }
         ensures sees { OnOk result (view_of self.new ≡ turned_view (welcomed link Arrival.Readied (live_in self.old.links.live link)) (view_of self.old)) }
         ensures settings { self.new.settings ≡ self.old.settings }
     {
@@ -120,8 +125,13 @@ impl Tables {
         tasks: &mut Tasks,
     ) -> Result<(), NoMemory>
         ensures left { OnOk result (agenda_of tasks.new ≡ record (agenda_of tasks.old) { now = breaks_at link arrival ++ tasks.old.now.items }) }
-        ensures notices { OnOk result (notices.new.items ≡ notices.old.items ++ over_rows (heard_at link arrival) (consumers_in self.old.consumers.rows self.old.consumers.numbers)) }
-        ensures sees { OnOk result (view_of self.new ≡ record (view_of self.old) { consumers = all_changed (hears link arrival) (consumers_in self.old.consumers.rows self.old.consumers.numbers) }) }
+        ensures notices { OnOk result (notices.new.items ≡ notices.old.items
+            ++ over_rows (heard_at link arrival) (consumers_in self.old.consumers.rows self.old.consumers.numbers)) }
+        ensures sees { OnOk result (view_of self.new
+            ≡ record (view_of self.old) {
+              consumers = all_changed (hears link arrival)
+                  (consumers_in self.old.consumers.rows self.old.consumers.numbers);
+            }) }
         ensures settings { self.new.settings ≡ self.old.settings }
     {
         match arrival {
@@ -141,8 +151,10 @@ impl Tables {
         tasks: &mut Tasks,
         out: &mut Vec<Effect>,
     ) -> Result<(), NoMemory>
-        ensures out { OnOk result (map shown out.new.items ≡ map shown out.old.items ++ effects (view_of self.old) (Act.Comes (Part.ToLink link (LinkAct.Drains most)))) }
-        ensures left { OnOk result (agenda_of tasks.new ≡ goes_on (view_of self.old) (Act.Comes (Part.ToLink link (LinkAct.Drains most))) (agenda_of tasks.old)) }
+        ensures out { OnOk result (map shown out.new.items ≡ map shown out.old.items
+            ++ effects (view_of self.old) (Act.Comes (Part.ToLink link (LinkAct.Drains most)))) }
+        ensures left { OnOk result (agenda_of tasks.new ≡ goes_on (view_of self.old) (Act.Comes (Part.ToLink link (LinkAct.Drains most)))
+            (agenda_of tasks.old)) }
         ensures sees { OnOk result (view_of self.new ≡ after (Act.Comes (Part.ToLink link (LinkAct.Drains most))) (view_of self.old)) }
         ensures settings { self.new.settings ≡ self.old.settings }
     {
@@ -158,7 +170,8 @@ impl Tables {
         tasks: &mut Tasks,
         out: &mut Vec<Effect>,
     ) -> Result<(), NoMemory>
-        ensures out { OnOk result (map shown out.new.items ≡ map shown out.old.items ++ effects (view_of self.old) (Act.Comes (Part.ToLink link (LinkAct.Ends end)))) }
+        ensures out { OnOk result (map shown out.new.items ≡ map shown out.old.items
+            ++ effects (view_of self.old) (Act.Comes (Part.ToLink link (LinkAct.Ends end)))) }
         ensures left { OnOk result (agenda_of tasks.new ≡ goes_on (view_of self.old) (Act.Comes (Part.ToLink link (LinkAct.Ends end))) (agenda_of tasks.old)) }
         ensures sees { OnOk result (view_of self.new ≡ after (Act.Comes (Part.ToLink link (LinkAct.Ends end))) (view_of self.old)) }
         ensures settings { self.new.settings ≡ self.old.settings }
@@ -183,7 +196,8 @@ impl Tables {
         out: &mut Vec<Effect>,
     ) -> Result<(), NoMemory>
         ensures out { OnOk result (map shown out.new.items ≡ map shown out.old.items ++ retry_shown (chosen_of self.old.settings) link again) }
-        ensures sees { OnOk result (view_of self.new ≡ record (view_of self.old) { alarms = retry_set (chosen_of self.old.settings) self.old.clock link again self.old.alarms }) }
+        ensures sees { OnOk result (view_of self.new
+            ≡ record (view_of self.old) { alarms = retry_set (chosen_of self.old.settings) self.old.clock link again self.old.alarms }) }
         ensures settings { self.new.settings ≡ self.old.settings }
     {
         let Some(retries) = again else {

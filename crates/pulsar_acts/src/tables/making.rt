@@ -2,14 +2,14 @@
 
 ghost use Rattle.std.specs.Prelude.{◌≡◌, ◌∷◌, [], IfOk, OnOk};
 ghost use Rattle.std.specs.Option.{option_to_list};
-ghost use Rattle.pulsar_tables.specs.Kept.{live_in};
+ghost use Rattle.pulsar_links.specs.Kept.{live_in};
 ghost use Rattle.pulsar_producer_table.specs.KeptProducers.{producers_of};
 ghost use Rattle.pulsar_consumer_table.specs.KeptConsumers.{consumers_in, member_in};
 ghost use Rattle.pulsar_consumer_table.specs.Notices.{due_to};
-ghost use Rattle.pulsar_tables.specs.Reading.{made_due, serves_by};
-ghost use Rattle.pulsar_tables.specs.Rules.{left_with};
+ghost use Rattle.pulsar_acts.specs.Reading.{made_due, serves_by};
+ghost use Rattle.pulsar_acts.specs.Rules.{left_with};
 ghost use Rattle.pulsar_acts.specs.Tables.{chosen_of, view_of};
-ghost use Rattle.pulsar_tables.specs.View.{consumers_left, consumers_made, joins_as, member_on, producers_made, setup_of, ways_of};
+ghost use Rattle.pulsar_acts.specs.View.{consumers_left, consumers_made, joins_as, member_on, producers_made, setup_of, ways_of};
 ghost use Rattle.pulsar_calls.specs.Who.{ticket_of};
 
 use crate::tables::Tables;
@@ -19,7 +19,7 @@ use pulsar_calls::who::{rank, ticket_of};
 use pulsar_consumer::TopicConsumer;
 use pulsar_consumer_table::due;
 use pulsar_consumer_table::row::ConsumerRow;
-use pulsar_link::content::Subscribed;
+use pulsar_exchange::content::Subscribed;
 use pulsar_wire::error::NoMemory;
 use std::alloc::Global;
 use std::collections::VecDeque;
@@ -28,7 +28,13 @@ impl Tables {
     /// What a verdict makes has the ticket of its call: what a consumer is told that is made.
     pub(super) fn makes(&mut self, who: Who, makes: Makes) -> Result<Option<Notice>, NoMemory>
         ensures due { IfOk result (λ n. option_to_list n ≡ made_due (live_in self.old.links.live) who makes) }
-        ensures sees { OnOk result (view_of self.new ≡ record (view_of self.old) { consumers = consumers_made (live_in self.old.links.live) who makes (consumers_in self.old.consumers.rows self.old.consumers.numbers); producers = producers_made (chosen_of self.old.settings) who makes (producers_of self.old.producers) }) }
+        ensures sees { OnOk result (view_of self.new
+            ≡ record (view_of self.old) {
+              consumers = consumers_made (live_in self.old.links.live) who makes
+                  (consumers_in self.old.consumers.rows self.old.consumers.numbers);
+              producers = producers_made (chosen_of self.old.settings) who makes
+                  (producers_of self.old.producers);
+            }) }
         ensures settings { self.new.settings ≡ self.old.settings }
     {
         match makes {
@@ -53,7 +59,11 @@ impl Tables {
     /// A consumer was built. A flow of it is due.
     fn joins(&mut self, who: Who, joined: Joined) -> Result<Option<Notice>, NoMemory>
         ensures due { IfOk result (λ n. option_to_list n ≡ due_to (ticket_of who) (member_on (live_in self.old.links.live) joined.link (setup_of joined))) }
-        ensures sees { OnOk result (view_of self.new ≡ record (view_of self.old) { consumers = consumers_made (live_in self.old.links.live) who (Makes.Consumer joined) (consumers_in self.old.consumers.rows self.old.consumers.numbers) }) }
+        ensures sees { OnOk result (view_of self.new
+            ≡ record (view_of self.old) {
+              consumers = consumers_made (live_in self.old.links.live) who (Makes.Consumer joined)
+                  (consumers_in self.old.consumers.rows self.old.consumers.numbers);
+            }) }
         ensures settings { self.new.settings ≡ self.old.settings }
     {
         let Joining {
@@ -72,7 +82,11 @@ impl Tables {
 
     /// A raw consumer was made.
     fn joins_raw(&mut self, who: Who, link: u64, made: Subscribed) -> Result<(), NoMemory>
-        ensures sees { OnOk result (view_of self.new ≡ record (view_of self.old) { consumers = consumers_made (live_in self.old.links.live) who (Makes.RawConsumer link made) (consumers_in self.old.consumers.rows self.old.consumers.numbers) }) }
+        ensures sees { OnOk result (view_of self.new
+            ≡ record (view_of self.old) {
+              consumers = consumers_made (live_in self.old.links.live) who (Makes.RawConsumer link made)
+                  (consumers_in self.old.consumers.rows self.old.consumers.numbers);
+            }) }
         ensures settings { self.new.settings ≡ self.old.settings }
     {
         let url = self.links.url(link)?;
@@ -83,7 +97,10 @@ impl Tables {
 
     /// A consumer has the ticket of the call that makes it.
     fn joins_as(&mut self, who: Who, row: ConsumerRow) -> Result<(), NoMemory>
-        ensures sees { OnOk result (view_of self.new ≡ record (view_of self.old) { consumers = joins_as who (member_in row) (consumers_in self.old.consumers.rows self.old.consumers.numbers) }) }
+        ensures sees { OnOk result (view_of self.new
+            ≡ record (view_of self.old) {
+              consumers = joins_as who (member_in row) (consumers_in self.old.consumers.rows self.old.consumers.numbers);
+            }) }
         ensures settings { self.new.settings ≡ self.old.settings }
     {
         match who {
@@ -97,7 +114,8 @@ impl Tables {
 
     /// A call that has ended holds no number.
     pub(super) fn frees(&mut self, who: Who)
-        ensures sees { view_of self.new ≡ record (view_of self.old) { consumers = consumers_left who (consumers_in self.old.consumers.rows self.old.consumers.numbers) } }
+        ensures sees { view_of self.new ≡ record (view_of self.old)
+            { consumers = consumers_left who (consumers_in self.old.consumers.rows self.old.consumers.numbers) } }
         ensures settings { self.new.settings ≡ self.old.settings }
     {
         match who {

@@ -3,10 +3,10 @@
 ghost use Rattle.std.specs.Prelude.{◌≡◌, ◌++◌, List, map, OnOk};
 ghost use Rattle.pulsar_calls.specs.Content.{shown};
 ghost use Rattle.pulsar_producer.specs.Routing.{Policy};
-ghost use Rattle.pulsar_tables.specs.Effects.{effects};
-ghost use Rattle.pulsar_tables.specs.View.{after, new};
+ghost use Rattle.pulsar_acts.specs.Effects.{effects};
+ghost use Rattle.pulsar_acts.specs.View.{after, new};
 ghost use Rattle.pulsar_agenda.specs.Agenda.{agenda_of};
-ghost use Rattle.pulsar_agenda.specs.Run.{goes_on};
+ghost use Rattle.pulsar_acts.specs.Run.{goes_on};
 ghost use Rattle.pulsar_acts.specs.Tables.{chosen_of, view_of};
 
 mod alarms;
@@ -23,11 +23,11 @@ use pulsar_agenda::agenda::Tasks;
 use pulsar_calls::act::{Act, Notice, Part};
 use pulsar_calls::effect::Effect;
 use pulsar_consumer_table::table::Consumers;
-use pulsar_procedures::table::Plans;
+use pulsar_links::addresses::Addresses;
+use pulsar_links::alarms::Alarms;
+use pulsar_links::links::Links;
+use pulsar_plans::table::Plans;
 use pulsar_producer_table::table::Producers;
-use pulsar_tables::addresses::Addresses;
-use pulsar_tables::alarms::Alarms;
-use pulsar_tables::links::Links;
 use pulsar_wire::error::NoMemory;
 use std::alloc::Global;
 

@@ -3,13 +3,14 @@
 ghost use Rattle.std.specs.Prelude.{◌≡◌, ◌++◌, OnOk, map};
 ghost use Rattle.std.specs.Option.{option_map, option_to_list};
 ghost use Rattle.pulsar_run.specs.Order.{put_all};
-ghost use Rattle.pulsar_session.specs.Failures.{fault};
-ghost use Rattle.pulsar_tables.specs.Reading.{tells};
-ghost use Rattle.pulsar_tables.specs.Rules.{below, grants, turn_notice};
-ghost use Rattle.pulsar_agenda.specs.Run.{goes_on};
+ghost use Rattle.pulsar_wire.specs.Failures.{fault};
+ghost use Rattle.pulsar_acts.specs.Reading.{tells};
+ghost use Rattle.pulsar_acts.specs.Rules.{grants, turn_notice};
+ghost use Rattle.pulsar_calls.specs.Order.{below};
+ghost use Rattle.pulsar_acts.specs.Run.{goes_on};
 ghost use Rattle.pulsar_agenda.specs.Agenda.{agenda_of};
 ghost use Rattle.pulsar_acts.specs.Tables.{view_of};
-ghost use Rattle.pulsar_tables.specs.View.{after, room_of};
+ghost use Rattle.pulsar_acts.specs.View.{after, room_of};
 ghost use Rattle.pulsar_calls.specs.declared.act.Act.{Act};
 
 use crate::tables::Tables;
@@ -19,7 +20,7 @@ use pulsar_agenda::agenda::Tasks;
 use pulsar_calls::act::{Action, Notice, Outcome, Who};
 use pulsar_calls::content::{Cause, Granted, Remade};
 use pulsar_calls::who::{in_turn, turn_of};
-use pulsar_producer::content::Version;
+use pulsar_outgoing::content::Version;
 use pulsar_producer::deed::News;
 use pulsar_wire::error::{ConnectionError, NoMemory};
 use std::alloc::Global;
@@ -182,7 +183,8 @@ fn join_next(
     next: Option<(u64, Option<Version>)>,
     tasks: &mut Tasks,
 ) -> Result<(), NoMemory>
-    ensures { OnOk result (agenda_of tasks.new ≡ record (agenda_of tasks.old) { here = put_all below (option_to_list (option_map (turn_notice number) next)) tasks.old.here }) }
+    ensures { OnOk result (agenda_of tasks.new
+        ≡ record (agenda_of tasks.old) { here = put_all below (option_to_list (option_map (turn_notice number) next)) tasks.old.here }) }
 {
     let Some((turn, version)) = next else {
         return Ok(());

@@ -3,27 +3,27 @@
 ghost use Rattle.std.specs.Prelude.{◌≡◌, ◌+◌, ◌++◌, ◌∷◌, [], IfOk, OnOk, map, length, string_bytes, true, false};
 ghost use Rattle.std.specs.Option.{option_map};
 ghost use Rattle.pulsar_messages.specs.Content.{message_content};
-ghost use Rattle.pulsar_producer.specs.Batch.{entry_of};
-ghost use Rattle.pulsar_producer.specs.Wanted.{producer_wanted};
+ghost use Rattle.pulsar_outgoing.specs.Batch.{entry_of};
+ghost use Rattle.pulsar_outgoing.specs.Wanted.{producer_wanted};
 ghost use Rattle.pulsar_producer_table.specs.KeptProducers.{producers_of};
 ghost use Rattle.pulsar_calls.specs.Content.{SendAll, lacks_tickets};
 ghost use Rattle.pulsar_calls.specs.declared.act.Action.{Action};
 ghost use Rattle.pulsar_producer_table.specs.Producers.{all_routed, routed, sent_on, why_not};
-ghost use Rattle.pulsar_tables.specs.Rules as rules;
-ghost use Rattle.pulsar_agenda.specs.Run.{goes_on};
+ghost use Rattle.pulsar_acts.specs.Rules as rules;
+ghost use Rattle.pulsar_acts.specs.Run.{goes_on};
 ghost use Rattle.pulsar_agenda.specs.Agenda.{agenda_of};
 ghost use Rattle.pulsar_acts.specs.Tables.{chosen_of, view_of};
-ghost use Rattle.pulsar_tables.specs.View.{after, may_call};
+ghost use Rattle.pulsar_acts.specs.View.{after, may_call};
 
 use crate::tables::Tables;
+use pulsar_addresses::content::Text;
 use pulsar_agenda::agenda::Tasks;
 use pulsar_calls::act::{Act, Notice, Procedure, Refusal, Round, Share, Who};
 use pulsar_calls::content::Advice;
 use pulsar_messages::Message;
-use pulsar_plans::content::Text;
-use pulsar_producer::ProducerBuilder;
-use pulsar_producer::building::Order;
-use pulsar_producer::content::{Entry, Outgoing, Settings};
+use pulsar_outgoing::content::{Entry, Outgoing, Settings};
+use pulsar_outgoing::orders::Order;
+use pulsar_outgoing::producer_builder::ProducerBuilder;
 use pulsar_producer::deed::News;
 use pulsar_wire::error::NoMemory;
 use std::alloc::Global;
@@ -77,8 +77,10 @@ impl Tables {
         message: Message,
         advice: Option<usize>,
     ) -> Result<Procedure, NoMemory>
-        ensures procedure { IfOk result (λ p. p ≡ rules.sends (chosen_of self.old.settings) (producers_of self.old.producers) advice producer (message_content message)) }
-        ensures after { OnOk result (view_of self.new ≡ record (view_of self.old) { producers = sent_on producer (message_content message ∷ []) (producers_of self.old.producers) }) }
+        ensures procedure { IfOk result (λ p. p ≡ rules.sends (chosen_of self.old.settings) (producers_of self.old.producers) advice producer
+            (message_content message)) }
+        ensures after { OnOk result (view_of self.new
+            ≡ record (view_of self.old) { producers = sent_on producer (message_content message ∷ []) (producers_of self.old.producers) }) }
         ensures settings { self.new.settings ≡ self.old.settings }
     {
         match self.why_not(producer) {
@@ -95,8 +97,10 @@ impl Tables {
         message: Message,
         advice: Option<usize>,
     ) -> Result<Procedure, NoMemory>
-        ensures procedure { IfOk result (λ p. p ≡ rules.sends_as (chosen_of self.old.settings) (producers_of self.old.producers) share advice producer (message_content message)) }
-        ensures after { OnOk result (view_of self.new ≡ record (view_of self.old) { producers = routed producer (message_content message) (producers_of self.old.producers) }) }
+        ensures procedure { IfOk result (λ p. p ≡ rules.sends_as (chosen_of self.old.settings) (producers_of self.old.producers) share advice producer
+            (message_content message)) }
+        ensures after { OnOk result (view_of self.new
+            ≡ record (view_of self.old) { producers = routed producer (message_content message) (producers_of self.old.producers) }) }
         ensures settings { self.new.settings ≡ self.old.settings }
     {
         let Some(errand) = self.producers.route(producer, &message, advice) else {
@@ -127,9 +131,12 @@ impl Tables {
     ) -> Result<Procedure, NoMemory>
         requires allowed { may_call (view_of self.old).calls ≡ true }
         requires tickets { lacks_tickets self.old.tickets (length messages.items) ≡ false }
-        ensures procedure { IfOk result (λ p. p ≡ rules.gathers (view_of self.old).calls (producers_of self.old.producers) producer (map message_content messages.items)) }
-        ensures parts { OnOk result (parts.new.items ≡ parts.old.items ++ rules.parts_of (view_of self.old) advice (SendAll producer (map message_content messages.items))) }
-        ensures after { OnOk result (view_of self.new ≡ record (view_of self.old) { producers = sent_on producer (map message_content messages.items) (producers_of self.old.producers) }) }
+        ensures procedure { IfOk result (λ p. p ≡ rules.gathers (view_of self.old).calls (producers_of self.old.producers) producer
+            (map message_content messages.items)) }
+        ensures parts { OnOk result (parts.new.items ≡ parts.old.items
+            ++ rules.parts_of (view_of self.old) advice (SendAll producer (map message_content messages.items))) }
+        ensures after { OnOk result (view_of self.new
+            ≡ record (view_of self.old) { producers = sent_on producer (map message_content messages.items) (producers_of self.old.producers) }) }
         ensures settings { self.new.settings ≡ self.old.settings }
     {
         match self.why_not(producer) {
@@ -148,8 +155,11 @@ impl Tables {
     ) -> Result<Procedure, NoMemory>
         requires { lacks_tickets self.old.tickets (length messages.items) ≡ false }
         ensures procedure { IfOk result (λ p. p ≡ Procedure.Gather (self.old.tickets + 1) (length messages.items)) }
-        ensures parts { OnOk result (parts.new.items ≡ parts.old.items ++ rules.shares_of (chosen_of self.old.settings) (producers_of self.old.producers) self.old.tickets (self.old.tickets + 1) advice producer (map message_content messages.items)) }
-        ensures after { OnOk result (view_of self.new ≡ record (view_of self.old) { producers = all_routed producer (map message_content messages.items) (producers_of self.old.producers) }) }
+        ensures parts { OnOk result (parts.new.items ≡ parts.old.items
+            ++ rules.shares_of (chosen_of self.old.settings) (producers_of self.old.producers) self.old.tickets (self.old.tickets + 1) advice producer
+            (map message_content messages.items)) }
+        ensures after { OnOk result (view_of self.new
+            ≡ record (view_of self.old) { producers = all_routed producer (map message_content messages.items) (producers_of self.old.producers) }) }
         ensures settings { self.new.settings ≡ self.old.settings }
     {
         let of = self.tickets;
@@ -170,8 +180,11 @@ impl Tables {
         mut advice: Advice,
         parts: &mut VecDeque<Act>,
     ) -> Result<(), NoMemory>
-        ensures parts { OnOk result (parts.new.items ≡ parts.old.items ++ rules.shares_of (chosen_of self.old.settings) (producers_of self.old.producers) of (of + 1) advice producer (map message_content messages.items)) }
-        ensures after { OnOk result (view_of self.new ≡ record (view_of self.old) { producers = all_routed producer (map message_content messages.items) (producers_of self.old.producers) }) }
+        ensures parts { OnOk result (parts.new.items ≡ parts.old.items
+            ++ rules.shares_of (chosen_of self.old.settings) (producers_of self.old.producers) of (of + 1) advice producer
+            (map message_content messages.items)) }
+        ensures after { OnOk result (view_of self.new
+            ≡ record (view_of self.old) { producers = all_routed producer (map message_content messages.items) (producers_of self.old.producers) }) }
         ensures settings { self.new.settings ≡ self.old.settings }
     {
         let mut ticket = following(of)?;

@@ -18,10 +18,19 @@ use crate::error::NoMemory;
 use std::alloc::{AllocError, Global};
 
 /// A credential, and the method that it is for.
-#[derive(Debug, PartialEq, Eq, Drop)]
+#[derive(Debug, PartialEq, Eq)]
 pub struct AuthData {
     pub auth_method_name: Option<String>,
     pub auth_data: Option<Vec<u8>>,
+}
+
+impl Drop for AuthData {
+    fn drop(self) {
+        let AuthData {
+            auth_method_name: _,
+            auth_data: _,
+        } = self;
+    }
 }
 
 impl AuthData {
@@ -86,11 +95,21 @@ impl Message for AuthData {
 }
 
 /// The broker asks for a credential.
-#[derive(Debug, PartialEq, Eq, Drop)]
+#[derive(Debug, PartialEq, Eq)]
 pub struct CommandAuthChallenge {
     pub server_version: Option<String>,
     pub challenge: Option<AuthData>,
     pub protocol_version: Option<i32>,
+}
+
+impl Drop for CommandAuthChallenge {
+    fn drop(self) {
+        let CommandAuthChallenge {
+            server_version: _,
+            challenge: _,
+            protocol_version: _,
+        } = self;
+    }
 }
 
 impl CommandAuthChallenge {
@@ -159,11 +178,21 @@ impl Message for CommandAuthChallenge {
 }
 
 /// The answer to `auth_challenge`.
-#[derive(Debug, PartialEq, Eq, Drop)]
+#[derive(Debug, PartialEq, Eq)]
 pub struct CommandAuthResponse {
     pub client_version: Option<String>,
     pub response: Option<AuthData>,
     pub protocol_version: Option<i32>,
+}
+
+impl Drop for CommandAuthResponse {
+    fn drop(self) {
+        let CommandAuthResponse {
+            client_version: _,
+            response: _,
+            protocol_version: _,
+        } = self;
+    }
 }
 
 impl CommandAuthResponse {

@@ -27,7 +27,7 @@ pub fn client_version(alloc: Global) -> Result<String, NoMemory>
 }
 
 /// What a client says first on a connection.
-#[derive(Debug, PartialEq, Eq, Drop)]
+#[derive(Debug, PartialEq, Eq)]
 pub struct CommandConnect {
     /// How the client names itself.
     pub client_version: String,
@@ -35,6 +35,18 @@ pub struct CommandConnect {
     pub protocol_version: Option<i32>,
     pub auth_method_name: Option<String>,
     pub proxy_to_broker_url: Option<String>,
+}
+
+impl Drop for CommandConnect {
+    fn drop(self) {
+        let CommandConnect {
+            client_version: _,
+            auth_data: _,
+            protocol_version: _,
+            auth_method_name: _,
+            proxy_to_broker_url: _,
+        } = self;
+    }
 }
 
 impl CommandConnect {
@@ -111,12 +123,22 @@ impl Message for CommandConnect {
 }
 
 /// The broker's answer to `connect`.
-#[derive(Debug, PartialEq, Eq, Drop)]
+#[derive(Debug, PartialEq, Eq)]
 pub struct CommandConnected {
     pub server_version: String,
     pub protocol_version: Option<i32>,
     /// The greatest size of a message that the broker takes, in bytes.
     pub max_message_size: Option<i32>,
+}
+
+impl Drop for CommandConnected {
+    fn drop(self) {
+        let CommandConnected {
+            server_version: _,
+            protocol_version: _,
+            max_message_size: _,
+        } = self;
+    }
 }
 
 impl CommandConnected {
@@ -285,10 +307,19 @@ impl Message for CommandPong {
 }
 
 /// A request was done.
-#[derive(Debug, PartialEq, Eq, Drop)]
+#[derive(Debug, PartialEq, Eq)]
 pub struct CommandSuccess {
     pub request_id: u64,
     pub schema: Option<Schema>,
+}
+
+impl Drop for CommandSuccess {
+    fn drop(self) {
+        let CommandSuccess {
+            request_id: _,
+            schema: _,
+        } = self;
+    }
 }
 
 impl CommandSuccess {
@@ -353,12 +384,22 @@ impl Message for CommandSuccess {
 }
 
 /// A request failed.
-#[derive(Debug, PartialEq, Eq, Drop)]
+#[derive(Debug, PartialEq, Eq)]
 pub struct CommandError {
     pub request_id: u64,
     /// The number of a `ServerError`.
     pub error: i32,
     pub message: String,
+}
+
+impl Drop for CommandError {
+    fn drop(self) {
+        let CommandError {
+            request_id: _,
+            error: _,
+            message: _,
+        } = self;
+    }
 }
 
 impl CommandError {

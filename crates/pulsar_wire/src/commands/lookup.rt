@@ -19,10 +19,19 @@ use crate::error::NoMemory;
 use std::alloc::{AllocError, Global};
 
 /// Asks how many partitions a topic has.
-#[derive(Debug, PartialEq, Eq, Drop)]
+#[derive(Debug, PartialEq, Eq)]
 pub struct CommandPartitionedTopicMetadata {
     pub topic: String,
     pub request_id: u64,
+}
+
+impl Drop for CommandPartitionedTopicMetadata {
+    fn drop(self) {
+        let CommandPartitionedTopicMetadata {
+            topic: _,
+            request_id: _,
+        } = self;
+    }
 }
 
 impl CommandPartitionedTopicMetadata {
@@ -83,7 +92,7 @@ impl Message for CommandPartitionedTopicMetadata {
 }
 
 /// How many partitions a topic has: 0 where it is not partitioned.
-#[derive(Debug, PartialEq, Eq, Drop)]
+#[derive(Debug, PartialEq, Eq)]
 pub struct CommandPartitionedTopicMetadataResponse {
     pub partitions: Option<u32>,
     pub request_id: u64,
@@ -92,6 +101,18 @@ pub struct CommandPartitionedTopicMetadataResponse {
     /// The number of a `ServerError`.
     pub error: Option<i32>,
     pub message: Option<String>,
+}
+
+impl Drop for CommandPartitionedTopicMetadataResponse {
+    fn drop(self) {
+        let CommandPartitionedTopicMetadataResponse {
+            partitions: _,
+            request_id: _,
+            response: _,
+            error: _,
+            message: _,
+        } = self;
+    }
 }
 
 impl CommandPartitionedTopicMetadataResponse {
@@ -168,11 +189,21 @@ impl Message for CommandPartitionedTopicMetadataResponse {
 }
 
 /// Asks which broker serves a topic.
-#[derive(Debug, PartialEq, Eq, Drop)]
+#[derive(Debug, PartialEq, Eq)]
 pub struct CommandLookupTopic {
     pub topic: String,
     pub request_id: u64,
     pub authoritative: Option<bool>,
+}
+
+impl Drop for CommandLookupTopic {
+    fn drop(self) {
+        let CommandLookupTopic {
+            topic: _,
+            request_id: _,
+            authoritative: _,
+        } = self;
+    }
 }
 
 impl CommandLookupTopic {
@@ -241,7 +272,7 @@ impl Message for CommandLookupTopic {
 }
 
 /// Which broker serves a topic, or which one to ask.
-#[derive(Debug, PartialEq, Eq, Drop)]
+#[derive(Debug, PartialEq, Eq)]
 pub struct CommandLookupTopicResponse {
     pub broker_service_url: Option<String>,
     pub broker_service_url_tls: Option<String>,
@@ -253,6 +284,21 @@ pub struct CommandLookupTopicResponse {
     pub error: Option<i32>,
     pub message: Option<String>,
     pub proxy_through_service_url: Option<bool>,
+}
+
+impl Drop for CommandLookupTopicResponse {
+    fn drop(self) {
+        let CommandLookupTopicResponse {
+            broker_service_url: _,
+            broker_service_url_tls: _,
+            response: _,
+            request_id: _,
+            authoritative: _,
+            error: _,
+            message: _,
+            proxy_through_service_url: _,
+        } = self;
+    }
 }
 
 impl CommandLookupTopicResponse {

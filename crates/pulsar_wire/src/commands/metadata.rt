@@ -21,10 +21,16 @@ use crate::error::NoMemory;
 use std::alloc::{AllocError, Global};
 
 /// A property.
-#[derive(Debug, PartialEq, Eq, Drop)]
+#[derive(Debug, PartialEq, Eq)]
 pub struct KeyValue {
     pub key: String,
     pub value: String,
+}
+
+impl Drop for KeyValue {
+    fn drop(self) {
+        let KeyValue { key: _, value: _ } = self;
+    }
 }
 
 impl KeyValue {
@@ -85,11 +91,21 @@ impl Message for KeyValue {
 }
 
 /// A key that is needed to decrypt a payload, itself encrypted.
-#[derive(Debug, PartialEq, Eq, Drop)]
+#[derive(Debug, PartialEq, Eq)]
 pub struct EncryptionKeys {
     pub key: String,
     pub value: Vec<u8>,
     pub metadata: Vec<KeyValue>,
+}
+
+impl Drop for EncryptionKeys {
+    fn drop(self) {
+        let EncryptionKeys {
+            key: _,
+            value: _,
+            metadata: _,
+        } = self;
+    }
 }
 
 impl EncryptionKeys {
@@ -158,7 +174,7 @@ impl Message for EncryptionKeys {
 }
 
 /// What a frame says of its payload.
-#[derive(Debug, PartialEq, Eq, Drop)]
+#[derive(Debug, PartialEq, Eq)]
 pub struct MessageMetadata {
     pub producer_name: String,
     pub sequence_id: u64,
@@ -183,6 +199,30 @@ pub struct MessageMetadata {
     pub ordering_key: Option<Vec<u8>>,
     /// Milliseconds since 1970.
     pub deliver_at_time: Option<i64>,
+}
+
+impl Drop for MessageMetadata {
+    fn drop(self) {
+        let MessageMetadata {
+            producer_name: _,
+            sequence_id: _,
+            publish_time: _,
+            properties: _,
+            replicated_from: _,
+            partition_key: _,
+            replicate_to: _,
+            compression: _,
+            uncompressed_size: _,
+            num_messages_in_batch: _,
+            event_time: _,
+            encryption_keys: _,
+            encryption_algo: _,
+            encryption_param: _,
+            schema_version: _,
+            ordering_key: _,
+            deliver_at_time: _,
+        } = self;
+    }
 }
 
 impl MessageMetadata {

@@ -24,7 +24,7 @@ use crate::error::NoMemory;
 use std::alloc::{AllocError, Global};
 
 /// Makes a producer on a topic.
-#[derive(Debug, PartialEq, Eq, Drop)]
+#[derive(Debug, PartialEq, Eq)]
 pub struct CommandProducer {
     pub topic: String,
     pub producer_id: u64,
@@ -34,6 +34,21 @@ pub struct CommandProducer {
     pub metadata: Vec<KeyValue>,
     pub schema: Option<Schema>,
     pub producer_access_mode: Option<i32>,
+}
+
+impl Drop for CommandProducer {
+    fn drop(self) {
+        let CommandProducer {
+            topic: _,
+            producer_id: _,
+            request_id: _,
+            producer_name: _,
+            encrypted: _,
+            metadata: _,
+            schema: _,
+            producer_access_mode: _,
+        } = self;
+    }
 }
 
 impl CommandProducer {
@@ -122,7 +137,7 @@ impl Message for CommandProducer {
 }
 
 /// A producer was made, under this name. It may not be ready to send yet.
-#[derive(Debug, PartialEq, Eq, Drop)]
+#[derive(Debug, PartialEq, Eq)]
 pub struct CommandProducerSuccess {
     pub request_id: u64,
     pub producer_name: String,
@@ -132,6 +147,19 @@ pub struct CommandProducerSuccess {
     pub topic_epoch: Option<u64>,
     /// The producer may send, unless it is false.
     pub producer_ready: Option<bool>,
+}
+
+impl Drop for CommandProducerSuccess {
+    fn drop(self) {
+        let CommandProducerSuccess {
+            request_id: _,
+            producer_name: _,
+            last_sequence_id: _,
+            schema_version: _,
+            topic_epoch: _,
+            producer_ready: _,
+        } = self;
+    }
 }
 
 impl CommandProducerSuccess {
@@ -212,12 +240,22 @@ impl Message for CommandProducerSuccess {
 }
 
 /// A message of a producer. Its payload stands behind the command.
-#[derive(Debug, PartialEq, Eq, Drop)]
+#[derive(Debug, PartialEq, Eq)]
 pub struct CommandSend {
     pub producer_id: u64,
     pub sequence_id: u64,
     /// How many messages the batch has, where it is one.
     pub num_messages: Option<i32>,
+}
+
+impl Drop for CommandSend {
+    fn drop(self) {
+        let CommandSend {
+            producer_id: _,
+            sequence_id: _,
+            num_messages: _,
+        } = self;
+    }
 }
 
 impl CommandSend {
@@ -365,13 +403,24 @@ impl Message for CommandSendReceipt {
 }
 
 /// A message of a producer is refused.
-#[derive(Debug, PartialEq, Eq, Drop)]
+#[derive(Debug, PartialEq, Eq)]
 pub struct CommandSendError {
     pub producer_id: u64,
     pub sequence_id: u64,
     /// The number of a `ServerError`.
     pub error: i32,
     pub message: String,
+}
+
+impl Drop for CommandSendError {
+    fn drop(self) {
+        let CommandSendError {
+            producer_id: _,
+            sequence_id: _,
+            error: _,
+            message: _,
+        } = self;
+    }
 }
 
 impl CommandSendError {
@@ -444,10 +493,19 @@ impl Message for CommandSendError {
 }
 
 /// Ends a producer. The broker says it, too.
-#[derive(Debug, PartialEq, Eq, Drop)]
+#[derive(Debug, PartialEq, Eq)]
 pub struct CommandCloseProducer {
     pub producer_id: u64,
     pub request_id: u64,
+}
+
+impl Drop for CommandCloseProducer {
+    fn drop(self) {
+        let CommandCloseProducer {
+            producer_id: _,
+            request_id: _,
+        } = self;
+    }
 }
 
 impl CommandCloseProducer {

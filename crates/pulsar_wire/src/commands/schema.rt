@@ -22,12 +22,23 @@ use crate::error::NoMemory;
 use std::alloc::{AllocError, Global};
 
 /// What the payloads of a topic are made of.
-#[derive(Debug, PartialEq, Eq, Drop)]
+#[derive(Debug, PartialEq, Eq)]
 pub struct Schema {
     pub name: String,
     pub schema_data: Vec<u8>,
     pub kind: i32,
     pub properties: Vec<KeyValue>,
+}
+
+impl Drop for Schema {
+    fn drop(self) {
+        let Schema {
+            name: _,
+            schema_data: _,
+            kind: _,
+            properties: _,
+        } = self;
+    }
 }
 
 impl Schema {
@@ -100,11 +111,21 @@ impl Message for Schema {
 }
 
 /// Asks for the schema of a topic.
-#[derive(Debug, PartialEq, Eq, Drop)]
+#[derive(Debug, PartialEq, Eq)]
 pub struct CommandGetSchema {
     pub request_id: u64,
     pub topic: String,
     pub schema_version: Option<Vec<u8>>,
+}
+
+impl Drop for CommandGetSchema {
+    fn drop(self) {
+        let CommandGetSchema {
+            request_id: _,
+            topic: _,
+            schema_version: _,
+        } = self;
+    }
 }
 
 impl CommandGetSchema {
@@ -173,7 +194,7 @@ impl Message for CommandGetSchema {
 }
 
 /// The schema of a topic, and its version.
-#[derive(Debug, PartialEq, Eq, Drop)]
+#[derive(Debug, PartialEq, Eq)]
 pub struct CommandGetSchemaResponse {
     pub request_id: u64,
     /// The number of a `ServerError`.
@@ -181,6 +202,18 @@ pub struct CommandGetSchemaResponse {
     pub error_message: Option<String>,
     pub schema: Option<Schema>,
     pub schema_version: Option<Vec<u8>>,
+}
+
+impl Drop for CommandGetSchemaResponse {
+    fn drop(self) {
+        let CommandGetSchemaResponse {
+            request_id: _,
+            error_code: _,
+            error_message: _,
+            schema: _,
+            schema_version: _,
+        } = self;
+    }
 }
 
 impl CommandGetSchemaResponse {

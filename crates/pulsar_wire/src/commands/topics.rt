@@ -39,12 +39,22 @@ impl From<Mode> for i32 {
 }
 
 /// Asks for the topics of a namespace.
-#[derive(Debug, PartialEq, Eq, Drop)]
+#[derive(Debug, PartialEq, Eq)]
 pub struct CommandGetTopicsOfNamespace {
     pub request_id: u64,
     pub namespace: String,
     /// The number of a `Mode`.
     pub mode: Option<i32>,
+}
+
+impl Drop for CommandGetTopicsOfNamespace {
+    fn drop(self) {
+        let CommandGetTopicsOfNamespace {
+            request_id: _,
+            namespace: _,
+            mode: _,
+        } = self;
+    }
 }
 
 impl CommandGetTopicsOfNamespace {

@@ -2,7 +2,7 @@ use Rattle.std.proofs.Common.{rules}
 use Rattle.std.proofs.lemmas.List.Sorted.{answers_always}
 use Rattle.pulsar_calls.specs.declared.effect.Effect.{Effect}
 use Rattle.pulsar_calls.specs.Content.{shown}
-use Rattle.pulsar_tables.specs.Effects.{effect_rank}
+use Rattle.pulsar_calls.specs.Order.{effect_rank}
 use Rattle.pulsar_agenda.proofs.Sorting.{effects_sorted}
 use Rattle.pulsar_agenda.proofs.order.arrange.Goals as goal
 

@@ -1,5 +1,5 @@
 use Rattle.std.proofs.Common.{◌≡◌, ◌∙◌, ◌+◌, ◌-◌, ap, arith, sym}
-use Rattle.pulsar_tables.specs.Rules.{below}
+use Rattle.pulsar_calls.specs.Order.{below}
 use Rattle.pulsar_calls.specs.Who.{is_before, rank}
 use Rattle.pulsar_agenda.proofs.Orders.{below_order}
 use Rattle.pulsar_agenda.proofs.Ranking.{put_next}

@@ -1,7 +1,7 @@
 use Rattle.std.proofs.Common.{◌≡◌, ◌≤◌, ◌∷◌, drop, length}
 use Rattle.pulsar_run.specs.Order.{put}
 use Rattle.pulsar_calls.specs.declared.act.Notice.{Notice}
-use Rattle.pulsar_tables.specs.Rules.{below}
+use Rattle.pulsar_calls.specs.Order.{below}
 use Rattle.pulsar_agenda.proofs.queue.place_in.Given as goal
 
 abbrev pub invariant-loop-place : goal.invariant-loop-place

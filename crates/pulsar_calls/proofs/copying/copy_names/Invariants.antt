@@ -1,5 +1,5 @@
 use Rattle.std.proofs.Common.{◌≡◌, map, take}
-use Rattle.pulsar_plans.specs.Address.{named}
+use Rattle.pulsar_addresses.specs.Address.{named}
 use Rattle.pulsar_calls.proofs.copying.copy_names.Given as goal
 
 abbrev pub invariant-loop-name : goal.invariant-loop-name

@@ -1,6 +1,6 @@
 use Rattle.std.proofs.Common.{◌∙◌, ap, map, sym}
 use Rattle.pulsar_wire.specs.Views.{body_values}
-use Rattle.pulsar_link.specs.Messages.{written}
+use Rattle.pulsar_exchange.specs.Messages.{written}
 use Rattle.pulsar_calls.specs.Content.{Replies, answered}
 use Rattle.pulsar_calls.proofs.Lists.{map_map}
 use Rattle.pulsar_calls.proofs.copying.copy_said.Goals as goal

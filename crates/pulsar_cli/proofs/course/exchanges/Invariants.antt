@@ -1,5 +1,5 @@
 use Rattle.std.proofs.Common.{[], ℕ, List, Bool}
-use Rattle.pulsar_agenda.specs.Run.{Step}
+use Rattle.pulsar_calls.specs.Steps.{Step}
 use Rattle.pulsar_cli.specs.Demo.{Busy}
 use Rattle.pulsar_cli.specs.Played.{Leads}
 use Rattle.pulsar_cli.specs.Script.{defaults}

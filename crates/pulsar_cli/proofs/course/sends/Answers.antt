@@ -1,5 +1,5 @@
 use Rattle.std.proofs.Common.{arith, subst, ℕ, ◌≡◌}
-use Rattle.pulsar_producer.specs.Message.{bare}
+use Rattle.pulsar_messages.specs.Message.{bare}
 use Rattle.pulsar_calls.specs.Content.{Send, heard}
 use Rattle.pulsar_cli.specs.Demo.{Sends, payload, producer_ticket}
 use Rattle.pulsar_cli.proofs.Demos.{sends-more, sends-none}

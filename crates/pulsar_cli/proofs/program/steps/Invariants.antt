@@ -2,8 +2,8 @@ use Rattle.std.proofs.Common.{◌≡◌, [], Option, List, ℕ}
 use Rattle.pulsar_producer.specs.Routing.{Policy}
 use Rattle.pulsar_client.specs.Client.{StandsFor}
 use Rattle.pulsar_calls.specs.Content.{heard}
-use Rattle.pulsar_agenda.specs.Run.{Step}
-use Rattle.pulsar_tables.specs.View.{Options}
+use Rattle.pulsar_calls.specs.Steps.{Step}
+use Rattle.pulsar_machine.specs.Options.{Options}
 use Rattle.pulsar_cli.specs.Script.{since}
 use Rattle.pulsar_cli.specs.Shown.{Awaits, options_in, steps_left}
 use Rattle.pulsar_cli.proofs.program.steps.Given as goal

@@ -2,7 +2,7 @@ use Rattle.std.proofs.Common.{◌∙◌, [], ap, cond, map, subst, sym, ◌∷�
 use Rattle.pulsar_run.proofs.Steps.{began}
 use Rattle.pulsar_run.specs.Run.{only}
 use Rattle.pulsar_calls.specs.Content.{heard, shown}
-use Rattle.pulsar_tables.specs.Rules.{brings}
+use Rattle.pulsar_acts.specs.Rules.{brings}
 use Rattle.pulsar_client.specs.History.{InStep, Stands}
 use Rattle.pulsar_agenda.specs.Agenda.{agenda_of}
 use Rattle.pulsar_acts.specs.Tables.{view_of}

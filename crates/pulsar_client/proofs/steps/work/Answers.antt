@@ -1,6 +1,6 @@
 use Rattle.std.proofs.Common.{◌∙◌, ap, sym, refl}
 use Rattle.pulsar_run.proofs.Steps.{ended, treated}
-use Rattle.pulsar_agenda.specs.Run.{goes_on}
+use Rattle.pulsar_acts.specs.Run.{goes_on}
 use Rattle.pulsar_acts.specs.Tables.{view_of}
 use Rattle.pulsar_client.proofs.steps.work.Goals as goal
 

@@ -3,7 +3,7 @@ use Rattle.std.proofs.lemmas.List.{take_more}
 use Rattle.std.specs.List.{flat_map}
 use Rattle.pulsar_calls.specs.declared.act.Word.TheVariants.{Over}
 use Rattle.pulsar_consumer.specs.Topic.{Ends}
-use Rattle.pulsar_consumer.specs.declared.polled.Ending.TheVariants.{Closed}
+use Rattle.pulsar_incoming.specs.declared.polled.Ending.TheVariants.{Closed}
 use Rattle.pulsar_consumer_table.specs.Consumers.{Member, at_row, member_after, word_if}
 use Rattle.pulsar_consumer_table.specs.KeptConsumers.{one_changed, rows_in, some_changed}
 use Rattle.pulsar_consumer_table.specs.Notices.{word_to}

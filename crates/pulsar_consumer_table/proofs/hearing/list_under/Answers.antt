@@ -1,7 +1,8 @@
 use Rattle.std.proofs.Common.{◌==◌, ◌&&◌, ◌||◌, ◌∙◌, ap, sym}
 use Rattle.pulsar_consumer.specs.Topic.{is_on}
-use Rattle.pulsar_consumer_table.specs.KeptConsumers.{is_listed, listed_at}
-use Rattle.pulsar_consumer_table.proofs.Places.{swapped}
+use Rattle.pulsar_consumer_table.specs.KeptConsumers.{listed_at}
+use Rattle.pulsar_calls.specs.Places.{is_listed}
+use Rattle.pulsar_calls.proofs.Places.{swapped}
 use Rattle.pulsar_consumer_table.proofs.hearing.list_under.Goals as goal
 
 pub returns : goal.returns

@@ -2,7 +2,7 @@ use Rattle.std.proofs.Common.{rules, arith, ◌≡◌, ◌+◌, ◌≤◌, ◌<�
 use Rattle.std.proofs.Math.Seq.{take-add}
 use Rattle.std.proofs.lemmas.List.{length-drop}
 use Rattle.pulsar_job.specs.Outside.{Adds}
-use Rattle.pulsar_script.proofs.Lines.{behind-at}
+use Rattle.pulsar_grammar.proofs.Lines.{behind-at}
 use Rattle.pulsar_job.proofs.Sinks.{adds-front, adds-more, adds-same, rose-from}
 use Rattle.pulsar_job.proofs.putting.put_all.Goals as goal
 

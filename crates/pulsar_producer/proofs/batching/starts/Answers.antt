@@ -2,11 +2,11 @@ use Rattle.std.proofs.Common.{◌≡◌, ◌∙◌, ℕ, ap, sym, subst, map, le
 use Rattle.std.specs.Prelude.{Ok}
 use Rattle.pulsar_frame.specs.Batch.{EntryValues}
 use Rattle.pulsar_messages.specs.Content.{ProducerMessageValues}
-use Rattle.pulsar_producer.specs.Batch.{batch_of, entries_in, member_of}
+use Rattle.pulsar_outgoing.specs.Batch.{batch_of, entries_in, member_of}
 use Rattle.pulsar_producer.specs.Batching.{sends, sends_batch, starts_with}
 use Rattle.pulsar_producer.specs.Plans.{send_begins}
-use Rattle.pulsar_producer.specs.declared.batch.Member.{Member}
-use Rattle.pulsar_producer.specs.declared.sending.Errand.{Errand}
+use Rattle.pulsar_outgoing.specs.declared.batch.Member.{Member}
+use Rattle.pulsar_outgoing.specs.declared.orders.Errand.{Errand}
 use Rattle.pulsar_producer.proofs.batching.starts.Goals as goal
 
 some_sent : (e : Errand) (ms : List Member) (es : List EntryValues) (n : ℕ) (m : ProducerMessageValues) → n ≡ length es → (n ≡ 0 → ⊥) →

@@ -1,10 +1,10 @@
 use Rattle.std.proofs.Common.{◌≡◌, ◌∙◌, ap, refl, subst, IfOk}
 use Rattle.pulsar_messages.specs.Content.{ProducerMessageValues}
 use Rattle.pulsar_producer.specs.Plans.{fault_told, in_drawing, not_drawn}
-use Rattle.pulsar_producer.specs.declared.deed.Drawn.{Drawn}
-use Rattle.pulsar_producer.specs.declared.deed.News.{News}
-use Rattle.pulsar_producer.specs.declared.deed.News.TheVariants.{Drew}
-use Rattle.pulsar_producer.specs.declared.sending.Errand.{Errand}
+use Rattle.pulsar_outgoing.specs.declared.news.Drawn.{Drawn}
+use Rattle.pulsar_producer.specs.News.{News}
+use Rattle.pulsar_outgoing.specs.declared.news.News.TheVariants.{Drew}
+use Rattle.pulsar_outgoing.specs.declared.orders.Errand.{Errand}
 use Rattle.pulsar_producer.proofs.sending.in_drawing.Goals as goal
 
 undrawn : (e : Errand) (m : ProducerMessageValues) (n : News) → ((d : Drawn) → n ≡ Drew d → ⊥) → not_drawn e m (fault_told n) ≡ in_drawing e m n

@@ -1,7 +1,7 @@
 use Rattle.std.proofs.Common.{◌≡◌, ℕ, List, drop}
 use Rattle.std.specs.BTreeMap.{IsOrdered}
 use Rattle.std.specs.Ordering.{nat_cmp}
-use Rattle.pulsar_requests.specs.declared.awaited.Awaited.{Awaited}
+use Rattle.pulsar_wire.specs.declared.awaited.Awaited.{Awaited}
 use Rattle.pulsar_requests.specs.Kept.{AreTimed, Taken, places_of}
 use Rattle.pulsar_requests.proofs.requests.take_all.Given as goal
 

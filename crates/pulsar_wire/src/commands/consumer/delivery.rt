@@ -20,13 +20,24 @@ use crate::error::NoMemory;
 use std::alloc::{AllocError, Global};
 
 /// A message for a consumer. Its payload stands behind the command.
-#[derive(Debug, PartialEq, Eq, Drop)]
+#[derive(Debug, PartialEq, Eq)]
 pub struct CommandMessage {
     pub consumer_id: u64,
     pub message_id: MessageIdData,
     pub redelivery_count: Option<u32>,
     /// The entries of the batch that are not acknowledged yet, as bits.
     pub ack_set: Vec<i64>,
+}
+
+impl Drop for CommandMessage {
+    fn drop(self) {
+        let CommandMessage {
+            consumer_id: _,
+            message_id: _,
+            redelivery_count: _,
+            ack_set: _,
+        } = self;
+    }
 }
 
 impl CommandMessage {
@@ -99,12 +110,22 @@ impl Message for CommandMessage {
 }
 
 /// Acknowledges messages: each one, or all up to one.
-#[derive(Debug, PartialEq, Eq, Drop)]
+#[derive(Debug, PartialEq, Eq)]
 pub struct CommandAck {
     pub consumer_id: u64,
     /// Individual 0, Cumulative 1.
     pub ack_type: i32,
     pub message_id: Vec<MessageIdData>,
+}
+
+impl Drop for CommandAck {
+    fn drop(self) {
+        let CommandAck {
+            consumer_id: _,
+            ack_type: _,
+            message_id: _,
+        } = self;
+    }
 }
 
 impl CommandAck {
@@ -173,11 +194,20 @@ impl Message for CommandAck {
 }
 
 /// Asks for this many further messages.
-#[derive(Debug, PartialEq, Eq, Drop)]
+#[derive(Debug, PartialEq, Eq)]
 pub struct CommandFlow {
     pub consumer_id: u64,
     /// How many further messages are asked for.
     pub message_permits: u32,
+}
+
+impl Drop for CommandFlow {
+    fn drop(self) {
+        let CommandFlow {
+            consumer_id: _,
+            message_permits: _,
+        } = self;
+    }
 }
 
 impl CommandFlow {
@@ -242,10 +272,19 @@ impl Message for CommandFlow {
 }
 
 /// Asks for these messages again, or for all that are not acknowledged.
-#[derive(Debug, PartialEq, Eq, Drop)]
+#[derive(Debug, PartialEq, Eq)]
 pub struct CommandRedeliverUnacknowledgedMessages {
     pub consumer_id: u64,
     pub message_ids: Vec<MessageIdData>,
+}
+
+impl Drop for CommandRedeliverUnacknowledgedMessages {
+    fn drop(self) {
+        let CommandRedeliverUnacknowledgedMessages {
+            consumer_id: _,
+            message_ids: _,
+        } = self;
+    }
 }
 
 impl CommandRedeliverUnacknowledgedMessages {
@@ -310,9 +349,15 @@ impl Message for CommandRedeliverUnacknowledgedMessages {
 }
 
 /// A topic that has ended has no further messages for a consumer.
-#[derive(Debug, PartialEq, Eq, Drop)]
+#[derive(Debug, PartialEq, Eq)]
 pub struct CommandReachedEndOfTopic {
     pub consumer_id: u64,
+}
+
+impl Drop for CommandReachedEndOfTopic {
+    fn drop(self) {
+        let CommandReachedEndOfTopic { consumer_id: _ } = self;
+    }
 }
 
 impl CommandReachedEndOfTopic {

@@ -21,13 +21,24 @@ use crate::error::NoMemory;
 use std::alloc::{AllocError, Global};
 
 /// Moves a subscription to a message, or to a time.
-#[derive(Debug, PartialEq, Eq, Drop)]
+#[derive(Debug, PartialEq, Eq)]
 pub struct CommandSeek {
     pub consumer_id: u64,
     pub request_id: u64,
     pub message_id: Option<MessageIdData>,
     /// Milliseconds since 1970.
     pub message_publish_time: Option<u64>,
+}
+
+impl Drop for CommandSeek {
+    fn drop(self) {
+        let CommandSeek {
+            consumer_id: _,
+            request_id: _,
+            message_id: _,
+            message_publish_time: _,
+        } = self;
+    }
 }
 
 impl CommandSeek {
@@ -100,10 +111,19 @@ impl Message for CommandSeek {
 }
 
 /// Asks for the id of the last message of a topic.
-#[derive(Debug, PartialEq, Eq, Drop)]
+#[derive(Debug, PartialEq, Eq)]
 pub struct CommandGetLastMessageId {
     pub consumer_id: u64,
     pub request_id: u64,
+}
+
+impl Drop for CommandGetLastMessageId {
+    fn drop(self) {
+        let CommandGetLastMessageId {
+            consumer_id: _,
+            request_id: _,
+        } = self;
+    }
 }
 
 impl CommandGetLastMessageId {
@@ -168,10 +188,19 @@ impl Message for CommandGetLastMessageId {
 }
 
 /// The id of the last message of a topic.
-#[derive(Debug, PartialEq, Eq, Drop)]
+#[derive(Debug, PartialEq, Eq)]
 pub struct CommandGetLastMessageIdResponse {
     pub last_message_id: MessageIdData,
     pub request_id: u64,
+}
+
+impl Drop for CommandGetLastMessageIdResponse {
+    fn drop(self) {
+        let CommandGetLastMessageIdResponse {
+            last_message_id: _,
+            request_id: _,
+        } = self;
+    }
 }
 
 impl CommandGetLastMessageIdResponse {
@@ -236,10 +265,19 @@ impl Message for CommandGetLastMessageIdResponse {
 }
 
 /// Asks what the broker counts of a consumer.
-#[derive(Debug, PartialEq, Eq, Drop)]
+#[derive(Debug, PartialEq, Eq)]
 pub struct CommandConsumerStats {
     pub request_id: u64,
     pub consumer_id: u64,
+}
+
+impl Drop for CommandConsumerStats {
+    fn drop(self) {
+        let CommandConsumerStats {
+            request_id: _,
+            consumer_id: _,
+        } = self;
+    }
 }
 
 impl CommandConsumerStats {
@@ -304,7 +342,7 @@ impl Message for CommandConsumerStats {
 }
 
 /// What the broker counts of a consumer.
-#[derive(Debug, PartialEq, Eq, Drop)]
+#[derive(Debug, PartialEq, Eq)]
 pub struct CommandConsumerStatsResponse {
     pub request_id: u64,
     /// The number of a `ServerError`.
@@ -318,6 +356,24 @@ pub struct CommandConsumerStatsResponse {
     pub connected_since: Option<String>,
     pub kind: Option<String>,
     pub msg_backlog: Option<u64>,
+}
+
+impl Drop for CommandConsumerStatsResponse {
+    fn drop(self) {
+        let CommandConsumerStatsResponse {
+            request_id: _,
+            error_code: _,
+            error_message: _,
+            consumer_name: _,
+            available_permits: _,
+            unacked_messages: _,
+            blocked_consumer_on_unacked_msgs: _,
+            address: _,
+            connected_since: _,
+            kind: _,
+            msg_backlog: _,
+        } = self;
+    }
 }
 
 impl CommandConsumerStatsResponse {

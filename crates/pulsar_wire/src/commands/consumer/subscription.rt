@@ -24,7 +24,7 @@ use crate::error::NoMemory;
 use std::alloc::{AllocError, Global};
 
 /// Makes a consumer on a subscription of a topic.
-#[derive(Debug, PartialEq, Eq, Drop)]
+#[derive(Debug, PartialEq, Eq)]
 pub struct CommandSubscribe {
     pub topic: String,
     pub subscription: String,
@@ -41,6 +41,26 @@ pub struct CommandSubscribe {
     pub schema: Option<Schema>,
     /// The number of an `InitialPosition`.
     pub initial_position: Option<i32>,
+}
+
+impl Drop for CommandSubscribe {
+    fn drop(self) {
+        let CommandSubscribe {
+            topic: _,
+            subscription: _,
+            sub_type: _,
+            consumer_id: _,
+            request_id: _,
+            consumer_name: _,
+            priority_level: _,
+            durable: _,
+            start_message_id: _,
+            metadata: _,
+            read_compacted: _,
+            schema: _,
+            initial_position: _,
+        } = self;
+    }
 }
 
 impl CommandSubscribe {
@@ -149,10 +169,19 @@ impl Message for CommandSubscribe {
 }
 
 /// Ends a consumer's subscription.
-#[derive(Debug, PartialEq, Eq, Drop)]
+#[derive(Debug, PartialEq, Eq)]
 pub struct CommandUnsubscribe {
     pub consumer_id: u64,
     pub request_id: u64,
+}
+
+impl Drop for CommandUnsubscribe {
+    fn drop(self) {
+        let CommandUnsubscribe {
+            consumer_id: _,
+            request_id: _,
+        } = self;
+    }
 }
 
 impl CommandUnsubscribe {
@@ -217,10 +246,19 @@ impl Message for CommandUnsubscribe {
 }
 
 /// Ends a consumer. The broker says it, too.
-#[derive(Debug, PartialEq, Eq, Drop)]
+#[derive(Debug, PartialEq, Eq)]
 pub struct CommandCloseConsumer {
     pub consumer_id: u64,
     pub request_id: u64,
+}
+
+impl Drop for CommandCloseConsumer {
+    fn drop(self) {
+        let CommandCloseConsumer {
+            consumer_id: _,
+            request_id: _,
+        } = self;
+    }
 }
 
 impl CommandCloseConsumer {
@@ -285,10 +323,19 @@ impl Message for CommandCloseConsumer {
 }
 
 /// Whether a consumer is the one that a failover subscription serves.
-#[derive(Debug, PartialEq, Eq, Drop)]
+#[derive(Debug, PartialEq, Eq)]
 pub struct CommandActiveConsumerChange {
     pub consumer_id: u64,
     pub is_active: Option<bool>,
+}
+
+impl Drop for CommandActiveConsumerChange {
+    fn drop(self) {
+        let CommandActiveConsumerChange {
+            consumer_id: _,
+            is_active: _,
+        } = self;
+    }
 }
 
 impl CommandActiveConsumerChange {

@@ -1,6 +1,6 @@
 use Rattle.std.proofs.Common.{rules, ◌≡◌, codes, string_bytes, true, Some}
 use Rattle.std.specs.Str.{bytes_eq}
-use Rattle.pulsar_script.specs.Words.{number}
+use Rattle.pulsar_grammar.specs.Words.{number}
 use Rattle.pulsar_work.specs.Form.{Consume}
 use Rattle.pulsar_work.proofs.Forms.{consumed, on-err}
 use Rattle.pulsar_work.proofs.form.consume.Goals as goal

@@ -2,7 +2,7 @@ use Rattle.std.proofs.Common.{◌≡◌, ◌++◌, length, map, take}
 use Rattle.std.specs.Prelude.{string_bytes}
 use Rattle.std.specs.List.{flat_map}
 use Rattle.pulsar_calls.specs.Content.{shown}
-use Rattle.pulsar_script.specs.Text.{line}
+use Rattle.pulsar_printing.specs.Text.{line}
 use Rattle.pulsar_work.specs.Report.{lines_told}
 use Rattle.pulsar_work.proofs.printing.push_effects.Given as goal
 

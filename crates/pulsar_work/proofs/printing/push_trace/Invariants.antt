@@ -1,7 +1,7 @@
 use Rattle.std.proofs.Common.{◌≡◌, ◌++◌, length, take}
 use Rattle.std.specs.Prelude.{string_bytes}
 use Rattle.std.specs.List.{flat_map}
-use Rattle.pulsar_script.specs.Text.{line}
+use Rattle.pulsar_printing.specs.Text.{line}
 use Rattle.pulsar_work.specs.Report.{lines_told, shown_in}
 use Rattle.pulsar_work.proofs.printing.push_trace.Given as goal
 

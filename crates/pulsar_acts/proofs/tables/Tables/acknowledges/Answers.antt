@@ -3,7 +3,7 @@ use Rattle.std.proofs.lemmas.Result.{MatchResult-weaker}
 use Rattle.pulsar_calls.specs.declared.act.Procedure.TheVariants.{Acknowledge}
 use Rattle.pulsar_messages.specs.Words.{SendAck}
 use Rattle.pulsar_consumer_table.specs.Consumers.{link_at, why_not}
-use Rattle.pulsar_tables.specs.Reading.{unless}
+use Rattle.pulsar_acts.specs.Reading.{unless}
 use Rattle.pulsar_acts.specs.Tables.{view_of}
 use Rattle.pulsar_acts.proofs.tables.Tables.acknowledges.Goals as goal
 

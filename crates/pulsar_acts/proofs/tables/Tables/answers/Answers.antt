@@ -3,11 +3,11 @@ use Rattle.std.proofs.lemmas.List.{append-nil}
 use Rattle.std.proofs.lemmas.Result.{on_ok_weaker}
 use Rattle.std.specs.Option.{option_to_list}
 use Rattle.pulsar_run.specs.Order.{put_all}
-use Rattle.pulsar_tables.specs.Reading.{made_due}
-use Rattle.pulsar_tables.specs.Rules.{below}
-use Rattle.pulsar_agenda.specs.Run.{Agenda}
+use Rattle.pulsar_acts.specs.Reading.{made_due}
+use Rattle.pulsar_calls.specs.Order.{below}
+use Rattle.pulsar_agenda.specs.Agenda.{Agenda}
 use Rattle.pulsar_agenda.specs.Agenda.{agenda_of}
-use Rattle.pulsar_tables.specs.View.{View, consumers_left, consumers_made, producers_made}
+use Rattle.pulsar_acts.specs.View.{View, consumers_left, consumers_made, producers_made}
 use Rattle.pulsar_acts.proofs.tables.Tables.answers.Goals as goal
 
 pub returns-clause-left : goal.returns-clause-left

@@ -1,12 +1,12 @@
 use Rattle.std.proofs.Common.{◌≡◌, ◌∙◌, ◌++◌, List, [], ap, sym, refl, ℕ}
 use Rattle.std.proofs.lemmas.List.{append-nil}
 use Rattle.std.proofs.lemmas.Result.{on_ok_weaker}
-use Rattle.pulsar_session.specs.Failures.{Fault}
+use Rattle.pulsar_wire.specs.Failures.{Fault}
 use Rattle.pulsar_calls.specs.declared.act.Arrival.{Arrival}
 use Rattle.pulsar_calls.specs.declared.act.Arrival.TheVariants.{Nothing, Readied, Settles, Gives, Passes, Bad}
 use Rattle.pulsar_consumer_table.specs.Consumers.{all_changed, hears, over_rows}
 use Rattle.pulsar_consumer_table.specs.Notices.{heard_at}
-use Rattle.pulsar_tables.specs.Rules.{breaks_at}
+use Rattle.pulsar_acts.specs.Rules.{breaks_at}
 use Rattle.pulsar_consumer_table.proofs.Heard.{all_same, over_none}
 use Rattle.pulsar_agenda.specs.Agenda.{agenda_of}
 use Rattle.pulsar_acts.specs.Tables.{view_of}

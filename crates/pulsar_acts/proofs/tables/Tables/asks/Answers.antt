@@ -4,9 +4,9 @@ use Rattle.std.proofs.lemmas.Result.{on_ok_weaker}
 use Rattle.pulsar_run.specs.Order.{put_all}
 use Rattle.pulsar_consumer_table.specs.Consumers.{all_changed, closes, over_rows, word_of_close}
 use Rattle.pulsar_consumer_table.specs.Notices.{word_to}
-use Rattle.pulsar_tables.specs.Reading.{tells}
-use Rattle.pulsar_tables.specs.Rules.{below}
-use Rattle.pulsar_agenda.specs.Run.{Agenda}
+use Rattle.pulsar_acts.specs.Reading.{tells}
+use Rattle.pulsar_calls.specs.Order.{below}
+use Rattle.pulsar_agenda.specs.Agenda.{Agenda}
 use Rattle.pulsar_agenda.specs.Agenda.{agenda_of}
 use Rattle.pulsar_acts.specs.Tables.{view_of}
 use Rattle.pulsar_acts.proofs.tables.Tables.asks.Goals as goal

@@ -1,7 +1,7 @@
 use Rattle.std.proofs.Common.{◌∙◌, ap, sym}
 use Rattle.std.proofs.lemmas.Result.{on_ok_weaker}
 use Rattle.pulsar_calls.specs.declared.act.Alarm.TheVariants.{CheckIdle}
-use Rattle.pulsar_tables.specs.Alarms.{set}
+use Rattle.pulsar_links.specs.Alarms.{set}
 use Rattle.pulsar_acts.specs.Tables.{view_of}
 use Rattle.std.proofs.Common.{true}
 use Rattle.pulsar_acts.proofs.Calling.{built_before, built_first, built_never}

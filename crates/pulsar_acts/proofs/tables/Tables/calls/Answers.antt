@@ -5,11 +5,11 @@ use Rattle.pulsar_calls.specs.declared.act.Who.TheVariants.{Call}
 use Rattle.pulsar_calls.specs.Content.{lacks_tickets, shares}
 use Rattle.pulsar_consumer_table.specs.Consumers as consumer
 use Rattle.pulsar_producer_table.specs.Producers.{called_on}
-use Rattle.pulsar_tables.specs.Rules.{parts_of}
-use Rattle.pulsar_agenda.specs.Run.{Agenda}
+use Rattle.pulsar_acts.specs.Rules.{parts_of}
+use Rattle.pulsar_agenda.specs.Agenda.{Agenda}
 use Rattle.pulsar_agenda.specs.Agenda.{agenda_of}
 use Rattle.pulsar_acts.specs.Tables.{view_of}
-use Rattle.pulsar_tables.specs.View.{View, may_call}
+use Rattle.pulsar_acts.specs.View.{View, may_call}
 use Rattle.pulsar_acts.proofs.Calling.{begun_left, begun_sees, none_lacks, some_lacks, some_next, spent_left, spent_sees}
 use Rattle.pulsar_acts.proofs.Turned.{none_left}
 use Rattle.pulsar_acts.proofs.tables.Tables.calls.Goals as goal

@@ -1,7 +1,7 @@
 use Rattle.std.proofs.Common.{◌≡◌, ◌∙◌, ◌∷◌, [], ap, subst, sym}
 use Rattle.std.specs.Prelude.{MatchOption}
 use Rattle.pulsar_acts.specs.Tables.{view_of}
-use Rattle.pulsar_tables.specs.View.{View, clear_all}
+use Rattle.pulsar_acts.specs.View.{View, clear_all}
 use Rattle.pulsar_acts.proofs.Turned.{none_left}
 use Rattle.pulsar_acts.proofs.tables.Tables.clear_batches.Goals as goal
 

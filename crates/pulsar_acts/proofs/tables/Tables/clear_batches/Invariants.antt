@@ -2,7 +2,7 @@ use Rattle.std.proofs.Common.{◌≡◌, length}
 use Rattle.pulsar_producer_table.specs.KeptProducers.{producers_of}
 use Rattle.pulsar_producer_table.specs.Producers.{numbers_at}
 use Rattle.pulsar_acts.specs.Tables.{view_of}
-use Rattle.pulsar_tables.specs.View.{clear_all}
+use Rattle.pulsar_acts.specs.View.{clear_all}
 use Rattle.pulsar_acts.proofs.tables.Tables.clear_batches.Given as goal
 
 abbrev pub invariant-loop-number : goal.invariant-loop-number

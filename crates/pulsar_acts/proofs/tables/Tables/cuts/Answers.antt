@@ -1,7 +1,8 @@
 use Rattle.std.proofs.Common.{◌∙◌, ◌∷◌, [], ◌++◌, ap, cond, map}
 use Rattle.std.proofs.lemmas.Result.{on_ok_weaker}
 use Rattle.pulsar_run.specs.Order.{arranged}
-use Rattle.pulsar_tables.specs.Rules.{below, opens, ready_notice}
+use Rattle.pulsar_acts.specs.Rules.{ready_notice}
+use Rattle.pulsar_calls.specs.Order.{below, opens}
 use Rattle.pulsar_agenda.specs.Agenda.{agenda_of}
 use Rattle.pulsar_acts.specs.Tables.{view_of}
 use Rattle.pulsar_acts.proofs.tables.Tables.cuts.Goals as goal

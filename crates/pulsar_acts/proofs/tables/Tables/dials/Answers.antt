@@ -1,7 +1,7 @@
 use Rattle.std.proofs.Common.{◌∙◌, ◌==◌, ap, cond, Some}
-use Rattle.pulsar_tables.specs.Kept.{pause_at}
+use Rattle.pulsar_links.specs.Kept.{pause_at}
 use Rattle.pulsar_acts.specs.Tables.{view_of}
-use Rattle.pulsar_tables.specs.View.{seat_of_fresh}
+use Rattle.pulsar_links.specs.Seats.{seat_of_fresh}
 use Rattle.pulsar_acts.proofs.Turned.{both}
 use Rattle.pulsar_acts.proofs.tables.Tables.dials.Goals as goal
 

@@ -2,23 +2,27 @@ use Rattle.std.proofs.Common.{◌≡◌, ◌∙◌, ◌++◌, Option, ap, append
 use Rattle.std.proofs.lemmas.List.{append-nil}
 use Rattle.std.proofs.lemmas.Result.{on_ok_weaker}
 use Rattle.std.specs.Option.{option_map}
-use Rattle.pulsar_plans.specs.Address.{address_key}
+use Rattle.pulsar_addresses.specs.Address.{address_key}
 use Rattle.pulsar_run.specs.Order.{arranged}
-use Rattle.pulsar_session.specs.Failures.{Fault}
+use Rattle.pulsar_wire.specs.Failures.{Fault}
 use Rattle.pulsar_calls.specs.declared.act.Act.TheVariants.{Comes}
 use Rattle.pulsar_calls.specs.declared.act.Alarm.TheVariants.{KeepAlive}
 use Rattle.pulsar_calls.specs.declared.act.LinkAct.TheVariants.{Ends}
 use Rattle.pulsar_calls.specs.declared.act.Part.TheVariants.{ToLink}
-use Rattle.pulsar_tables.specs.Alarms.{clear}
+use Rattle.pulsar_links.specs.Alarms.{clear}
 use Rattle.pulsar_calls.specs.Content.{shown}
-use Rattle.pulsar_tables.specs.Effects.{given_at, retries_on}
-use Rattle.pulsar_tables.specs.Kept.{IsEnd}
-use Rattle.pulsar_tables.specs.Rules.{below, ended_on, failed_on, failed_over, opens, waiters_of}
+use Rattle.pulsar_acts.specs.Effects.{retries_on}
+use Rattle.pulsar_links.specs.LinkEffects.{given_at}
+use Rattle.pulsar_links.specs.Kept.{IsEnd}
+use Rattle.pulsar_acts.specs.Rules.{failed_on, waiters_of}
+use Rattle.pulsar_links.specs.LinkRules.{ended_on, failed_over}
+use Rattle.pulsar_calls.specs.Order.{below, opens}
 use Rattle.pulsar_consumer_table.specs.Consumers.{Consumers, all_changed, loses_by, over_rows}
 use Rattle.pulsar_consumer_table.specs.Notices.{lost_at}
 use Rattle.pulsar_agenda.specs.Agenda.{agenda_of}
 use Rattle.pulsar_acts.specs.Tables.{retry_set, retry_shown, view_of}
-use Rattle.pulsar_tables.specs.View.{addresses_after, alarms_after, alarms_on, alarms_over, base_on, closing, links_after, may_retry, pause_of, pause_on, pause_with, turned}
+use Rattle.pulsar_acts.specs.View.{addresses_after, alarms_after, alarms_on, alarms_over, base_on, links_after, pause_of, pause_on, turned}
+use Rattle.pulsar_links.specs.Seats.{closing, may_retry, pause_with}
 use Rattle.pulsar_consumer_table.proofs.Heard.{all_same, over_none}
 use Rattle.pulsar_acts.proofs.Turned.{linked, none_left, retries_set, retries_shown, still_sees}
 use Rattle.pulsar_acts.proofs.Turning.{none_ended, nothing_more, open_still, retries_still, turned_end, waiters_still}

@@ -5,9 +5,9 @@ use Rattle.pulsar_calls.specs.declared.act.Word.TheVariants.{Over}
 use Rattle.pulsar_run.specs.Order.{put_all}
 use Rattle.pulsar_consumer_table.specs.Consumers.{changed, failed}
 use Rattle.pulsar_consumer_table.specs.Notices.{again_at}
-use Rattle.pulsar_tables.specs.Reading.{tells_word}
-use Rattle.pulsar_tables.specs.Rules.{below}
-use Rattle.pulsar_agenda.specs.Run.{Agenda}
+use Rattle.pulsar_acts.specs.Reading.{tells_word}
+use Rattle.pulsar_calls.specs.Order.{below}
+use Rattle.pulsar_agenda.specs.Agenda.{Agenda}
 use Rattle.pulsar_agenda.specs.Agenda.{agenda_of}
 use Rattle.pulsar_acts.specs.Tables.{view_of}
 use Rattle.pulsar_acts.proofs.tables.Tables.fails_consumer.Goals as goal

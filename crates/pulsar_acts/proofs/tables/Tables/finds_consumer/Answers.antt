@@ -1,6 +1,6 @@
 use Rattle.std.proofs.Common.{◌∙◌, [], ap, sym}
 use Rattle.std.proofs.lemmas.Result.{on_ok_weaker}
-use Rattle.pulsar_tables.specs.Reading.{sought_said}
+use Rattle.pulsar_acts.specs.Reading.{sought_said}
 use Rattle.pulsar_agenda.specs.Agenda.{agenda_of}
 use Rattle.pulsar_acts.proofs.Granting.{in_front}
 use Rattle.pulsar_acts.proofs.tables.Tables.finds_consumer.Goals as goal

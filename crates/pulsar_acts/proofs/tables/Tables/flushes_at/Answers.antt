@@ -2,12 +2,13 @@ use Rattle.std.proofs.Common.{◌∙◌, ◌∷◌, [], ◌++◌, ap, cond, sym}
 use Rattle.std.proofs.lemmas.List.{append-nil}
 use Rattle.std.proofs.lemmas.Result.{on_ok_weaker}
 use Rattle.pulsar_producer.specs.Topic.{Flushes}
-use Rattle.pulsar_producer.specs.declared.deed.News.TheVariants.{Done}
+use Rattle.pulsar_outgoing.specs.declared.news.News.TheVariants.{Done}
 use Rattle.pulsar_run.specs.Order.{put_all}
 use Rattle.pulsar_producer_table.specs.KeptProducers.{producers_of}
 use Rattle.pulsar_producer_table.specs.Producers.{changed, is_woken}
-use Rattle.pulsar_tables.specs.Rules.{below, grants, ready_notice}
-use Rattle.pulsar_agenda.specs.Run.{Agenda}
+use Rattle.pulsar_acts.specs.Rules.{grants, ready_notice}
+use Rattle.pulsar_calls.specs.Order.{below}
+use Rattle.pulsar_agenda.specs.Agenda.{Agenda}
 use Rattle.pulsar_agenda.specs.Agenda.{agenda_of}
 use Rattle.pulsar_acts.specs.Tables.{view_of}
 use Rattle.pulsar_calls.specs.Who.{turn_of}

@@ -1,7 +1,7 @@
 use Rattle.std.proofs.Common.{◌≡◌, ◌∙◌, ap, sym, true, inl, inr}
 use Rattle.std.proofs.lemmas.Result.{on_ok_weaker}
-use Rattle.pulsar_plans.specs.Address.{is_reachable}
-use Rattle.pulsar_tables.specs.Kept.{pause_at}
+use Rattle.pulsar_addresses.specs.Address.{is_reachable}
+use Rattle.pulsar_links.specs.Kept.{pause_at}
 use Rattle.pulsar_acts.specs.Tables.{view_of}
 use Rattle.pulsar_acts.proofs.Getting.{get_served, get_waits, serves}
 use Rattle.pulsar_acts.proofs.tables.Tables.gets.Goals as goal

@@ -2,7 +2,7 @@ use Rattle.std.proofs.Common.{◌≡◌, ◌∙◌, [], ap}
 use Rattle.pulsar_calls.specs.declared.content.Joining.{Joining}
 use Rattle.pulsar_consumer_table.specs.Consumers.{subscribed_on}
 use Rattle.pulsar_consumer_table.specs.KeptConsumers.{member_in}
-use Rattle.pulsar_tables.specs.View.{joins_as, member_on, setup_of}
+use Rattle.pulsar_acts.specs.View.{joins_as, member_on, setup_of}
 use Rattle.pulsar_acts.specs.Tables.{view_of}
 use Rattle.pulsar_acts.proofs.tables.Tables.joins.Goals as goal
 

@@ -1,5 +1,5 @@
 use Rattle.std.proofs.Common.{◌∙◌, ap, sym}
-use Rattle.pulsar_tables.specs.View.{consumers_made, producers_made}
+use Rattle.pulsar_acts.specs.View.{consumers_made, producers_made}
 use Rattle.pulsar_acts.specs.Tables.{view_of}
 use Rattle.pulsar_acts.proofs.tables.Tables.makes.Goals as goal
 

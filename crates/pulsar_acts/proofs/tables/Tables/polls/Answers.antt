@@ -7,7 +7,7 @@ use Rattle.pulsar_run.specs.Order.{put_all}
 use Rattle.pulsar_calls.specs.Content.{Shown, shown}
 use Rattle.pulsar_calls.specs.declared.act.Notice.{Notice}
 use Rattle.pulsar_calls.specs.declared.effect.Effect.{Effect}
-use Rattle.pulsar_tables.specs.Rules.{below}
+use Rattle.pulsar_calls.specs.Order.{below}
 use Rattle.pulsar_agenda.specs.Agenda.{agenda_of}
 use Rattle.pulsar_acts.proofs.Turned.{none_left}
 use Rattle.pulsar_acts.proofs.tables.Tables.polls.Goals as goal

@@ -3,7 +3,7 @@ use Rattle.std.proofs.lemmas.Result.{MatchResult-weaker}
 use Rattle.pulsar_calls.specs.Content.{Build}
 use Rattle.pulsar_consumer_table.specs.Consumers as consumer
 use Rattle.pulsar_producer_table.specs.Producers.{called_on}
-use Rattle.pulsar_tables.specs.View.{may_call}
+use Rattle.pulsar_acts.specs.View.{may_call}
 use Rattle.pulsar_acts.specs.Tables.{view_of}
 use Rattle.pulsar_acts.proofs.tables.Tables.procedure_for.Goals as goal
 

@@ -3,9 +3,9 @@ use Rattle.std.proofs.lemmas.List.{append-nil}
 use Rattle.std.proofs.lemmas.Result.{on_ok_weaker}
 use Rattle.pulsar_calls.specs.declared.act.Alarm.TheVariants.{KeepAlive}
 use Rattle.pulsar_calls.specs.declared.act.Arrival.TheVariants.{Readied}
-use Rattle.pulsar_tables.specs.Alarms.{set}
-use Rattle.pulsar_tables.specs.Kept.{pause_at}
-use Rattle.pulsar_tables.specs.Rules.{served_on, waiters_of}
+use Rattle.pulsar_links.specs.Alarms.{set}
+use Rattle.pulsar_links.specs.Kept.{pause_at}
+use Rattle.pulsar_acts.specs.Rules.{served_on, waiters_of}
 use Rattle.pulsar_acts.specs.Tables.{turned_view, view_of}
 use Rattle.pulsar_acts.proofs.Turned.{none_left}
 use Rattle.pulsar_acts.proofs.Turning.{welcomed_none, welcomed_some}

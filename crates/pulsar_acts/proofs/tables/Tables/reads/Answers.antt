@@ -5,14 +5,17 @@ use Rattle.pulsar_run.specs.Order.{arranged}
 use Rattle.pulsar_calls.specs.declared.act.Act.TheVariants.{Comes}
 use Rattle.pulsar_calls.specs.declared.act.LinkAct.TheVariants.{Reads}
 use Rattle.pulsar_calls.specs.declared.act.Part.TheVariants.{ToLink}
-use Rattle.pulsar_tables.specs.Kept.{live_in}
-use Rattle.pulsar_tables.specs.Rules.{answered_on, below, breaks_at, opens, reads_on, served_on, waiters_of}
-use Rattle.pulsar_agenda.specs.Run.{Agenda}
+use Rattle.pulsar_links.specs.Kept.{live_in}
+use Rattle.pulsar_acts.specs.Rules.{breaks_at, reads_on, served_on, waiters_of}
+use Rattle.pulsar_links.specs.LinkRules.{answered_on}
+use Rattle.pulsar_calls.specs.Order.{below, opens}
+use Rattle.pulsar_agenda.specs.Agenda.{Agenda}
 use Rattle.pulsar_consumer_table.specs.Consumers.{all_changed, hears, over_rows}
 use Rattle.pulsar_consumer_table.specs.Notices.{heard_at}
 use Rattle.pulsar_agenda.specs.Agenda.{agenda_of}
 use Rattle.pulsar_acts.specs.Tables.{view_of, welcomed}
-use Rattle.pulsar_tables.specs.View.{View, alarms_on, arrival_at, base_on, pause_on, took_some, turned}
+use Rattle.pulsar_acts.specs.View.{View, alarms_on, base_on, pause_on, turned}
+use Rattle.pulsar_links.specs.Seats.{arrival_at, took_some}
 use Rattle.pulsar_acts.proofs.Turned.{linked}
 use Rattle.pulsar_acts.proofs.Turning.{nothing_more, read_retries, welcomed_is}
 use Rattle.pulsar_acts.proofs.tables.Tables.reads.Goals as goal

@@ -2,7 +2,7 @@ use Rattle.std.proofs.Common.{◌∙◌, ap, sym}
 use Rattle.std.proofs.lemmas.Result.{on_ok_weaker}
 use Rattle.pulsar_calls.specs.declared.act.Word.TheVariants.{Recalled}
 use Rattle.pulsar_consumer_table.specs.Consumers.{recalled}
-use Rattle.pulsar_tables.specs.Reading.{recalled_said, tells_word}
+use Rattle.pulsar_acts.specs.Reading.{recalled_said, tells_word}
 use Rattle.pulsar_agenda.specs.Agenda.{agenda_of}
 use Rattle.pulsar_acts.specs.Tables.{view_of}
 use Rattle.pulsar_acts.proofs.Granting.{in_front}

@@ -4,9 +4,9 @@ use Rattle.std.proofs.lemmas.Result.{on_ok_weaker}
 use Rattle.pulsar_run.specs.Order.{put_all}
 use Rattle.pulsar_consumer_table.specs.Consumers.{changed, is_ended_at, revived}
 use Rattle.pulsar_consumer_table.specs.Notices.{revived_at}
-use Rattle.pulsar_tables.specs.Reading.{revived_said, tells_word}
-use Rattle.pulsar_tables.specs.Rules.{below}
-use Rattle.pulsar_agenda.specs.Run.{Agenda}
+use Rattle.pulsar_acts.specs.Reading.{revived_said, tells_word}
+use Rattle.pulsar_calls.specs.Order.{below}
+use Rattle.pulsar_agenda.specs.Agenda.{Agenda}
 use Rattle.pulsar_agenda.specs.Agenda.{agenda_of}
 use Rattle.pulsar_acts.specs.Tables.{view_of}
 use Rattle.pulsar_acts.proofs.tables.Tables.revives.Goals as goal

@@ -4,7 +4,7 @@ use Rattle.pulsar_messages.specs.Content.{message_content}
 use Rattle.pulsar_calls.specs.declared.act.Procedure.TheVariants.{Send}
 use Rattle.pulsar_producer_table.specs.Producers.{Producers, batches_in, errand_of}
 use Rattle.pulsar_acts.specs.Tables.{chosen_of, view_of}
-use Rattle.pulsar_tables.specs.View.{ways_of}
+use Rattle.pulsar_acts.specs.View.{ways_of}
 use Rattle.pulsar_acts.proofs.Sending.{same_batches, sent_so}
 use Rattle.pulsar_acts.proofs.tables.Tables.sends_as.Goals as goal
 

@@ -3,7 +3,7 @@ use Rattle.std.proofs.lemmas.Result.{MatchResult-weaker}
 use Rattle.pulsar_calls.specs.declared.act.Act.TheVariants.{Starts}
 use Rattle.pulsar_calls.specs.declared.act.Procedure.TheVariants.{Serve}
 use Rattle.pulsar_calls.specs.declared.act.Who.TheVariants.{Consumer}
-use Rattle.pulsar_tables.specs.Reading.{serves_by}
+use Rattle.pulsar_acts.specs.Reading.{serves_by}
 use Rattle.pulsar_acts.proofs.tables.Tables.serves.Goals as goal
 
 pub returns-in-Some : goal.returns-in-Some

@@ -8,9 +8,9 @@ use Rattle.pulsar_calls.specs.declared.act.Who.TheVariants.{Call}
 use Rattle.pulsar_producer_table.specs.KeptProducers.{producers_of}
 use Rattle.pulsar_producer_table.specs.Producers.{all_routed, routed}
 use Rattle.pulsar_calls.specs.Content.{next_advice}
-use Rattle.pulsar_tables.specs.Rules.{sends_as, share, shares_of}
+use Rattle.pulsar_acts.specs.Rules.{sends_as, share, shares_of}
 use Rattle.pulsar_acts.specs.Tables.{chosen_of, view_of}
-use Rattle.pulsar_tables.specs.View.{View}
+use Rattle.pulsar_acts.specs.View.{View}
 use Rattle.pulsar_acts.proofs.Sending.{drop_next, routed_end, shares_end}
 use Rattle.pulsar_acts.proofs.tables.Tables.shares.Goals as goal
 

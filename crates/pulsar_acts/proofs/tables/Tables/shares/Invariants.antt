@@ -2,7 +2,7 @@ use Rattle.std.proofs.Common.{◌≡◌, ◌+◌, ◌++◌, drop, length, map}
 use Rattle.pulsar_messages.specs.Content.{message_content}
 use Rattle.pulsar_producer_table.specs.KeptProducers.{producers_of}
 use Rattle.pulsar_producer_table.specs.Producers.{all_routed}
-use Rattle.pulsar_tables.specs.Rules.{shares_of}
+use Rattle.pulsar_acts.specs.Rules.{shares_of}
 use Rattle.pulsar_acts.specs.Tables.{chosen_of, view_of}
 use Rattle.pulsar_acts.proofs.tables.Tables.shares.Given as goal
 

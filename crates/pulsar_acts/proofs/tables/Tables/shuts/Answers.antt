@@ -1,15 +1,16 @@
 use Rattle.std.proofs.Common.{◌∙◌, ◌++◌, ap, map, sym}
 use Rattle.std.proofs.lemmas.List.{append-nil}
 use Rattle.std.proofs.lemmas.Result.{on_ok_weaker}
-use Rattle.pulsar_producer.specs.declared.deed.News.TheVariants.{Done}
+use Rattle.pulsar_outgoing.specs.declared.news.News.TheVariants.{Done}
 use Rattle.pulsar_run.specs.Order.{put_all}
-use Rattle.pulsar_procedures.specs.Plan.{closed_notice}
+use Rattle.pulsar_plans.specs.Plan.{closed_notice}
 use Rattle.pulsar_producer_table.specs.Producers.{shut}
-use Rattle.pulsar_tables.specs.Rules.{below, grants}
-use Rattle.pulsar_agenda.specs.Run.{Agenda}
+use Rattle.pulsar_acts.specs.Rules.{grants}
+use Rattle.pulsar_calls.specs.Order.{below}
+use Rattle.pulsar_agenda.specs.Agenda.{Agenda}
 use Rattle.pulsar_agenda.specs.Agenda.{agenda_of}
 use Rattle.pulsar_acts.specs.Tables.{view_of}
-use Rattle.pulsar_tables.specs.View.{View}
+use Rattle.pulsar_acts.specs.View.{View}
 use Rattle.pulsar_acts.proofs.tables.Tables.shuts.Goals as goal
 
 pub returns-clause-left : goal.returns-clause-left

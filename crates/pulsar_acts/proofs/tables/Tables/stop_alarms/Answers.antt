@@ -1,10 +1,11 @@
 use Rattle.std.proofs.Common.{◌∙◌, ap, cond, ℕ}
 use Rattle.std.specs.List.{flat_map, list_any}
 use Rattle.pulsar_calls.specs.declared.act.Alarm.{Alarm}
-use Rattle.pulsar_tables.specs.Kept.{base_at}
-use Rattle.pulsar_tables.specs.Rules.{stopped_with}
+use Rattle.pulsar_links.specs.Kept.{base_at}
+use Rattle.pulsar_acts.specs.Rules.{stopped_with}
 use Rattle.pulsar_acts.specs.Tables.{view_of}
-use Rattle.pulsar_tables.specs.View.{is_to_follow, nobody}
+use Rattle.pulsar_acts.specs.View.{is_to_follow}
+use Rattle.pulsar_links.specs.Seats.{nobody}
 use Rattle.pulsar_calls.proofs.Lists.{any_map, flat_map_of}
 use Rattle.pulsar_acts.proofs.tables.Tables.stop_alarms.Goals as goal
 

@@ -2,15 +2,16 @@ use Rattle.std.proofs.Common.{◌∙◌, ◌++◌, ap, append_assoc, map, sym}
 use Rattle.std.proofs.lemmas.Result.{on_ok_weaker}
 use Rattle.pulsar_run.specs.Order.{arranged}
 use Rattle.pulsar_producer_table.specs.Producers.{halted}
-use Rattle.pulsar_tables.specs.Rules.{below, opens, over_links, stop_act}
+use Rattle.pulsar_links.specs.LinkRules.{over_links, stop_act}
+use Rattle.pulsar_calls.specs.Order.{below, opens}
 use Rattle.pulsar_producer_table.specs.Notices.{stopped_all}
 use Rattle.pulsar_consumer_table.specs.Consumers.{all_changed, stopped}
-use Rattle.pulsar_tables.specs.Reading.{stopped_on, tells}
+use Rattle.pulsar_acts.specs.Reading.{stopped_on, tells}
 use Rattle.pulsar_calls.specs.declared.act.Outcome.TheVariants.{Stopped}
-use Rattle.pulsar_agenda.specs.Run.{Agenda}
+use Rattle.pulsar_agenda.specs.Agenda.{Agenda}
 use Rattle.pulsar_agenda.specs.Agenda.{agenda_of}
 use Rattle.pulsar_acts.specs.Tables.{view_of}
-use Rattle.pulsar_tables.specs.View.{View}
+use Rattle.pulsar_acts.specs.View.{View}
 use Rattle.pulsar_acts.proofs.tables.Tables.stops.Goals as goal
 
 pub returns-clause-left : goal.returns-clause-left

@@ -2,7 +2,7 @@ use Rattle.std.proofs.Common.{◌≡◌, ◌∙◌, ap, sym}
 use Rattle.std.proofs.lemmas.Result.{on_ok_weaker}
 use Rattle.pulsar_consumer.specs.Topic.{Asks}
 use Rattle.pulsar_consumer_table.specs.Consumers.{changed, flow_at, member_after}
-use Rattle.pulsar_tables.specs.Reading.{flow_said, tells_word}
+use Rattle.pulsar_acts.specs.Reading.{flow_said, tells_word}
 use Rattle.pulsar_agenda.specs.Agenda.{agenda_of}
 use Rattle.pulsar_acts.specs.Tables.{view_of}
 use Rattle.pulsar_acts.proofs.Granting.{in_front}

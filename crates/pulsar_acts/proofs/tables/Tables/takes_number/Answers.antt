@@ -2,7 +2,7 @@ use Rattle.std.proofs.Common.{◌∙◌, ap, sym}
 use Rattle.std.proofs.lemmas.Result.{on_ok_weaker}
 use Rattle.pulsar_calls.specs.declared.act.Outcome.TheVariants.{Refused}
 use Rattle.pulsar_consumer_table.specs.Consumers.{numbered}
-use Rattle.pulsar_tables.specs.Reading.{numbering_said, tells}
+use Rattle.pulsar_acts.specs.Reading.{numbering_said, tells}
 use Rattle.pulsar_agenda.specs.Agenda.{agenda_of}
 use Rattle.pulsar_acts.specs.Tables.{view_of}
 use Rattle.pulsar_acts.proofs.Granting.{in_front}

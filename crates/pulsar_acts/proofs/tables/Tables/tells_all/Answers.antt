@@ -1,7 +1,7 @@
 use Rattle.std.proofs.Common.{◌∙◌, ap, sym}
 use Rattle.pulsar_run.specs.Order.{put}
-use Rattle.pulsar_tables.specs.Rules.{below}
-use Rattle.pulsar_agenda.specs.Run.{Agenda}
+use Rattle.pulsar_calls.specs.Order.{below}
+use Rattle.pulsar_agenda.specs.Agenda.{Agenda}
 use Rattle.pulsar_agenda.specs.Agenda.{agenda_of}
 use Rattle.pulsar_acts.proofs.Storing.{put_all_end}
 use Rattle.pulsar_acts.proofs.tables.Tables.tells_all.Goals as goal

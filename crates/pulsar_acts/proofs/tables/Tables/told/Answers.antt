@@ -6,13 +6,13 @@ use Rattle.pulsar_calls.specs.declared.act.Outcome.{Outcome}
 use Rattle.pulsar_calls.specs.declared.act.Verdict.{Verdict}
 use Rattle.pulsar_calls.specs.declared.act.Who.{Who}
 use Rattle.pulsar_calls.specs.declared.act.Who.TheVariants.{Call, Consumer, Producer}
-use Rattle.pulsar_procedures.specs.declared.plan.Plan.{Plan}
-use Rattle.pulsar_procedures.specs.declared.plan.Turn.{Turn}
-use Rattle.pulsar_procedures.specs.Plan.{told}
+use Rattle.pulsar_plans.specs.declared.plan.Plan.{Plan}
+use Rattle.pulsar_plans.specs.declared.plan.Turn.{Turn}
+use Rattle.pulsar_plans.specs.Plan.{told}
 use Rattle.pulsar_calls.specs.Notices.{notice}
 use Rattle.pulsar_acts.specs.Tables.{view_of}
-use Rattle.pulsar_procedures.specs.Standing.{stand_of}
-use Rattle.pulsar_tables.specs.View.{stand_after, stays, stays_some, told_some}
+use Rattle.pulsar_plans.specs.Standing.{stand_of}
+use Rattle.pulsar_acts.specs.View.{stand_after, stays, stays_some, told_some}
 use Rattle.pulsar_calls.specs.Who.{is_same}
 use Rattle.pulsar_acts.proofs.tables.Tables.told.Goals as goal
 

@@ -1,5 +1,5 @@
 use Rattle.std.proofs.lemmas.Result.{on_ok_weaker}
-use Rattle.pulsar_tables.specs.Kept.{base_at}
+use Rattle.pulsar_links.specs.Kept.{base_at}
 use Rattle.pulsar_acts.specs.Tables.{view_of}
 use Rattle.pulsar_acts.proofs.tables.Tables.tries_again.Goals as goal
 

@@ -1,7 +1,7 @@
 use Rattle.std.proofs.Common.{◌∙◌, ap, sym}
 use Rattle.std.proofs.lemmas.Result.{on_ok_weaker}
 use Rattle.pulsar_calls.specs.declared.act.Alarm.TheVariants.{Batch}
-use Rattle.pulsar_tables.specs.Alarms.{set}
+use Rattle.pulsar_links.specs.Alarms.{set}
 use Rattle.pulsar_acts.specs.Tables.{view_of}
 use Rattle.pulsar_acts.proofs.Storing.{waits_never, waits_no_more, waits_so_long, waits_still}
 use Rattle.pulsar_acts.proofs.tables.Tables.waits_from.Goals as goal

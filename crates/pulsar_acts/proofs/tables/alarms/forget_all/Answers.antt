@@ -2,8 +2,9 @@ use Rattle.std.proofs.Common.{◌≡◌, ◌∙◌, ◌||◌, ap, sym, Bool, tru
 use Rattle.std.proofs.lemmas.List.{take_more}
 use Rattle.std.specs.List.{list_any}
 use Rattle.pulsar_calls.specs.declared.act.Alarm.TheVariants.{Retry}
-use Rattle.pulsar_tables.specs.Kept.{addresses_of, base_at, pause_at}
-use Rattle.pulsar_tables.specs.View.{Base, is_to_follow, nobody}
+use Rattle.pulsar_links.specs.Kept.{addresses_of, base_at, pause_at}
+use Rattle.pulsar_acts.specs.View.{is_to_follow}
+use Rattle.pulsar_links.specs.Seats.{Base, nobody}
 use Rattle.pulsar_calls.proofs.Lists.{any_end}
 use Rattle.pulsar_acts.proofs.Turned.{follows_same}
 use Rattle.pulsar_acts.proofs.tables.alarms.forget_all.Goals as goal

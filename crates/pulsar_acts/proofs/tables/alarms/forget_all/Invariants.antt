@@ -1,7 +1,8 @@
 use Rattle.std.proofs.Common.{◌≡◌, ℕ, List, take, cond}
 use Rattle.std.specs.List.{list_any}
-use Rattle.pulsar_tables.specs.Kept.{addresses_of, base_at}
-use Rattle.pulsar_tables.specs.View.{is_to_follow, nobody}
+use Rattle.pulsar_links.specs.Kept.{addresses_of, base_at}
+use Rattle.pulsar_acts.specs.View.{is_to_follow}
+use Rattle.pulsar_links.specs.Seats.{nobody}
 use Rattle.pulsar_acts.proofs.tables.alarms.forget_all.Given as goal
 
 abbrev pub invariant-loop-alarm : goal.invariant-loop-alarm

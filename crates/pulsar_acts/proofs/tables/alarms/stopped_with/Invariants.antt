@@ -1,7 +1,7 @@
 use Rattle.std.proofs.Common.{◌≡◌, take}
 use Rattle.std.specs.List.{flat_map}
-use Rattle.pulsar_tables.specs.Kept.{addresses_of}
-use Rattle.pulsar_tables.specs.Rules.{stopped_with}
+use Rattle.pulsar_links.specs.Kept.{addresses_of}
+use Rattle.pulsar_acts.specs.Rules.{stopped_with}
 use Rattle.pulsar_acts.proofs.tables.alarms.stopped_with.Given as goal
 
 abbrev pub invariant-loop-alarm : goal.invariant-loop-alarm

@@ -1,6 +1,6 @@
 use Rattle.std.proofs.Common.{◌∙◌, ◌++◌, ◌∷◌, [], Bor, ap, map, sym}
-use Rattle.pulsar_producer.specs.declared.content.Built.{Built}
-use Rattle.pulsar_tables.specs.Rules.{batches_by}
+use Rattle.pulsar_outgoing.specs.declared.content.Built.{Built}
+use Rattle.pulsar_acts.specs.Rules.{batches_by}
 use Rattle.pulsar_producer_table.proofs.Grown.{map_end}
 use Rattle.pulsar_acts.proofs.tables.batches.batches_from.Goals as goal
 

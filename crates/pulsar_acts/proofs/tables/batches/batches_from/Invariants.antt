@@ -1,5 +1,5 @@
 use Rattle.std.proofs.Common.{◌≡◌, map}
-use Rattle.pulsar_tables.specs.Rules.{batches_by}
+use Rattle.pulsar_acts.specs.Rules.{batches_by}
 use Rattle.pulsar_acts.proofs.tables.batches.batches_from.Given as goal
 
 abbrev pub invariant-loop-built : goal.invariant-loop-built

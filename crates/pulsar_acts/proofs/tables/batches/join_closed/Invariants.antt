@@ -1,7 +1,7 @@
 use Rattle.std.proofs.Common.{◌≡◌, map}
 use Rattle.pulsar_run.specs.Order.{put_all}
-use Rattle.pulsar_procedures.specs.Plan.{closed_notice}
-use Rattle.pulsar_tables.specs.Rules.{below}
+use Rattle.pulsar_plans.specs.Plan.{closed_notice}
+use Rattle.pulsar_calls.specs.Order.{below}
 use Rattle.pulsar_agenda.specs.Agenda.{agenda_of}
 use Rattle.pulsar_acts.proofs.tables.batches.join_closed.Given as goal
 

@@ -2,7 +2,7 @@ use Rattle.std.proofs.Common.{◌≡◌, ◌∙◌, ◌++◌, ◌∷◌, [], ap,
 use Rattle.std.proofs.lemmas.List.{map-append}
 use Rattle.pulsar_run.specs.Order.{arranged}
 use Rattle.pulsar_calls.specs.declared.act.Notice.{Notice}
-use Rattle.pulsar_tables.specs.Rules.{alone, below}
+use Rattle.pulsar_calls.specs.Order.{alone, below}
 use Rattle.pulsar_agenda.proofs.agenda.Tasks.open_each.Goals as goal
 
 -- one more cause, of one notice

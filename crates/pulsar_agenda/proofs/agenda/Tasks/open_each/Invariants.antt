@@ -1,6 +1,6 @@
 use Rattle.std.proofs.Common.{◌≡◌, ◌++◌, map}
 use Rattle.pulsar_run.specs.Order.{arranged}
-use Rattle.pulsar_tables.specs.Rules.{alone, below}
+use Rattle.pulsar_calls.specs.Order.{alone, below}
 use Rattle.pulsar_agenda.proofs.agenda.Tasks.open_each.Given as goal
 
 abbrev pub invariant-loop-notice : goal.invariant-loop-notice

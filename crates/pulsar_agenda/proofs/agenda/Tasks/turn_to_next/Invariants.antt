@@ -1,5 +1,5 @@
 use Rattle.std.proofs.Common.{◌≡◌, [], length}
-use Rattle.pulsar_agenda.specs.Run.{first_of, rest_of}
+use Rattle.pulsar_agenda.specs.Agenda.{first_of, rest_of}
 use Rattle.pulsar_agenda.proofs.agenda.Tasks.turn_to_next.Given as goal
 
 abbrev pub invariant-loop-self : goal.invariant-loop-self

@@ -1,7 +1,7 @@
 use Rattle.std.proofs.Common.{◌∙◌, ◌∷◌, [], refl, subst, sym}
 use Rattle.pulsar_run.proofs.Orders.{put_all_order}
 use Rattle.pulsar_run.specs.Order.{InOrder}
-use Rattle.pulsar_tables.specs.Rules.{below}
+use Rattle.pulsar_calls.specs.Order.{below}
 use Rattle.pulsar_agenda.proofs.Orders.{below_order}
 use Rattle.pulsar_agenda.proofs.queue.Queue.join.Goals as goal
 

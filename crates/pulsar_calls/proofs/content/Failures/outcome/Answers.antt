@@ -1,10 +1,10 @@
 use Rattle.std.proofs.Common.{◌∙◌, ap, sym, length}
 use Rattle.std.proofs.lemmas.Bool.{false≢true}
-use Rattle.pulsar_session.specs.Failures.{OfPartialSend}
+use Rattle.pulsar_wire.specs.Failures.{OfPartialSend}
 use Rattle.pulsar_calls.specs.Content.{Failed}
 use Rattle.pulsar_calls.specs.Content.{numbers_from}
 use Rattle.pulsar_calls.proofs.Parting.{some_failed}
-use Rattle.pulsar_producer.proofs.PartialSends.{partial_send}
+use Rattle.pulsar_outgoing.proofs.PartialSends.{partial_send}
 use Rattle.pulsar_calls.proofs.content.Failures.outcome.Goals as goal
 
 pub returns : goal.returns

@@ -4,7 +4,7 @@ use Rattle.std.specs.BTreeMap.{get, is_at}
 use Rattle.std.specs.Map.{lookup}
 use Rattle.std.specs.Ordering.{nat_cmp}
 use Rattle.pulsar_requests.proofs.Awaiting.{is_at-eqb}
-use Rattle.pulsar_session.specs.Failures.{sent}
+use Rattle.pulsar_wire.specs.Failures.{sent}
 use Rattle.pulsar_calls.specs.Content.{numbers_from}
 use Rattle.pulsar_calls.specs.Parts.{outcome_at, outcomes_of}
 use Rattle.pulsar_calls.proofs.Parting.{onto_end, onto_none, outcomes_onto}

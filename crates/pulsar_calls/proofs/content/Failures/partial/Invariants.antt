@@ -4,7 +4,7 @@ use Rattle.std.specs.BTreeMap.{get, is_at}
 use Rattle.std.specs.Map.{lookup}
 use Rattle.std.specs.Ordering.{nat_cmp}
 use Rattle.pulsar_wire.specs.declared.error.Error.{Error}
-use Rattle.pulsar_session.specs.Failures.{sent}
+use Rattle.pulsar_wire.specs.Failures.{sent}
 use Rattle.pulsar_calls.specs.Content.{numbers_from}
 use Rattle.pulsar_calls.proofs.Parting.{outcomes_onto}
 use Rattle.pulsar_calls.proofs.content.Failures.partial.Given as goal

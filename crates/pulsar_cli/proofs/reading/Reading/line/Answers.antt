@@ -1,5 +1,5 @@
 use Rattle.std.proofs.Common.{rules, refl, ◌≡◌, ◌∙◌, sym, ap, Err}
-use Rattle.pulsar_script.specs.Grammar.{line}
+use Rattle.pulsar_grammar.specs.Grammar.{line}
 use Rattle.pulsar_cli.specs.declared.stop.Stop.TheVariants as stop
 use Rattle.pulsar_cli.proofs.Readings.{line-found}
 use Rattle.pulsar_cli.proofs.reading.Reading.line.Goals as goal

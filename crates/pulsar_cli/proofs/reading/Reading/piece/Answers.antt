@@ -1,5 +1,5 @@
 use Rattle.std.proofs.Common.{rules, ◌≡◌, ◌∷◌, ◌++◌, ◌∙◌, sym, [], Err, None}
-use Rattle.pulsar_script.specs.Parsed.{IsWithinLine}
+use Rattle.pulsar_grammar.specs.Parsed.{IsWithinLine}
 use Rattle.pulsar_cli.specs.declared.stop.Stop.TheVariants as stop
 use Rattle.pulsar_cli.proofs.Readings.{behind-line, event-read, line-happens, line-read, nothing-read, refuses-here, runs-on, same-front}
 use Rattle.pulsar_cli.proofs.reading.Reading.piece.Goals as goal

@@ -1,7 +1,7 @@
 use Rattle.std.proofs.Common.{◌≡◌, ◌++◌, List, ℕ, length}
 use Rattle.pulsar_producer.specs.Routing.{Policy}
-use Rattle.pulsar_agenda.specs.Run.{Step}
-use Rattle.pulsar_tables.specs.View.{Options}
+use Rattle.pulsar_calls.specs.Steps.{Step}
+use Rattle.pulsar_machine.specs.Options.{Options}
 use Rattle.pulsar_cli.specs.Shown.{Running}
 use Rattle.pulsar_cli.proofs.reading.Reading.piece.Given as goal
 

@@ -1,6 +1,6 @@
 use Rattle.std.proofs.Common.{◌+◌, ◌∙◌, ap, refl, subst, []}
-use Rattle.pulsar_script.specs.Grammar.{Refused}
-use Rattle.pulsar_script.specs.Parsed.{line_of, setting_of}
+use Rattle.pulsar_grammar.specs.Grammar.{Refused}
+use Rattle.pulsar_grammar.specs.Parsed.{line_of, setting_of}
 use Rattle.pulsar_cli.specs.Shown.{Reads}
 use Rattle.pulsar_cli.proofs.Readings.{none-yet, reads-nothing, reads-set, refuses-set, script-line}
 use Rattle.pulsar_cli.proofs.reading.Reading.take.Goals as goal

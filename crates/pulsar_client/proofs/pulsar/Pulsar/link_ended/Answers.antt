@@ -1,5 +1,5 @@
 use Rattle.std.proofs.Common.{◌∙◌, ap}
-use Rattle.pulsar_tables.specs.View.{has_ended}
+use Rattle.pulsar_links.specs.Seats.{has_ended}
 use Rattle.pulsar_client.proofs.Stepping.{seen_of}
 use Rattle.pulsar_client.proofs.pulsar.Pulsar.link_ended.Goals as goal
 

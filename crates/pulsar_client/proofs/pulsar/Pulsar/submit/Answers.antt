@@ -1,6 +1,6 @@
 use Rattle.std.proofs.Common.{◌∙◌, ap}
 use Rattle.pulsar_calls.specs.Content.{asked}
-use Rattle.pulsar_agenda.specs.Run.{ticket_for}
+use Rattle.pulsar_acts.specs.Run.{ticket_for}
 use Rattle.pulsar_client.proofs.Counting.{ticket_is}
 use Rattle.pulsar_client.proofs.pulsar.Pulsar.submit.Goals as goal
 

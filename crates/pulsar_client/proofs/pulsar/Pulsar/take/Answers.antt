@@ -3,7 +3,7 @@ use Rattle.pulsar_calls.specs.Content.{heard, shown}
 use Rattle.pulsar_client.specs.History.{step}
 use Rattle.pulsar_acts.specs.Tables.{view_of}
 use Rattle.pulsar_client.specs.Taken.{drawn_to, ended_in, held_but}
-use Rattle.pulsar_tables.specs.View.{Options}
+use Rattle.pulsar_machine.specs.Options.{Options}
 use Rattle.pulsar_client.proofs.Counting.{ticket_is}
 use Rattle.pulsar_client.proofs.Stepping.{dead_step, not_live}
 use Rattle.pulsar_client.proofs.Taking.{drawn_more, held_on, held_still}

@@ -1,5 +1,5 @@
 use Rattle.std.proofs.Common.{◌≡◌, ℕ, List, take, reverse, length, []}
-use Rattle.pulsar_tables.specs.View.{Options}
+use Rattle.pulsar_machine.specs.Options.{Options}
 use Rattle.pulsar_client.specs.Client.{StandsFor}
 use Rattle.pulsar_client.specs.History.{answered}
 use Rattle.pulsar_client.proofs.pulsar.Pulsar.take_all.Given as goal

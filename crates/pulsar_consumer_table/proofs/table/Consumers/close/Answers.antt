@@ -3,7 +3,7 @@ use Rattle.std.specs.List.Sorted.{IsStrictlySortedBy}
 use Rattle.std.specs.Ordering.{nat_cmp}
 use Rattle.pulsar_calls.specs.declared.act.Word.TheVariants.{Over}
 use Rattle.pulsar_consumer.specs.Topic.{Ends}
-use Rattle.pulsar_consumer.specs.declared.polled.Ending.TheVariants.{Closed}
+use Rattle.pulsar_incoming.specs.declared.polled.Ending.TheVariants.{Closed}
 use Rattle.pulsar_consumer_table.specs.Consumers.{closes, lives_at, lives_with, member_after, word_if, word_of_close}
 use Rattle.pulsar_consumer_table.specs.KeptConsumers.{is_known, rows_in}
 use Rattle.pulsar_consumer_table.specs.Notices.{word_to}

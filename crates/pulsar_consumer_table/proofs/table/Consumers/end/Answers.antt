@@ -4,7 +4,8 @@ use Rattle.std.specs.Ordering.{nat_cmp}
 use Rattle.pulsar_calls.specs.declared.act.Word.TheVariants.{Lost}
 use Rattle.pulsar_consumer.specs.Topic.{Loses, resubscribes}
 use Rattle.pulsar_consumer_table.specs.Consumers.{lives_at, member_after, number_at, word_if}
-use Rattle.pulsar_consumer_table.specs.KeptConsumers.{is_known, is_listed, rows_in}
+use Rattle.pulsar_consumer_table.specs.KeptConsumers.{is_known, rows_in}
+use Rattle.pulsar_calls.specs.Places.{is_listed}
 use Rattle.pulsar_consumer_table.specs.Notices.{word_to}
 use Rattle.pulsar_consumer_table.proofs.Finding.{found_change, found_give}
 use Rattle.pulsar_consumer_table.proofs.Heard.{consumers_are, lost_by, none_lost}

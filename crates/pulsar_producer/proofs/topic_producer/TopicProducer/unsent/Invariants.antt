@@ -1,6 +1,6 @@
 use Rattle.std.proofs.Common.{◌≡◌, map}
 use Rattle.std.specs.List.{flat_map}
-use Rattle.pulsar_producer.specs.Topic.{ticket_of}
+use Rattle.pulsar_outgoing.specs.Storage.{ticket_of}
 use Rattle.pulsar_producer.proofs.topic_producer.TopicProducer.unsent.Given as goal
 
 abbrev pub invariant-loop-batch : goal.invariant-loop-batch

@@ -3,7 +3,7 @@ use Rattle.std.specs.BTreeMap.{get}
 use Rattle.std.specs.BTreeSet.{contains}
 use Rattle.std.specs.List.{list_any}
 use Rattle.std.specs.Ordering.{nat_cmp}
-use Rattle.pulsar_requests.specs.declared.awaited.Awaited.TheVariants.{Reply}
+use Rattle.pulsar_wire.specs.declared.awaited.Awaited.TheVariants.{Reply}
 use Rattle.pulsar_requests.specs.Kept.{excuses, listed}
 use Rattle.pulsar_requests.proofs.Timed.{excused_more, placed_where, untouched}
 use Rattle.pulsar_requests.proofs.requests.Requests.excuse.Goals as goal

@@ -1,6 +1,6 @@
 use Rattle.std.proofs.Common.{◌∙◌, not, sym, ap}
 use Rattle.std.specs.List.{list_any}
-use Rattle.pulsar_requests.specs.Awaited.{is_same}
+use Rattle.pulsar_wire.specs.Awaited.{is_same}
 use Rattle.pulsar_requests.specs.Kept.{listed}
 use Rattle.pulsar_requests.proofs.Pendings.{has_any, has_some, somebody}
 use Rattle.pulsar_requests.proofs.requests.Requests.is_awaited.Goals as goal

@@ -2,7 +2,7 @@ use Rattle.std.proofs.Common.{◌≡◌, ◌∙◌, sym, ap, refl, [], subst, So
 use Rattle.std.specs.BTreeMap.{get}
 use Rattle.std.specs.Ordering.{nat_cmp}
 use Rattle.pulsar_wire.specs.Sink.{capped}
-use Rattle.pulsar_requests.specs.Awaited.{awaited_cmp, is_same, is_one}
+use Rattle.pulsar_wire.specs.Awaited.{awaited_cmp, is_same, is_one}
 use Rattle.pulsar_requests.specs.Kept.{AllUpTo, Ascends, Taken, all_pending, listed, places_of}
 use Rattle.pulsar_requests.specs.Waits.{answered_by, found, others, places}
 use Rattle.pulsar_requests.proofs.Pendings.{all_taken, ascends_filter, index_left, places_found, up_to_filter}

@@ -5,7 +5,7 @@ use Rattle.std.specs.BTreeMap.{get}
 use Rattle.std.specs.BTreeSet.{contains}
 use Rattle.std.specs.Ordering.{nat_cmp}
 use Rattle.pulsar_wire.specs.Sink.{capped}
-use Rattle.pulsar_requests.specs.Awaited.{awaited_cmp, is_same}
+use Rattle.pulsar_wire.specs.Awaited.{awaited_cmp, is_same}
 use Rattle.pulsar_requests.specs.declared.requests.Waiter.{Waiter}
 use Rattle.pulsar_requests.specs.Kept.{AllUpTo, Ascends, all_pending, listed, pending_at, places_of}
 use Rattle.pulsar_requests.specs.Waits.{with_next}

@@ -1,5 +1,5 @@
 use Rattle.std.proofs.Common.{true, ◌∙◌, ◌++◌, [], ◌∷◌, refl, ap, sym, subst}
-use Rattle.pulsar_session.specs.Failures.{failure}
+use Rattle.pulsar_wire.specs.Failures.{failure}
 use Rattle.pulsar_calls.specs.Content.{Ends, hands, said, shown}
 use Rattle.pulsar_work.specs.Calls.{is_end, is_failure}
 use Rattle.pulsar_work.specs.Progress.{Knows}

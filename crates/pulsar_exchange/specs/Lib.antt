@@ -1,0 +1,4 @@
+pub mod RawCall
+pub mod Request
+pub mod Messages
+pub mod Refusals

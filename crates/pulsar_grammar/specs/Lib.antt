@@ -1,0 +1,9 @@
+pub mod Words
+pub mod Choices
+pub mod Encoded
+pub mod MessageWords
+pub mod ProducerWords
+pub mod ConsumerWords
+pub mod RawLines
+pub mod Grammar
+pub mod Parsed

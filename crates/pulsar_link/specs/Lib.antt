@@ -1,6 +1,0 @@
-pub mod RawCall
-pub mod Request
-pub mod Items
-pub mod Messages
-pub mod Refusals
-pub mod Held

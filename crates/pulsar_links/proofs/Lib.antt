@@ -1,0 +1,4 @@
+pub mod Idle
+pub mod Timing
+pub mod Moments
+pub mod Ringing

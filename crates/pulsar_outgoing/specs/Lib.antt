@@ -1,0 +1,5 @@
+pub mod Storage
+pub mod Batch
+pub mod Wanted
+pub mod Errors
+pub mod Replies

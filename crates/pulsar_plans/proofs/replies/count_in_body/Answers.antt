@@ -1,4 +1,0 @@
-use Rattle.pulsar_plans.proofs.replies.count_in_body.Goals as goal
-
-pub returns-in-PartitionedTopicMetadataResponse : goal.returns-in-PartitionedTopicMetadataResponse
-returns-in-PartitionedTopicMetadataResponse c = rw c.in-PartitionedTopicMetadataResponse.is c.count_told.ensures

@@ -1,4 +1,0 @@
-use Rattle.pulsar_plans.proofs.replies.place_in_body.Goals as goal
-
-pub returns-in-LookupTopicResponse : goal.returns-in-LookupTopicResponse
-returns-in-LookupTopicResponse c = rw c.in-LookupTopicResponse.is c.place_told.ensures

@@ -1,0 +1,18 @@
+-- For the code's contracts alone: where the plan of one stands.
+use Rattle.std.specs.Prelude.{ℕ, Option}
+use Rattle.std.specs.BTreeMap.{get}
+use Rattle.std.specs.Ordering.{nat_cmp, ordering_then}
+use Rattle.std.specs.declared.cmp.Ordering.{Ordering}
+use Rattle.pulsar_calls.specs.declared.act.Who.{Who}
+use Rattle.pulsar_calls.specs.declared.act.Who.TheVariants.{Call, Consumer, Producer}
+use Rattle.pulsar_plans.specs.declared.plan.Plan.{Plan}
+use Rattle.pulsar_plans.specs.declared.table.Plans.{Plans}
+
+-- consumers stand by number, and then by ticket
+abbrev pub pair_cmp : ℕ × ℕ → ℕ × ℕ → Ordering
+pair_cmp a b = ordering_then (nat_cmp a.0 b.0) (nat_cmp a.1 b.1)
+
+abbrev pub stand_of : Plans → Who → Option Plan
+stand_of p (Call ticket) = get nat_cmp p.calls ticket
+stand_of p (Consumer number ticket) = get pair_cmp p.consumers (number, ticket)
+stand_of p (Producer number) = get nat_cmp p.producers number

@@ -1,0 +1,3 @@
+pub mod WordText
+pub mod ErrorText
+pub mod Text

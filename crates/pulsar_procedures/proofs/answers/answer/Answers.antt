@@ -1,4 +1,0 @@
-use Rattle.pulsar_procedures.proofs.answers.answer.Goals as goal
-
-pub returns-in-Names : goal.returns-in-Names
-returns-in-Names c = rw (c.in-GetTopicsOfNamespaceResponse.is, c.in-Names.is) c.names.ensures

@@ -1,7 +1,0 @@
-use Rattle.std.proofs.Common.{◌≡◌, map, take}
-use Rattle.pulsar_producer.specs.Batch.{member_of}
-use Rattle.pulsar_producer.specs.Storage.{item_of}
-use Rattle.pulsar_producer.proofs.batch.members.Given as goal
-
-abbrev pub invariant-loop-item : goal.invariant-loop-item
-invariant-loop-item l = l.all.items ≡ map member_of (map item_of (take l.item-index l.items))

@@ -1,7 +1,0 @@
-use Rattle.std.proofs.Common.{◌≡◌, ◌++◌, map, take}
-use Rattle.pulsar_producer.specs.Storage.{item_of}
-use Rattle.pulsar_producer.specs.Topic.{ticket_of}
-use Rattle.pulsar_producer.proofs.storage.push_tickets.Given as goal
-
-abbrev pub invariant-loop-item : goal.invariant-loop-item
-invariant-loop-item l = l.tickets.items ≡ l.fn.tickets.items ++ map ticket_of (map item_of (take l.item-index l.items))

@@ -1,8 +1,0 @@
-use Rattle.std.proofs.Common.{◌≡◌, map, take}
-use Rattle.std.specs.Option.{option_map}
-use Rattle.pulsar_script.specs.MessageWords.{all, blank}
-use Rattle.pulsar_script.specs.Parsed.{draft_of}
-use Rattle.pulsar_script.proofs.grammar.message.all.Given as goal
-
-abbrev pub invariant-loop-word : goal.invariant-loop-word
-invariant-loop-word l = option_map draft_of l.draft ≡ all blank (map (λ w. w.now) (take l.word-index l.words))

@@ -1,9 +1,0 @@
-use Rattle.std.proofs.Common.{◌≡◌, map, take}
-use Rattle.std.specs.Option.{option_map}
-use Rattle.pulsar_wire.specs.Row.{each}
-use Rattle.pulsar_script.specs.Encoded.{id}
-use Rattle.pulsar_script.specs.Parsed.{ids_of}
-use Rattle.pulsar_script.proofs.grammar.raw.ids.Given as goal
-
-abbrev pub invariant-loop-word : goal.invariant-loop-word
-invariant-loop-word l = option_map ids_of l.ids ≡ each id (map (λ w. w.now) (take l.word-index l.words))

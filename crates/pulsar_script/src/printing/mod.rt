@@ -1,5 +1,0 @@
-//! The printed run.
-
-pub mod effect;
-pub mod error;
-pub mod word;

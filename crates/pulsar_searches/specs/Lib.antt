@@ -1,0 +1,4 @@
+pub mod Closing
+pub mod Question
+pub mod Replies
+pub mod Plans

@@ -1,0 +1,187 @@
+//! All plans of this crate as one machine.
+
+ghost use Rattle.std.specs.Prelude.{◌≡◌, Ok, IfOk};
+ghost use Rattle.pulsar_searches.specs.Plans as meaning;
+ghost use Rattle.pulsar_searches.specs.declared.turn.Turn.TheVariants.{Gives};
+
+use crate::count::{self, Counting};
+use crate::look::{self, Looking};
+use crate::making::{self, Command, Making, Served};
+use crate::names::{self, Naming};
+use crate::retry::{self, Retrying};
+use crate::turn::{Outcome, Turn, Ways};
+use pulsar_addresses::content::{Address, Cause, Names, Refusal, Text};
+use pulsar_wire::error::NoMemory;
+use std::alloc::Global;
+
+/// What is to be done.
+#[derive(Drop)]
+pub enum Procedure {
+    /// Find how many partitions a topic has.
+    CountPartitions(Text),
+    /// Find the broker of a topic.
+    Look(Text),
+    /// Find the names of a topic with their brokers.
+    Name(Text),
+    /// Wait and find the broker of a topic again, after a command on it failed so, behind so many retries.
+    Retry {
+        topic: Text,
+        retries: u32,
+        cause: Cause,
+    },
+    /// Ask a command at an address until it succeeds.
+    Make {
+        command: Command,
+        address: Address,
+    },
+}
+
+/// What a plan finds.
+#[derive(Drop)]
+pub enum Answer {
+    Address(Address),
+    Count(u32),
+    Addresses(Names),
+    Reply(Served),
+}
+
+/// Where a plan stands.
+#[derive(Drop)]
+pub enum Plan {
+    Counting { topic: Text, counting: Counting },
+    Looking { topic: Text, looking: Looking },
+    Naming { topic: Text, naming: Naming },
+    Retrying { topic: Text, retrying: Retrying },
+    Making { command: Command, making: Making },
+}
+
+/// Where a procedure begins.
+pub fn begins(
+    alloc: Global,
+    ways: &Ways,
+    procedure: Procedure,
+) -> Result<Turn<Plan, Result<Answer, Refusal>>, NoMemory>
+    ensures { IfOk result (λ turn. turn ≡ meaning.begins ways.now procedure) }
+{
+    match procedure {
+        Procedure::CountPartitions(topic) => {
+            let turn = count::begins(alloc, ways, &topic)?;
+            Ok(after_count(topic, turn))
+        }
+        Procedure::Look(topic) => {
+            let turn = look::begins(alloc, ways)?;
+            Ok(after_look(topic, turn))
+        }
+        Procedure::Name(topic) => {
+            let turn = names::begins(alloc, ways, &topic)?;
+            Ok(after_names(topic, turn))
+        }
+        Procedure::Retry {
+            topic,
+            retries,
+            cause,
+        } => {
+            let turn = retry::begins(alloc, ways, retries, cause.into_inner())?;
+            Ok(after_retry(topic, turn))
+        }
+        Procedure::Make { command, address } => Ok(after_making(command, making::gets(0, address))),
+    }
+}
+
+/// What an outcome makes of a plan.
+pub fn told(
+    alloc: Global,
+    ways: &Ways,
+    plan: Plan,
+    outcome: Outcome,
+) -> Result<Turn<Plan, Result<Answer, Refusal>>, NoMemory>
+    ensures { IfOk result (λ turn. turn ≡ meaning.told ways.now plan outcome) }
+{
+    match plan {
+        Plan::Counting { topic, counting } => {
+            let turn = count::told(alloc, ways, &topic, counting, outcome)?;
+            Ok(after_count(topic, turn))
+        }
+        Plan::Looking { topic, looking } => {
+            let turn = look::told(alloc, ways, &topic, looking, outcome)?;
+            Ok(after_look(topic, turn))
+        }
+        Plan::Naming { topic, naming } => {
+            let turn = names::told(alloc, ways, &topic, naming, outcome)?;
+            Ok(after_names(topic, turn))
+        }
+        Plan::Retrying { topic, retrying } => {
+            let turn = retry::told(alloc, ways, &topic, retrying, outcome)?;
+            Ok(after_retry(topic, turn))
+        }
+        Plan::Making { command, making } => {
+            let turn = making::told(alloc, ways, &command, making, outcome)?;
+            Ok(after_making(command, turn))
+        }
+    }
+}
+
+fn after_count(
+    topic: Text,
+    turn: Turn<Counting, Result<u32, Refusal>>,
+) -> Turn<Plan, Result<Answer, Refusal>>
+    ensures { result ≡ meaning.and_then turn (Plan.Counting topic) (λ n. Gives (Ok (Answer.Count n))) }
+{
+    match turn {
+        Turn::Stays(counting, action) => Turn::Stays(Plan::Counting { topic, counting }, action),
+        Turn::Gives(Ok(count)) => Turn::Gives(Ok(Answer::Count(count))),
+        Turn::Gives(Err(refusal)) => Turn::Gives(Err(refusal)),
+    }
+}
+
+fn after_look(
+    topic: Text,
+    turn: Turn<Looking, Result<Address, Refusal>>,
+) -> Turn<Plan, Result<Answer, Refusal>>
+    ensures { result ≡ meaning.and_then turn (Plan.Looking topic) (λ place. Gives (Ok (Answer.Address place))) }
+{
+    match turn {
+        Turn::Stays(looking, action) => Turn::Stays(Plan::Looking { topic, looking }, action),
+        Turn::Gives(Ok(address)) => Turn::Gives(Ok(Answer::Address(address))),
+        Turn::Gives(Err(refusal)) => Turn::Gives(Err(refusal)),
+    }
+}
+
+fn after_names(
+    topic: Text,
+    turn: Turn<Naming, Result<Names, Refusal>>,
+) -> Turn<Plan, Result<Answer, Refusal>>
+    ensures { result ≡ meaning.and_then turn (Plan.Naming topic) (λ names. Gives (Ok (Answer.Addresses names))) }
+{
+    match turn {
+        Turn::Stays(naming, action) => Turn::Stays(Plan::Naming { topic, naming }, action),
+        Turn::Gives(Ok(names)) => Turn::Gives(Ok(Answer::Addresses(names))),
+        Turn::Gives(Err(refusal)) => Turn::Gives(Err(refusal)),
+    }
+}
+
+fn after_retry(
+    topic: Text,
+    turn: Turn<Retrying, Result<Address, Refusal>>,
+) -> Turn<Plan, Result<Answer, Refusal>>
+    ensures { result ≡ meaning.and_then turn (Plan.Retrying topic) (λ place. Gives (Ok (Answer.Address place))) }
+{
+    match turn {
+        Turn::Stays(retrying, action) => Turn::Stays(Plan::Retrying { topic, retrying }, action),
+        Turn::Gives(Ok(address)) => Turn::Gives(Ok(Answer::Address(address))),
+        Turn::Gives(Err(refusal)) => Turn::Gives(Err(refusal)),
+    }
+}
+
+fn after_making(
+    command: Command,
+    turn: Turn<Making, Result<Served, Refusal>>,
+) -> Turn<Plan, Result<Answer, Refusal>>
+    ensures { result ≡ meaning.and_then turn (Plan.Making command) (λ s. Gives (Ok (Answer.Reply s))) }
+{
+    match turn {
+        Turn::Stays(making, action) => Turn::Stays(Plan::Making { command, making }, action),
+        Turn::Gives(Ok(served)) => Turn::Gives(Ok(Answer::Reply(served))),
+        Turn::Gives(Err(refusal)) => Turn::Gives(Err(refusal)),
+    }
+}

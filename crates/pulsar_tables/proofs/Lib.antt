@@ -1,4 +1,0 @@
-pub mod Moments
-pub mod Ringing
-pub mod Timing
-pub mod Idle

@@ -1,9 +1,0 @@
-use Rattle.std.proofs.Common.{◌∙◌}
-use Rattle.pulsar_tables.specs.Rules.{stop_act}
-use Rattle.pulsar_tables.proofs.Timing.{all_live}
-use Rattle.pulsar_tables.proofs.links.Links.stop_acts.Goals as goal
-
-pub returns : goal.returns
-returns c =
-    let links = c.args.self.now in
-    c.in_ok-acts.ensures.ends ∙ all_live stop_act links.started links.live (links.fresh c.if-self.false) c.in_ok-acts.ensures.ordered

@@ -1,9 +1,0 @@
-pub mod Address
-pub mod Links
-pub mod Alarms
-pub mod View
-pub mod Reading
-pub mod Rules
-pub mod Effects
-pub mod Due
-pub mod Kept

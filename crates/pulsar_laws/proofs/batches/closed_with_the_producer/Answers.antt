@@ -1,4 +1,4 @@
-use Rattle.pulsar_laws.proofs.Closed.{closed_with_the_producer_lem}
+use Rattle.pulsar_laws.proofs.producers.Closed.{closed_with_the_producer_lem}
 use Rattle.pulsar_laws.proofs.batches.closed_with_the_producer.Goals as goal
 
 pub returns : goal.returns

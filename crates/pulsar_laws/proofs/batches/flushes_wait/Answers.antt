@@ -1,4 +1,4 @@
-use Rattle.pulsar_laws.proofs.Flushing.{flushes_wait_lem}
+use Rattle.pulsar_laws.proofs.producers.Flushing.{flushes_wait_lem}
 use Rattle.pulsar_laws.proofs.batches.flushes_wait.Goals as goal
 
 pub returns : goal.returns

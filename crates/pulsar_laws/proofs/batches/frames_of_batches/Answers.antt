@@ -1,4 +1,4 @@
-use Rattle.pulsar_laws.proofs.BatchFrames.{frames_of_batches_lem}
+use Rattle.pulsar_laws.proofs.producers.BatchFrames.{frames_of_batches_lem}
 use Rattle.pulsar_laws.proofs.batches.frames_of_batches.Goals as goal
 
 pub returns : goal.returns

@@ -1,4 +1,4 @@
-use Rattle.pulsar_laws.proofs.BatchTold.{members_are_told_lem}
+use Rattle.pulsar_laws.proofs.producers.BatchTold.{members_are_told_lem}
 use Rattle.pulsar_laws.proofs.batches.members_are_told.Goals as goal
 
 pub returns : goal.returns

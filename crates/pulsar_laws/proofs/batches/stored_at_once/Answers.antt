@@ -1,4 +1,4 @@
-use Rattle.pulsar_laws.proofs.Stores.{stored_at_once_lem}
+use Rattle.pulsar_laws.proofs.plans.Stores.{stored_at_once_lem}
 use Rattle.pulsar_laws.proofs.batches.stored_at_once.Goals as goal
 
 pub returns : goal.returns

@@ -1,4 +1,4 @@
-use Rattle.pulsar_laws.proofs.Settled.{stored_ends_lem}
+use Rattle.pulsar_laws.proofs.calls.Settled.{stored_ends_lem}
 use Rattle.pulsar_laws.proofs.batches.stored_ends_by_its_batch.Goals as goal
 
 pub returns : goal.returns

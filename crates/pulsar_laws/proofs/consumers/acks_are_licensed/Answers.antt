@@ -1,5 +1,5 @@
-use Rattle.pulsar_laws.proofs.Acks.{acks_are_licensed_lem, acks_once_lem}
-use Rattle.pulsar_laws.proofs.Once.{ends_once_lem}
+use Rattle.pulsar_laws.proofs.consumers.Acks.{acks_are_licensed_lem, acks_once_lem}
+use Rattle.pulsar_laws.proofs.calls.Once.{ends_once_lem}
 use Rattle.pulsar_laws.proofs.consumers.acks_are_licensed.Goals as goal
 
 pub returns-clause-licensed : goal.returns-clause-licensed

@@ -1,5 +1,5 @@
-use Rattle.pulsar_laws.proofs.Lone.{consumers_alone_lem}
-use Rattle.pulsar_laws.proofs.Once.{ends_once_lem}
+use Rattle.pulsar_laws.proofs.consumers.Lone.{consumers_alone_lem}
+use Rattle.pulsar_laws.proofs.calls.Once.{ends_once_lem}
 use Rattle.pulsar_laws.proofs.consumers.consumers_alone.Goals as goal
 
 pub returns : goal.returns

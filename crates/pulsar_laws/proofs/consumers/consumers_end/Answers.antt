@@ -1,5 +1,5 @@
-use Rattle.pulsar_laws.proofs.Ended.{consumers_end_lem, consumers_remain_lem}
-use Rattle.pulsar_laws.proofs.Once.{ends_once_lem}
+use Rattle.pulsar_laws.proofs.consumers.Ended.{consumers_end_lem, consumers_remain_lem}
+use Rattle.pulsar_laws.proofs.calls.Once.{ends_once_lem}
 use Rattle.pulsar_laws.proofs.consumers.consumers_end.Goals as goal
 
 pub returns-clause-ends : goal.returns-clause-ends

@@ -1,9 +1,9 @@
-use Rattle.pulsar_laws.proofs.Ended.{permits_are_kept_lem}
-use Rattle.pulsar_laws.proofs.Flows.{flows_are_asked_lem, flows_are_taken_lem}
-use Rattle.pulsar_laws.proofs.Once.{ends_once_lem}
-use Rattle.pulsar_laws.proofs.Placed.{flows_are_placed_lem}
-use Rattle.pulsar_laws.proofs.Queueing.{flows_are_queued_lem}
-use Rattle.pulsar_laws.proofs.Taken.{flows_are_counted_lem}
+use Rattle.pulsar_laws.proofs.consumers.Ended.{permits_are_kept_lem}
+use Rattle.pulsar_laws.proofs.consumers.Flows.{flows_are_asked_lem, flows_are_taken_lem}
+use Rattle.pulsar_laws.proofs.calls.Once.{ends_once_lem}
+use Rattle.pulsar_laws.proofs.consumers.Placed.{flows_are_placed_lem}
+use Rattle.pulsar_laws.proofs.consumers.Queueing.{flows_are_queued_lem}
+use Rattle.pulsar_laws.proofs.consumers.Taken.{flows_are_counted_lem}
 use Rattle.pulsar_laws.proofs.consumers.permits_are_kept.Goals as goal
 
 pub returns-clause-bounds : goal.returns-clause-bounds

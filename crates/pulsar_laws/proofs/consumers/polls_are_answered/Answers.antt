@@ -1,4 +1,4 @@
-use Rattle.pulsar_laws.proofs.Polls.{polls_are_answered_lem}
+use Rattle.pulsar_laws.proofs.consumers.Polls.{polls_are_answered_lem}
 use Rattle.pulsar_laws.proofs.consumers.polls_are_answered.Goals as goal
 
 pub returns : goal.returns

@@ -1,5 +1,5 @@
-use Rattle.pulsar_laws.proofs.Once.{ends_once_lem}
-use Rattle.pulsar_laws.proofs.Polls.{polls_follow_lem}
+use Rattle.pulsar_laws.proofs.calls.Once.{ends_once_lem}
+use Rattle.pulsar_laws.proofs.consumers.Polls.{polls_follow_lem}
 use Rattle.pulsar_laws.proofs.consumers.polls_follow.Goals as goal
 
 pub returns : goal.returns

@@ -1,5 +1,5 @@
-use Rattle.pulsar_laws.proofs.Frames.{frames_are_of_their_sends_lem}
-use Rattle.pulsar_laws.proofs.Queued.{frames_are_read_again_lem, queued_as_asked_lem}
+use Rattle.pulsar_laws.proofs.producers.Frames.{frames_are_of_their_sends_lem}
+use Rattle.pulsar_laws.proofs.links.Queued.{frames_are_read_again_lem, queued_as_asked_lem}
 use Rattle.pulsar_laws.proofs.producers.frames_are_of_their_sends.Goals as goal
 
 pub returns-clause-asked : goal.returns-clause-asked

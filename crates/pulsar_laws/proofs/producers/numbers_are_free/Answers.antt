@@ -1,4 +1,4 @@
-use Rattle.pulsar_laws.proofs.Free.{numbers_are_free_lem}
+use Rattle.pulsar_laws.proofs.producers.Free.{numbers_are_free_lem}
 use Rattle.pulsar_laws.proofs.producers.numbers_are_free.Goals as goal
 
 pub returns : goal.returns

@@ -1,5 +1,5 @@
-use Rattle.pulsar_laws.proofs.Gathered.{parts_are_gathered_from}
-use Rattle.pulsar_laws.proofs.Idlers.{gather_told}
+use Rattle.pulsar_laws.proofs.calls.Gathered.{parts_are_gathered_from}
+use Rattle.pulsar_laws.proofs.calls.Idlers.{gather_told}
 use Rattle.pulsar_laws.proofs.producers.parts_are_gathered.Goals as goal
 
 pub returns : goal.returns

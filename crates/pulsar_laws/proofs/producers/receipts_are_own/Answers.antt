@@ -1,5 +1,5 @@
-use Rattle.pulsar_laws.proofs.Receipts.{receipts_are_own_lem}
-use Rattle.pulsar_laws.proofs.Rise.{numbers_of_frames_rise_lem}
+use Rattle.pulsar_laws.proofs.links.Receipts.{receipts_are_own_lem}
+use Rattle.pulsar_laws.proofs.producers.Rise.{numbers_of_frames_rise_lem}
 use Rattle.pulsar_laws.proofs.producers.receipts_are_own.Goals as goal
 
 pub returns-clause-own : goal.returns-clause-own

@@ -1,4 +1,4 @@
-use Rattle.pulsar_laws.proofs.OnceSent.{sent_once_lem}
+use Rattle.pulsar_laws.proofs.producers.OnceSent.{sent_once_lem}
 use Rattle.pulsar_laws.proofs.producers.sent_once.Goals as goal
 
 pub returns : goal.returns

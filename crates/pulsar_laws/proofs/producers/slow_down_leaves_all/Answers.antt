@@ -1,4 +1,4 @@
-use Rattle.pulsar_laws.proofs.Slow.{slow_down_lem}
+use Rattle.pulsar_laws.proofs.calls.Slow.{slow_down_lem}
 use Rattle.pulsar_laws.proofs.producers.slow_down_leaves_all.Goals as goal
 
 pub returns : goal.returns

@@ -1,4 +1,4 @@
-use Rattle.pulsar_laws.proofs.Topics.{topics_alone_lem}
+use Rattle.pulsar_laws.proofs.producers.Topics.{topics_alone_lem}
 use Rattle.pulsar_laws.proofs.producers.topics_alone.Goals as goal
 
 pub returns : goal.returns

@@ -1,4 +1,4 @@
-use Rattle.pulsar_laws.proofs.TurnRun.{passed_in_turn_lem, queued_in_turn_lem, told_in_turn_lem}
+use Rattle.pulsar_laws.proofs.producers.TurnRun.{passed_in_turn_lem, queued_in_turn_lem, told_in_turn_lem}
 use Rattle.pulsar_laws.proofs.producers.turns_by_ticket.Goals as goal
 
 pub returns-clause-passed : goal.returns-clause-passed

@@ -1,4 +1,4 @@
-use Rattle.pulsar_laws.proofs.Deadlines.{alarms_are_ticked_lem}
+use Rattle.pulsar_laws.proofs.links.Deadlines.{alarms_are_ticked_lem}
 use Rattle.pulsar_laws.proofs.runs.alarms_are_ticked.Goals as goal
 
 pub returns : goal.returns

@@ -1,4 +1,4 @@
-use Rattle.pulsar_laws.proofs.Done.{all_is_done_lem}
+use Rattle.pulsar_laws.proofs.calls.Done.{all_is_done_lem}
 use Rattle.pulsar_laws.proofs.runs.all_is_done.Goals as goal
 
 pub returns : goal.returns

@@ -1,4 +1,4 @@
-use Rattle.pulsar_laws.proofs.Attempts.{attempts_follow_lem}
+use Rattle.pulsar_laws.proofs.links.Attempts.{attempts_follow_lem}
 use Rattle.pulsar_laws.proofs.runs.attempts_follow.Goals as goal
 
 pub returns : goal.returns

@@ -1,4 +1,4 @@
-use Rattle.pulsar_laws.proofs.Made.{calls_are_made_lem}
+use Rattle.pulsar_laws.proofs.calls.Made.{calls_are_made_lem}
 use Rattle.pulsar_laws.proofs.runs.calls_are_made.Goals as goal
 
 pub returns : goal.returns

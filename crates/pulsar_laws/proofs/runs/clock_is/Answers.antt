@@ -1,4 +1,4 @@
-use Rattle.pulsar_laws.proofs.Newest.{clock_is_lem}
+use Rattle.pulsar_laws.proofs.links.Newest.{clock_is_lem}
 use Rattle.pulsar_laws.proofs.runs.clock_is.Goals as goal
 
 pub returns : goal.returns

@@ -1,4 +1,4 @@
-use Rattle.pulsar_laws.proofs.Deadlines.{deadlines_are_ticked_lem}
+use Rattle.pulsar_laws.proofs.links.Deadlines.{deadlines_are_ticked_lem}
 use Rattle.pulsar_laws.proofs.runs.deadlines_are_ticked.Goals as goal
 
 pub returns : goal.returns

@@ -1,4 +1,4 @@
-use Rattle.pulsar_laws.proofs.Led.{deeds_follow_lem}
+use Rattle.pulsar_laws.proofs.plans.Led.{deeds_follow_lem}
 use Rattle.pulsar_laws.proofs.runs.deeds_follow.Goals as goal
 
 pub returns : goal.returns

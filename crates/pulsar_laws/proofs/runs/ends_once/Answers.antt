@@ -1,4 +1,4 @@
-use Rattle.pulsar_laws.proofs.Once.{ends_once_lem}
+use Rattle.pulsar_laws.proofs.calls.Once.{ends_once_lem}
 use Rattle.pulsar_laws.proofs.runs.ends_once.Goals as goal
 
 pub returns : goal.returns

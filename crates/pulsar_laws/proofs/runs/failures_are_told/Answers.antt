@@ -1,5 +1,5 @@
-use Rattle.pulsar_laws.proofs.Caused.{outcomes_are_caused_lem}
-use Rattle.pulsar_laws.proofs.Failures.{failures_are_told_lem}
+use Rattle.pulsar_laws.proofs.calls.Caused.{outcomes_are_caused_lem}
+use Rattle.pulsar_laws.proofs.plans.Failures.{failures_are_told_lem}
 use Rattle.pulsar_laws.proofs.runs.failures_are_told.Goals as goal
 
 pub returns : goal.returns

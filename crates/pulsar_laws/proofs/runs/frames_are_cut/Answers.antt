@@ -1,4 +1,4 @@
-use Rattle.pulsar_laws.proofs.Unread.{frames_are_cut_lem}
+use Rattle.pulsar_laws.proofs.links.Unread.{frames_are_cut_lem}
 use Rattle.pulsar_laws.proofs.runs.frames_are_cut.Goals as goal
 
 pub returns : goal.returns

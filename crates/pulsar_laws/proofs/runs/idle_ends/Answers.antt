@@ -1,4 +1,4 @@
-use Rattle.pulsar_laws.proofs.Deadlines.{idle_ends_lem}
+use Rattle.pulsar_laws.proofs.links.Deadlines.{idle_ends_lem}
 use Rattle.pulsar_laws.proofs.runs.idle_ends.Goals as goal
 
 pub returns : goal.returns

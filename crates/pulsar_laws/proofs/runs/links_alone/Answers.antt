@@ -1,4 +1,4 @@
-use Rattle.pulsar_laws.proofs.Alone.{links_alone_lem}
+use Rattle.pulsar_laws.proofs.links.Alone.{links_alone_lem}
 use Rattle.pulsar_laws.proofs.runs.links_alone.Goals as goal
 
 pub returns : goal.returns

@@ -1,4 +1,4 @@
-use Rattle.pulsar_laws.proofs.Stopping.{none_after_stop_lem}
+use Rattle.pulsar_laws.proofs.calls.Stopping.{none_after_stop_lem}
 use Rattle.pulsar_laws.proofs.runs.none_after_stop.Goals as goal
 
 pub returns : goal.returns

@@ -1,5 +1,5 @@
-use Rattle.pulsar_laws.proofs.Attempts.{attempts_follow_lem}
-use Rattle.pulsar_laws.proofs.OneEach.{one_link_each_lem}
+use Rattle.pulsar_laws.proofs.links.Attempts.{attempts_follow_lem}
+use Rattle.pulsar_laws.proofs.links.OneEach.{one_link_each_lem}
 use Rattle.pulsar_laws.proofs.runs.one_link_each.Goals as goal
 
 pub returns : goal.returns

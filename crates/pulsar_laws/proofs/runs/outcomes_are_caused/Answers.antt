@@ -1,4 +1,4 @@
-use Rattle.pulsar_laws.proofs.Caused.{outcomes_are_caused_lem}
+use Rattle.pulsar_laws.proofs.calls.Caused.{outcomes_are_caused_lem}
 use Rattle.pulsar_laws.proofs.runs.outcomes_are_caused.Goals as goal
 
 pub returns : goal.returns

@@ -1,4 +1,4 @@
-use Rattle.pulsar_laws.proofs.Follow.{plans_follow_lem}
+use Rattle.pulsar_laws.proofs.plans.Follow.{plans_follow_lem}
 use Rattle.pulsar_laws.proofs.runs.plans_follow.Goals as goal
 
 pub returns : goal.returns

@@ -1,4 +1,4 @@
-use Rattle.pulsar_laws.proofs.Deadlines.{signs_of_life_lem}
+use Rattle.pulsar_laws.proofs.links.Deadlines.{signs_of_life_lem}
 use Rattle.pulsar_laws.proofs.runs.signs_of_life.Goals as goal
 
 pub returns : goal.returns

@@ -1,4 +1,4 @@
-use Rattle.pulsar_laws.proofs.Built.{stopped_is_lem}
+use Rattle.pulsar_laws.proofs.calls.Built.{stopped_is_lem}
 use Rattle.pulsar_laws.proofs.runs.stopped_is.Goals as goal
 
 pub returns : goal.returns

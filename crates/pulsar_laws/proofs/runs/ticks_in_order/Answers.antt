@@ -1,4 +1,4 @@
-use Rattle.pulsar_laws.proofs.Ticks.{ticks_in_order_lem}
+use Rattle.pulsar_laws.proofs.links.Ticks.{ticks_in_order_lem}
 use Rattle.pulsar_laws.proofs.runs.ticks_in_order.Goals as goal
 
 pub returns : goal.returns

@@ -1,4 +1,4 @@
-use Rattle.pulsar_laws.proofs.Written.{writes_follow_lem}
+use Rattle.pulsar_laws.proofs.links.Written.{writes_follow_lem}
 use Rattle.pulsar_laws.proofs.runs.writes_follow.Goals as goal
 
 pub returns : goal.returns

@@ -1,0 +1,12 @@
+pub mod Members
+pub mod Lone
+pub mod Polls
+pub mod Ended
+pub mod Acks
+pub mod Flows
+pub mod Reached
+pub mod Riding
+pub mod Placed
+pub mod Queueing
+pub mod Covered
+pub mod Taken

@@ -1,0 +1,331 @@
+-- A consumer is what was done to it since it was made.
+use Rattle.std.proofs.Common.{◌≡◌, ◌≤◌, ℕ, ◌+◌, ◌∙◌, sym, ap, subst, List, [], ◌∷◌, ◌++◌, refl, arith, Bool, true, false, ◌&&◌, cond, Option, Some, None, inl, inr, ◌==◌}
+use Rattle.std.proofs.lemmas.Bool.{and_parts, cases_Bool}
+use Rattle.std.specs.Option.{option_map}
+use Rattle.pulsar_laws.proofs.ActWords.{Act, Answers, Arrival, Ask, Call, Calls, Comes, Consumer, Does, Ends, FailConsumer, FindConsumer, Heard, is_same, lacks_tickets, Makes, Polls, Producer, Reads, Revive, shares, StopAll, TakeFlow, TakeNumber, ticket_of, ToLink, Verdict, Who}
+use Rattle.pulsar_laws.proofs.RunWords.{Begins, begun, begun_live, consumers_after, consumers_made, counted, EndsOnce, Entry, is_live, IsRun, may_call, member_on, Options, setup_of, Then, view, View}
+use Rattle.pulsar_laws.proofs.LinkWords.{answer_at, arrival_at, closed_consumer, closing, Fault, is_asked, is_body, Reply, Seat, url_at}
+use Rattle.url.specs.Parts.{Parts}
+use Rattle.pulsar_messages.specs.Claims.{is_spent}
+use Rattle.pulsar_consumer.specs.Frames.{frame_in}
+use Rattle.pulsar_consumer.specs.Topic.{Act as Done, Hears, Loses, Fails, Ends as Over, Polls as Polled, Asks, Seen, Setup, after, fresh, lives_on, of_raw, seen}
+use Rattle.pulsar_incoming.specs.declared.polled.Ending.TheVariants.{Closed, TopicEnded}
+use Rattle.pulsar_calls.specs.declared.act.Arrival.TheVariants as arrivals
+use Rattle.pulsar_calls.specs.declared.act.Makes.TheVariants as makes
+use Rattle.pulsar_consumer_table.specs.Consumers as consumer
+use Rattle.pulsar_consumer_table.specs.Consumers.{Consumers, Member, hears, hears_frame, loses_by, member_after, seeks, subscribed_on, waits_so}
+use Rattle.pulsar_consumer_table.specs.declared.row.Sought.{Sought}
+use Rattle.pulsar_consumer_table.specs.declared.row.Sought.TheVariants.{Found, Gone, Later}
+use Rattle.pulsar_acts.specs.View.{hears_ask, joins_as}
+use Rattle.pulsar_laws.proofs.Cases.{none_some}
+use Rattle.pulsar_laws.proofs.calls.Ticketed.{consumer_ticket}
+use Rattle.pulsar_laws.specs.ConsumerLaws.{ConsumersAlone, arrival_does, does_to, done_since, done_to, frame_does, loss_does, made_as, made_with, making_does, subscription_does}
+use Rattle.pulsar_laws.specs.Laws.{end_of}
+use Rattle.pulsar_laws.proofs.consumers.Members.{called_rows, left_rows, numbered_rows}
+
+-- WHAT ACTS MAKE OF WHAT IS SEEN
+
+abbrev pub applied : List Done → Seen → Seen
+applied [] s = s
+applied (act ∷ acts) s = after act (applied acts s)
+
+pub seen_more : (s : Setup) (xs h : List Done) → seen s (xs ++ h) ≡ applied xs (seen s h)
+seen_more s [] h = refl
+seen_more s (x ∷ xs) h = ap (after x) (seen_more s xs h)
+
+-- either of two
+abbrev IsDone : Member → List Done → Seen → Type 0
+IsDone m xs s = m.seen ≡ applied xs s
+
+either_done : (b : Bool) (m n : Member) (xs ys : List Done) (s : Seen) → IsDone m xs s → IsDone n ys s → IsDone (cond b m n) (cond b xs ys) s
+either_done true m n xs ys s p q = p
+either_done false m n xs ys s p q = q
+
+frame_done : (l : ℕ) (r : Reply) (m : Member) → IsDone (hears_frame l r m) (frame_does l r m.seen) m.seen
+frame_done l r m =
+    let s : Seen = m.seen in
+    either_done (is_body 9 r.content.body) (member_after (Hears l (frame_in r)) m) _ (Hears l (frame_in r) ∷ []) _ s refl
+    (either_done (is_body 27 r.content.body) _ _ _ _ s
+    (either_done (lives_on l s) (member_after (Over TopicEnded) m) m (Over TopicEnded ∷ []) [] s refl refl)
+    (either_done (is_body 16 r.content.body) (member_after (Loses l) m) m (Loses l ∷ []) [] s refl refl))
+
+arrival_done : (l : ℕ) (a : Arrival) (m : Member) → IsDone (hears l a m) (arrival_does l a m.seen) m.seen
+arrival_done l (arrivals.Gives n r) m = either_done (m.seen.number == n) (hears_frame l r m) m (frame_does l r m.seen) [] m.seen (frame_done l r m) refl
+arrival_done l arrivals.Nothing m = refl
+arrival_done l arrivals.Readied m = refl
+arrival_done l arrivals.Settles m = refl
+arrival_done l arrivals.Passes m = refl
+arrival_done l (arrivals.Bad cause) m = refl
+
+loss_done : (l : ℕ) (cause : Option Fault) (m : Member) → IsDone (loses_by l cause m) (loss_does l cause) m.seen
+loss_done l None m = refl
+loss_done l (Some cause) m = refl
+
+subscription_done : (l : ℕ) (url : Option Parts) (m : Member) → IsDone (subscribed_on l url m) (subscription_does l url) m.seen
+subscription_done l None m = refl
+subscription_done l (Some url) m = refl
+
+waits_done : (x : Sought) (w : Who) (m : Member) → (waits_so x w m).seen ≡ m.seen
+waits_done (Found l) w m = refl
+waits_done Gone w m = refl
+waits_done Later w m = refl
+
+-- A CONSUMER IS MADE
+
+apart_call : (t u : ℕ) → is_same (Call t) (Call u) ≡ false → (t == u) ≡ false
+apart_call t u h = elim (cases_Bool (t == u)) [ inl e ↦ (let f : true ≡ false = sym (ap (λ b. b && b) e) ∙ h in absurd cc) | inr e ↦ e ]
+
+joins_other : (who : Who) (m : Member) (cs : Consumers) (t : ℕ) → is_same (Call t) who ≡ false → (joins_as who m cs).rows t ≡ cs.rows t
+joins_other (Call u) m cs t h = let e : (t == u) ≡ false = apart_call t u h in rw e refl
+joins_other (Consumer n u) m cs t h = refl
+joins_other (Producer n) m cs t h = refl
+
+made_other : (live : ℕ → Option Seat) (who : Who) (m : Makes) (cs : Consumers) (t : ℕ) → is_same (Call t) who ≡ false →
+    (consumers_made live who m cs).rows t ≡ cs.rows t
+made_other live who makes.Nothing cs t h = refl
+made_other live who makes.Client cs t h = refl
+made_other live who (makes.Producer b) cs t h = refl
+made_other live who (makes.Consumer j) cs t h = joins_other who (member_on live j.link (setup_of j)) cs t h
+made_other live who (makes.RawConsumer l made) cs t h = joins_other who (member_on live l (of_raw made)) cs t h
+
+-- WHAT BECOMES OF A ROW
+
+pub record RowAfter (v : View) (a : Act) (t : ℕ) (m : Member) : Type 0 where
+  pub row : Member
+  pub is_it : (consumers_after v a).rows t ≡ Some row
+  pub seen : row.seen ≡ applied (does_to v t m a) m.seen
+
+module _ (v : View) (t : ℕ) (m : Member) (h : v.consumers.rows t ≡ Some m) where
+  mapped : (a : Act) (f : Member → Member) → (consumers_after v a).rows t ≡ option_map f (v.consumers.rows t) → IsDone (f m) (does_to v t m a) m.seen →
+      RowAfter v a t m
+  mapped a f e d = record { row = f m; is_it = e ∙ ap (option_map f) h; seen = d }
+
+  same : (a : Act) → (consumers_after v a).rows t ≡ v.consumers.rows t → does_to v t m a ≡ [] → RowAfter v a t m
+  same a e d = record { row = m; is_it = e ∙ h; seen = ap (λ xs. applied xs m.seen) (sym d) }
+
+  -- one of them is changed
+  changed_row : (u : ℕ) (f : Member → Member) (xs : List Done) → IsDone (f m) xs m.seen →
+      (r : Member) × (cond (t == u) (option_map f (v.consumers.rows t)) (v.consumers.rows t) ≡ Some r) × IsDone r (cond (t == u) xs []) m.seen
+  changed_row u f xs d = by (t == u)
+    where
+      by : (b : Bool) → (r : Member) × (cond b (option_map f (v.consumers.rows t)) (v.consumers.rows t) ≡ Some r) × IsDone r (cond b xs []) m.seen
+      by true = (f m, ap (option_map f) h, d)
+      by false = (m, h, refl)
+
+  pub row_after : (a : Act) → ((who : Who) (verdict : Verdict) → a ≡ Answers who verdict → is_same (Call t) who ≡ false) → RowAfter v a t m
+  row_after (Comes (Calls asked advice)) other =
+      same (Comes (Calls asked advice))
+      (ap (λ f. f t) (called_rows (lacks_tickets v.calls.drawn (shares asked)) (may_call v.calls) asked v.consumers)) refl
+  row_after (Comes (ToLink l Reads)) other =
+      mapped (Comes (ToLink l Reads)) (hears l (arrival_at (v.links.live l))) refl (arrival_done l (arrival_at (v.links.live l)) m)
+  row_after (Comes (ToLink l (Ends end))) other =
+      let c : Option Fault = closing end v.now (v.links.live l) in mapped (Comes (ToLink l (Ends end))) (loses_by l c) refl (loss_done l c m)
+  row_after (Comes (Polls u)) other =
+      let k = changed_row u (member_after (Polled v.now)) (Polled v.now ∷ []) refl in record { row = k.0; is_it = k.1; seen = k.2 }
+  row_after (Does w (Ask l request)) other =
+      let asked : Bool = is_asked (answer_at v.now request (v.links.live l)) in
+      mapped (Does w (Ask l request)) (hears_ask l v.now request (v.links.live l)) refl
+      (either_done (asked && consumer.is_closed_by (closed_consumer request) l m) (member_after (Over Closed) m) m (Over Closed ∷ []) [] m.seen refl refl)
+  row_after (Does w (TakeNumber wanted)) other =
+      same (Does w (TakeNumber wanted)) (ap (λ f. f t) (numbered_rows (ticket_of w) wanted v.consumers)) refl
+  row_after (Does w (FindConsumer u)) other =
+      let k = changed_row u (seeks w) [] (waits_done (consumer.sought (Some m)) w m) in
+      record { row = k.0; is_it = k.1; seen = k.2 ∙ ap (λ xs. applied xs m.seen) (same_either (t == u)) }
+    where
+      same_either : (b : Bool) → ◌≡◌ {A = List Done} (cond b [] []) []
+      same_either true = refl
+      same_either false = refl
+  row_after (Does w TakeFlow) other =
+      let k = changed_row (ticket_of w) (member_after Asks) (Asks ∷ []) refl in record { row = k.0; is_it = k.1; seen = k.2 }
+  row_after (Does w (Revive l)) other =
+      let url : Option Parts = url_at (v.links.live l) in
+      let k = changed_row (ticket_of w) (consumer.revived l url) (subscription_does l url) (subscription_done l url m) in
+      record { row = k.0; is_it = k.1; seen = k.2 }
+  row_after (Does w (FailConsumer f)) other =
+      let k = changed_row (ticket_of w) (consumer.failed f) (Fails f ∷ []) refl in record { row = k.0; is_it = k.1; seen = k.2 }
+  row_after (Does w StopAll) other = mapped (Does w StopAll) consumer.stopped refl refl
+  row_after (Answers who verdict) other =
+      same (Answers who verdict)
+      (ap (λ f. f t) (left_rows who (consumers_made v.links.live who verdict.makes v.consumers))
+      ∙ made_other v.links.live who verdict.makes v.consumers t (other who verdict refl)) refl
+  row_after a other = same a refl refl
+
+-- NO CONSUMER OF A CALL THAT HAS NOT ENDED
+
+pub begun_rows : (e : Heard) (v : View) (t : ℕ) → (begun e v).consumers.rows t ≡ v.consumers.rows t
+begun_rows e v t = elim (is_live v e) as (λ b. (cond b (begun_live e v) v).consumers.rows t ≡ v.consumers.rows t) [ true ↦ refl | false ↦ refl ]
+
+changed_none : (b : Bool) (f : Member → Member) (row : Option Member) → row ≡ None → cond b (option_map f row) row ≡ None
+changed_none true f row h = ap (option_map f) h
+changed_none false f row h = h
+
+-- an act by which no call of this ticket ends makes none
+pub none_after : (v : View) (t : ℕ) (a : Act) → ((who : Who) (verdict : Verdict) → a ≡ Answers who verdict → is_same (Call t) who ≡ false) →
+    v.consumers.rows t ≡ None → (consumers_after v a).rows t ≡ None
+none_after v t (Comes (Calls asked advice)) other h =
+    ap (λ f. f t) (called_rows (lacks_tickets v.calls.drawn (shares asked)) (may_call v.calls) asked v.consumers) ∙ h
+none_after v t (Comes (ToLink l Reads)) other h = ap (option_map (hears l (arrival_at (v.links.live l)))) h
+none_after v t (Comes (ToLink l (Ends end))) other h = ap (option_map (loses_by l (closing end v.now (v.links.live l)))) h
+none_after v t (Comes (Polls u)) other h = changed_none (t == u) (member_after (Polled v.now)) (v.consumers.rows t) h
+none_after v t (Does w (Ask l request)) other h = ap (option_map (hears_ask l v.now request (v.links.live l))) h
+none_after v t (Does w (TakeNumber wanted)) other h = ap (λ f. f t) (numbered_rows (ticket_of w) wanted v.consumers) ∙ h
+none_after v t (Does w (FindConsumer u)) other h = changed_none (t == u) (seeks w) (v.consumers.rows t) h
+none_after v t (Does w TakeFlow) other h = changed_none (t == ticket_of w) (member_after Asks) (v.consumers.rows t) h
+none_after v t (Does w (Revive l)) other h = changed_none (t == ticket_of w) (consumer.revived l (url_at (v.links.live l))) (v.consumers.rows t) h
+none_after v t (Does w (FailConsumer f)) other h = changed_none (t == ticket_of w) (consumer.failed f) (v.consumers.rows t) h
+none_after v t (Does w StopAll) other h = ap (option_map consumer.stopped) h
+none_after v t (Answers who verdict) other h =
+    ap (λ f. f t) (left_rows who (consumers_made v.links.live who verdict.makes v.consumers))
+    ∙ made_other v.links.live who verdict.makes v.consumers t (other who verdict refl)
+    ∙ h
+none_after v t a other h = h
+
+none_left : (n m : ℕ) → n + m ≡ 0 → n ≡ 0
+none_left n m h = omega (arith, h)
+
+no_end : (t : ℕ) (who : Who) (n : ℕ) → n + cond (is_same (Call t) who) 1 0 ≡ 0 → is_same (Call t) who ≡ false
+no_end t who n h = elim (cases_Bool (is_same (Call t) who)) [
+  | inl e ↦ (let k : n + 1 ≡ 0 = subst (λ b. n + cond b 1 0 ≡ 0) e h in absurd (omega (arith, k)))
+  | inr e ↦ e
+]
+
+unmade : (o : Options) (t : ℕ) (log : List Entry) → counted (end_of t) log ≡ 0 → (view o log).consumers.rows t ≡ None
+unmade o t [] h = refl
+unmade o t (Begins e ∷ log) h = begun_rows e (view o log) t ∙ unmade o t log h
+unmade o t (Then (Answers who verdict) ∷ log) h =
+    none_after (view o log) t (Answers who verdict) is_other (unmade o t log (none_left (counted (end_of t) log) (cond (is_same (Call t) who) 1 0) h))
+  where
+    is_other : (w : Who) (x : Verdict) → Answers who verdict ≡ Answers w x → is_same (Call t) w ≡ false
+    is_other w x e = let s : who ≡ w = cc in subst (λ y. is_same (Call t) y ≡ false) s (no_end t who (counted (end_of t) log) h)
+unmade o t (Then a ∷ log) h =
+    none_after (view o log) t a (λ w x e. absurd cc) (unmade o t log (none_left (counted (end_of t) log) 0 h))
+
+-- so where a call ends it has none: it ends once
+pub none_before : EndsOnce → (o : Options) (t : ℕ) (log : List Entry) (who : Who) (verdict : Verdict) → is_spent t ≡ false →
+    IsRun o (Then (Answers who verdict) ∷ log) → is_same (Call t) who ≡ true → (view o log).consumers.rows t ≡ None
+none_before once o t log who verdict unspent run e =
+    let k : counted (end_of t) log + cond (is_same (Call t) who) 1 0 ≤ 1 = (once o (Then (Answers who verdict) ∷ log) t run).1 unspent in
+    let j : counted (end_of t) log + 1 ≤ 1 = subst (λ b. counted (end_of t) log + cond b 1 0 ≤ 1) e k in
+    unmade o t log (omega (arith, j))
+
+-- ALONG A LOG
+
+-- how the row of a ticket comes of the one before: it was made, or is what an act made of it, or there is none
+pub data RowFrom (o : Options) (log : List Entry) (a : Act) (t : ℕ) : Type 0 where
+  IsNone : (view o log).consumers.rows t ≡ None → (view o (Then a ∷ log)).consumers.rows t ≡ None → RowFrom o log a t
+  IsMade : (s : Setup) (l : ℕ) → (view o log).consumers.rows t ≡ None →
+      (view o (Then a ∷ log)).consumers.rows t ≡ Some (member_on (view o log).links.live l s) → made_with t (Then a ∷ log) ≡ Some s →
+      done_to o t (Then a ∷ log) ≡ subscription_does l (url_at ((view o log).links.live l)) → RowFrom o log a t
+  IsKept : (m : Member) → (view o log).consumers.rows t ≡ Some m → RowAfter (view o log) a t m → made_with t (Then a ∷ log) ≡ made_with t log →
+      done_to o t (Then a ∷ log) ≡ does_to (view o log) t m a ++ done_to o t log → RowFrom o log a t
+
+joins_here : (who : Who) (m : Member) (cs : Consumers) (t : ℕ) → is_same (Call t) who ≡ true → (joins_as who m cs).rows t ≡ Some m
+joins_here (Call u) m cs t h = let e : (t == u) ≡ true = (and_parts (t == u) (t == u) h).0 in rw e refl
+joins_here (Consumer n u) m cs t h = absurd cc
+joins_here (Producer n) m cs t h = absurd cc
+
+module _ (o : Options) (log : List Entry) (t : ℕ) where
+  abbrev v : View
+  v = view o log
+
+  -- what a verdict makes
+  made_row : (who : Who) (verdict : Verdict) (m : Makes) → verdict.makes ≡ m → v.consumers.rows t ≡ None → is_same (Call t) who ≡ true →
+      RowFrom o log (Answers who verdict) t
+  made_row who verdict m f none e = made_by m f
+    where
+      rows_are : (m : Makes) → verdict.makes ≡ m →
+          (view o (Then (Answers who verdict) ∷ log)).consumers.rows t ≡ (consumers_made v.links.live who m v.consumers).rows t
+      rows_are m f =
+          ap (λ g. g t) (left_rows who (consumers_made v.links.live who verdict.makes v.consumers))
+          ∙ ap (λ x. (consumers_made v.links.live who x v.consumers).rows t) f
+
+      did : (m : Makes) → verdict.makes ≡ m → done_to o t (Then (Answers who verdict) ∷ log) ≡ making_does v.links.live m
+      did m f =
+          ap (λ r. done_since v t (Answers who verdict) r (done_to o t log)) none
+          ∙ ap (λ b. cond b (making_does v.links.live verdict.makes) (done_to o t log)) e
+          ∙ ap (making_does v.links.live) f
+
+      how : (m : Makes) → verdict.makes ≡ m → made_with t (Then (Answers who verdict) ∷ log) ≡ made_as m
+      how m f = ap (λ b. cond b (made_as verdict.makes) (made_with t log)) e ∙ ap made_as f
+
+      made_by : (m : Makes) → verdict.makes ≡ m → RowFrom o log (Answers who verdict) t
+      made_by (makes.Consumer j) f =
+          IsMade (setup_of j) j.link none
+          (rows_are (makes.Consumer j) f ∙ joins_here who (member_on v.links.live j.link (setup_of j)) v.consumers t e)
+          (how (makes.Consumer j) f) (did (makes.Consumer j) f)
+      made_by (makes.RawConsumer l made) f =
+          IsMade (of_raw made) l none
+          (rows_are (makes.RawConsumer l made) f ∙ joins_here who (member_on v.links.live l (of_raw made)) v.consumers t e)
+          (how (makes.RawConsumer l made) f) (did (makes.RawConsumer l made) f)
+      made_by makes.Nothing f = IsNone none (rows_are makes.Nothing f ∙ none)
+      made_by makes.Client f = IsNone none (rows_are makes.Client f ∙ none)
+      made_by (makes.Producer b) f = IsNone none (rows_are (makes.Producer b) f ∙ none)
+
+  -- an act that is no verdict of its call
+  abbrev IsOther : Act → Type 0
+  IsOther a = (who : Who) (verdict : Verdict) → a ≡ Answers who verdict → is_same (Call t) who ≡ false
+
+  with_other : (a : Act) → IsOther a → made_with t (Then a ∷ log) ≡ made_with t log
+  with_other (Answers who verdict) other = ap (λ b. cond b (made_as verdict.makes) (made_with t log)) (other who verdict refl)
+  with_other a other = refl
+
+  other_row : (a : Act) → IsOther a → (row : Option Member) → v.consumers.rows t ≡ row → RowFrom o log a t
+  other_row a other None e = IsNone e (none_after v t a other e)
+  other_row a other (Some m) e =
+      IsKept m e (row_after v t m e a other) (with_other a other) (ap (λ r. done_since v t a r (done_to o t log)) e ∙ some_since a)
+    where
+      some_since : (a : Act) → done_since v t a (Some m) (done_to o t log) ≡ does_to v t m a ++ done_to o t log
+      some_since (Answers who verdict) = refl
+      some_since a = refl
+
+  pub row_from : EndsOnce → (a : Act) → is_spent t ≡ false → IsRun o (Then a ∷ log) → RowFrom o log a t
+  row_from once (Answers who verdict) un run = elim (cases_Bool (is_same (Call t) who)) [
+    | inl e ↦ made_row who verdict verdict.makes refl (none_before once o t log who verdict un run e) e
+    | inr e ↦
+        other_row (Answers who verdict) (λ w x f. let s : who ≡ w = cc in subst (λ y. is_same (Call t) y ≡ false) s e) (v.consumers.rows t) refl
+  ]
+  row_from once a un run = other_row a (λ w x f. absurd cc) (v.consumers.rows t) refl
+
+-- A CONSUMER IS WHAT WAS DONE TO IT
+
+abbrev pub StandsSo : Options → List Entry → (ticket : ℕ) → Member → Type 0
+StandsSo o log t m = (s : Setup) × (made_with t log ≡ Some s) × (m.seen ≡ seen s (done_to o t log))
+
+kept_so : (o : Options) (log : List Entry) (a : Act) (t : ℕ) (n : Member) → RowFrom o log a t → (view o (Then a ∷ log)).consumers.rows t ≡ Some n →
+    ((u : Member) → (view o log).consumers.rows t ≡ Some u → StandsSo o log t u) → StandsSo o (Then a ∷ log) t n
+kept_so o log a t n (IsNone e f) h more = absurd (none_some (sym f ∙ h))
+kept_so o log a t n (IsMade s l e f how did) h more =
+    let url : Option Parts = url_at ((view o log).links.live l) in
+    let same : member_on (view o log).links.live l s ≡ n = (let g : Some (member_on (view o log).links.live l s) ≡ Some n = sym f ∙ h in cc) in (
+      s,
+      how,
+      sym (ap (λ x. x.seen) same)
+          ∙ subscription_done l url (record { seen = fresh s; seekers = [] })
+          ∙ sym (seen_first s (subscription_does l url))
+          ∙ ap (seen s) (sym did),
+    )
+  where
+    seen_first : (s : Setup) (xs : List Done) → seen s xs ≡ applied xs (fresh s)
+    seen_first s [] = refl
+    seen_first s (x ∷ xs) = ap (after x) (seen_first s xs)
+kept_so o log a t n (IsKept u e r how did) h more =
+    let k = more u e in
+    let same : r.row ≡ n = (let g : Some r.row ≡ Some n = sym r.is_it ∙ h in cc) in (
+      k.0,
+      how ∙ k.1,
+      sym (ap (λ x. x.seen) same)
+          ∙ r.seen
+          ∙ ap (applied (does_to (view o log) t u a)) k.2
+          ∙ sym (seen_more k.0 (does_to (view o log) t u a) (done_to o t log))
+          ∙ ap (seen k.0) (sym did),
+    )
+
+stands : EndsOnce → (o : Options) (log : List Entry) (t : ℕ) (m : Member) → is_spent t ≡ false → IsRun o log → (view o log).consumers.rows t ≡ Some m →
+    StandsSo o log t m
+stands once o [] t m un run h = absurd (none_some h)
+stands once o (Begins e ∷ log) t m un run h = stands once o log t m un run.0 (sym (begun_rows e (view o log) t) ∙ h)
+stands once o (Then a ∷ log) t m un run h =
+    kept_so o log a t m (row_from o log t once a un run) h (λ u e. stands once o log t u un run.0 e)
+
+pub consumers_alone_lem : EndsOnce → ConsumersAlone
+consumers_alone_lem once o log t m run h = stands once o log t m (consumer_ticket o log t m run h) run h

@@ -1,0 +1,378 @@
+-- At the end of each step no fewer flows were asked for than were taken: one that is taken is asked for next.
+use Rattle.std.proofs.Common.{◌≡◌, ◌⊎◌, inl, inr, ◌∙◌, sym, ap, subst, ℕ, ◌+◌, ◌≤◌, ◌==◌, List, [], ◌∷◌, ◌++◌, refl, arith, Bool, true, false, ◌&&◌, cond, eq-eqb, Option, Some, None, unwrap_or}
+use Rattle.std.proofs.lemmas.List.Sums.{sum_by-cons}
+use Rattle.std.specs.Option.{is_some, option_map}
+use Rattle.pulsar_messages.specs.Words as words
+use Rattle.pulsar_consumer.specs.Laws.{asked_since}
+use Rattle.pulsar_consumer.specs.Topic.{Act as Done, Lives, Hears, Loses, Fails, Ends as Over, Polls as Polled, Asks, Seen, Live, Setup, first_due, first_in, is_ended, link_of, lives_on, seen}
+use Rattle.pulsar_calls.specs.declared.act.Arrival.TheVariants as arrivals
+use Rattle.pulsar_calls.specs.declared.act.Outcome.TheVariants as outcome
+use Rattle.pulsar_calls.specs.declared.act.Word.TheVariants as word
+use Rattle.pulsar_consumer_table.specs.Consumers.{Member, flow_at, flow_on, is_closed_by}
+use Rattle.pulsar_laws.proofs.Cases.{none_some, some_is}
+use Rattle.pulsar_laws.proofs.calls.Ticketed.{consumer_ticket}
+use Rattle.pulsar_laws.specs.ConsumerLaws.{Flow, FlowsAreCounted, arrival_does, does_to, done_to, flows_after, flows_since, frame_does, loss_does, made_with, permits_of, subscription_does}
+use Rattle.pulsar_laws.proofs.producers.Drawing.{Every, here}
+use Rattle.pulsar_laws.proofs.consumers.Flows.{flows_are_asked_lem}
+use Rattle.pulsar_laws.proofs.consumers.Lone.{applied, IsKept, IsMade, IsNone, RowFrom, begun_rows, consumers_alone_lem, row_from}
+use Rattle.pulsar_laws.proofs.consumers.Placed.{IsPlaced, is_placed}
+use Rattle.pulsar_laws.proofs.plans.Served.{flow_takers}
+use Rattle.pulsar_laws.proofs.consumers.Riding.{LinkFrom, link_from}
+use Rattle.url.specs.Parts.{Parts}
+use Rattle.pulsar_consumer.specs.Topic as reader
+use Rattle.std.proofs.lemmas.Bool.{and_parts, cases_Bool, eqb-true}
+use Rattle.pulsar_laws.proofs.ActWords.{Act, Arrival, Ask, Comes, Consumer, Does, Ends, FailConsumer, Notice, Polls, Reads, Revive, StopAll, TakeFlow, ticket_of, Told, ToLink, Who}
+use Rattle.pulsar_laws.proofs.RunWords.{agenda, Begins, EndsOnce, Entry, first, IsRun, notice, Options, Then, view, View}
+use Rattle.pulsar_laws.proofs.LinkWords.{answer_at, arrival_at, closed_consumer, closing, Fault, is_asked, is_body, place_of, Reply, Seat, url_at}
+use Rattle.pulsar_incoming.specs.declared.polled.Ending.{Ending}
+use Rattle.pulsar_incoming.specs.declared.polled.Ending.TheVariants.{Closed, TopicEnded}
+use Rattle.pulsar_consumer.proofs.Histories.{end_is_final}
+use Rattle.pulsar_laws.proofs.consumers.Covered.{Covered, covered_run, taken_then, told_so}
+
+abbrev takes_in : List Done → Bool
+takes_in [] = false
+takes_in (Lives l url ∷ xs) = true
+takes_in (Asks ∷ xs) = true
+takes_in (x ∷ xs) = takes_in xs
+
+taken_same : (s : Setup) (xs h : List Done) → takes_in xs ≡ false → asked_since s (xs ++ h) ≡ asked_since s h
+taken_same s [] h e = refl
+taken_same s (Lives l url ∷ xs) h e = absurd cc
+taken_same s (Asks ∷ xs) h e = absurd cc
+taken_same s (Hears l f ∷ xs) h e = taken_same s xs h e
+taken_same s (Loses l ∷ xs) h e = taken_same s xs h e
+taken_same s (Fails f ∷ xs) h e = taken_same s xs h e
+taken_same s (Over why ∷ xs) h e = taken_same s xs h e
+taken_same s (Polled clock ∷ xs) h e = taken_same s xs h e
+
+either_takes : (b : Bool) (xs ys : List Done) → takes_in xs ≡ false → takes_in ys ≡ false → takes_in (cond b xs ys) ≡ false
+either_takes true xs ys p q = p
+either_takes false xs ys p q = q
+
+frame_takes : (l : ℕ) (r : Reply) (s : Seen) → takes_in (frame_does l r s) ≡ false
+frame_takes l r s =
+    either_takes (is_body 9 r.content.body) _ _ refl
+    (either_takes (is_body 27 r.content.body) (cond (lives_on l s) (Over TopicEnded ∷ []) []) _ (either_takes (lives_on l s) _ _ refl refl)
+    (either_takes (is_body 16 r.content.body) _ _ refl refl))
+
+arrival_takes : (l : ℕ) (a : Arrival) (s : Seen) → takes_in (arrival_does l a s) ≡ false
+arrival_takes l (arrivals.Gives n r) s = either_takes (s.number == n) (frame_does l r s) [] (frame_takes l r s) refl
+arrival_takes l _ s = refl
+
+loss_takes : (l : ℕ) (cause : Option Fault) → takes_in (loss_does l cause) ≡ false
+loss_takes l None = refl
+loss_takes l (Some cause) = refl
+
+-- it was taken last, or it is told of it last
+abbrev Pending : Options → List Entry → (ticket : ℕ) → Type 0
+Pending o log t =
+    (n l p : ℕ) × (older : List Entry) × (flow_at ((view o older).consumers.rows t) ≡ Some (l, p))
+    × ((log ≡ Then (Does (Consumer n t) TakeFlow) ∷ older)
+    ⊎ (log ≡ Then (Told (notice (Consumer n t) (outcome.Word (word.Flow l p)))) ∷ Then (Does (Consumer n t) TakeFlow) ∷ older))
+
+-- what comes next then
+abbrev Follows : Options → List Entry → (ticket : ℕ) → Act → Type 0
+Follows o log t a =
+    ((n l p : ℕ) × (older : List Entry) × (flow_at ((view o older).consumers.rows t) ≡ Some (l, p)) × (log ≡ Then (Does (Consumer n t) TakeFlow) ∷ older)
+    × (a ≡ Told (notice (Consumer n t) (outcome.Word (word.Flow l p)))))
+    ⊎ ((n l p : ℕ) × (a ≡ Does (Consumer n t) (Ask l (words.SendFlow n p))))
+
+follows_next : (o : Options) (log : List Entry) (t : ℕ) → IsRun o log → (a : Option Act) → first (agenda o log) ≡ a → Pending o log t →
+    (b : Act) × (a ≡ Some b) × Follows o log t b
+follows_next o log t run a fits (n, l, p, older, flow, inl is) =
+    let r : IsRun o (Then (Does (Consumer n t) TakeFlow) ∷ older) = subst (IsRun o) is run in
+    let x = (flows_are_asked_lem o older n t l p r flow).0 in
+    (Told (notice (Consumer n t) (outcome.Word (word.Flow l p))), sym fits ∙ ap (λ y. first (agenda o y)) is ∙ x, inl (n, l, p, older, flow, is, refl))
+follows_next o log t run a fits (n, l, p, older, flow, inr is) =
+    let r : IsRun o (Then (Told (notice (Consumer n t) (outcome.Word (word.Flow l p)))) ∷ Then (Does (Consumer n t) TakeFlow) ∷ older) = subst (IsRun o) is run
+    in
+    let x = (flows_are_asked_lem o older n t l p r.0 flow).1 in
+    (Does (Consumer n t) (Ask l (words.SendFlow n p)), sym fits ∙ ap (λ y. first (agenda o y)) is ∙ x, inr (n, l, p, refl))
+
+pending_next : (o : Options) (log : List Entry) (t : ℕ) (a : Act) → IsRun o (Then a ∷ log) → Pending o log t → Follows o log t a
+pending_next o log t a run k =
+    let x = follows_next o log t run.0 (Some a) run.1 k in subst (Follows o log t) (sym (some_is x.1)) x.2
+
+abbrev Settled : Options → (ticket : ℕ) → List Entry → Type 0
+Settled o t log = (m : Member) (l : ℕ) (s : Setup) → (view o log).consumers.rows t ≡ Some m → link_of m.seen ≡ Some l → made_with t log ≡ Some s →
+    (asked_since s (done_to o t log) ≤ permits_of (flows_since o t log)) ⊎ Pending o log t
+
+module _ (once : EndsOnce) (o : Options) (log : List Entry) (n t l m p : ℕ) (run : IsRun o (Then (Does (Consumer n t) (Ask l (words.SendFlow m p))) ∷ log))
+  where
+    abbrev x : IsPlaced o log n t l m p
+    x = is_placed once o log n t l m p run
+
+    -- a flow that is asked for is the one that was taken
+    asked_settled : Every (Settled o t) log → (s : Setup) → made_with t log ≡ Some s → asked_since s (done_to o t log) ≤ permits_of (flows_since o t log) + p
+    asked_settled k s made =
+        let r : IsRun o (Then (Told (told_so once o log n t l m p run.0 x)) ∷ Then (Does (Consumer n t) TakeFlow) ∷ x.older) = subst (IsRun o) x.is_behind run.0
+        in
+        let e : Every (Settled o t) (Then (Told (told_so once o log n t l m p run.0 x)) ∷ Then (Does (Consumer n t) TakeFlow) ∷ x.older) = subst
+        (Every (Settled o t)) x.is_behind k in
+        let link : link_of x.was_due.member.seen ≡ Some l = ap (option_map (λ (y : Live). y.link)) x.was_due.is_live ∙ ap Some x.was_due.on in
+        let flows : permits_of (flows_since o t log) ≡ permits_of (flows_since o t x.older) = ap (λ y. permits_of (flows_since o t y)) x.is_behind in
+        let taken = taken_then once o log n t l m p run.0 x s made in
+        elim (here (Settled o t) x.older e.1.1 x.was_due.member l s x.was_due.is_there link (sym (ap (made_with t) x.is_behind) ∙ made)) [
+          | inl old ↦ omega (arith, old, flows, taken)
+          | inr pending ↦ absurd (no_flow (pending_next o x.older t (Does (Consumer n t) TakeFlow) r.0 pending))
+        ]
+      where
+        no_flow : Follows o x.older t (Does (Consumer n t) TakeFlow) → ⊥
+        no_flow (inl k) = let e = k.6 in cc
+        no_flow (inr k) = let e = k.3 in cc
+
+-- an act that is neither of these comes only where none is to be asked for
+abbrev is_step : Act → Bool
+is_step (Told n) = true
+is_step (Does who TakeFlow) = false
+is_step (Does (Consumer n t) (Ask l (words.SendFlow m p))) = true
+is_step _ = false
+
+not_step : (o : Options) (log : List Entry) (t : ℕ) (a : Act) → is_step a ≡ false → Follows o log t a → ⊥
+not_step o log t a h (inl k) = let e : is_step a ≡ true = ap is_step k.6 in let f : true ≡ false = sym e ∙ h in cc
+not_step o log t a h (inr k) = let e : is_step a ≡ true = ap is_step k.3 in let f : true ≡ false = sym e ∙ h in cc
+
+flow_none : (m : Member) → flow_at (Some m) ≡ None → first_due m.seen.engine.live ≡ None
+flow_none m h = by m.seen.engine.live h
+  where
+    by : (x : Option Live) → flow_on x ≡ None → first_due x ≡ None
+    by None e = refl
+    by (Some l) e = by_due (first_in l.due) e
+      where
+        by_due : (d : Option ℕ) → option_map {U = ℕ × ℕ} (λ permits. (l.link, permits)) d ≡ None → d ≡ None
+        by_due None f = refl
+        by_due (Some p) f = absurd (none_some (sym f))
+
+made_zero : (s : Setup) (l : ℕ) (row : Option Seat) → asked_since s (subscription_does l (url_at row)) ≡ 0
+made_zero s l None = refl
+made_zero s l (Some seat) = refl
+
+-- who asks, and what is revived
+abbrev asker : Act → Option ℕ
+asker (Does (Consumer n t) action) = Some t
+asker _ = None
+
+abbrev revived_on : Act → Option ℕ
+revived_on (Does who (Revive l)) = Some l
+revived_on _ = None
+
+module _ (once : EndsOnce) (o : Options) (log : List Entry) (t : ℕ) (k : Every (Settled o t) log) where
+  abbrev v : View
+  v = view o log
+
+  abbrev fs : List Flow
+  fs = flows_since o t log
+
+  abbrev Goal : Act → Setup → Member → Type 0
+  Goal a s m = (asked_since s (does_to v t m a ++ done_to o t log) ≤ permits_of (flows_after v t a fs)) ⊎ Pending o (Then a ∷ log) t
+
+  -- none is taken by it, and none asked for
+  quiet_settled : (a : Act) (l : ℕ) (s : Setup) (m : Member) → LinkFrom o log a t l → v.consumers.rows t ≡ Some m → made_with t log ≡ Some s →
+      ((who : Who) (j : ℕ) → a ≡ Does who (Revive j) → (t == ticket_of who && is_some (v.links.live j)) ≡ true → ⊥) →
+      takes_in (does_to v t m a) ≡ false → flows_after v t a fs ≡ fs → (Pending o log t → Pending o (Then a ∷ log) t) → Goal a s m
+  quiet_settled a l s m (inl (was, e, on)) is made old none same next = elim (here (Settled o t) log k was l s e on made) [
+    | inl le ↦
+        (let x = taken_same s (does_to v t m a) (done_to o t log) none in
+        let y : permits_of (flows_after v t a fs) ≡ permits_of fs = ap permits_of same in
+        inl (omega (arith, le, x, y)))
+    | inr pending ↦ inr (next pending)
+  ]
+  quiet_settled a l s m (inr (inl e)) is made old none same next = absurd (none_some (sym e ∙ is))
+  quiet_settled a l s m (inr (inr (who, j, e, f))) is made old none same next = absurd (old who j e f)
+
+  never : (a : Act) → IsRun o (Then a ∷ log) → is_step a ≡ false → Pending o log t → Pending o (Then a ∷ log) t
+  never a run h pending = absurd (not_step o log t a h (pending_next o log t a run pending))
+
+  -- one is taken
+  took_settled : (w : Who) (l : ℕ) (s : Setup) (m : Member) → IsRun o (Then (Does w TakeFlow) ∷ log) → LinkFrom o log (Does w TakeFlow) t l →
+      v.consumers.rows t ≡ Some m → made_with t log ≡ Some s → (t == ticket_of w) ≡ true → Goal (Does w TakeFlow) s m
+  took_settled w l s m run from is made d =
+      let x = flow_takers o log w run in
+      by x.0 x.1 x.2 (eqb-true t x.1 (ap (λ y. t == ticket_of y) (sym x.2) ∙ d)) (flow_at (v.consumers.rows t)) refl
+    where
+      idle : flow_at (v.consumers.rows t) ≡ None → asked_since s (done_to o t log) ≤ permits_of fs →
+          asked_since s (does_to v t m (Does w TakeFlow) ++ done_to o t log) ≤ permits_of fs
+      idle none le =
+          let c = consumers_alone_lem once o log t m run.0 is in
+          let same : c.0 ≡ s = some_is (sym c.1 ∙ made) in
+          let due : first_due (seen s (done_to o t log)).engine.live ≡ None =
+          ap (λ y. first_due (seen y (done_to o t log)).engine.live) (sym same) ∙ ap (λ y. first_due y.engine.live) (sym c.2)
+          ∙ flow_none m (ap flow_at (sym is) ∙ none) in
+          let a : asked_since s (does_to v t m (Does w TakeFlow) ++ done_to o t log) ≡ asked_since s (done_to o t log) + 0 =
+          ap (λ b. asked_since s (cond b (Asks ∷ []) [] ++ done_to o t log)) d ∙ ap (λ y. asked_since s (done_to o t log) + unwrap_or y 0) due in
+          omega (arith, le, a)
+
+      by : (n u : ℕ) → w ≡ Consumer n u → t ≡ u → (row : Option (ℕ × ℕ)) → flow_at (v.consumers.rows t) ≡ row → Goal (Does w TakeFlow) s m
+      by n u e f None none = at from
+        where
+          at : LinkFrom o log (Does w TakeFlow) t l → Goal (Does w TakeFlow) s m
+          at (inl (was, g, on)) = elim (here (Settled o t) log k was l s g on made) [
+            | inl le ↦ inl (idle none le)
+            | inr pending ↦ absurd (not_step o log t (Does w TakeFlow) refl (pending_next o log t (Does w TakeFlow) run pending))
+          ]
+          at (inr (inl g)) = absurd (none_some (sym g ∙ is))
+          at (inr (inr (who, j, g, h))) = absurd cc
+      by n u e f (Some flow) due =
+          inr (n, flow.0, flow.1, log, due, inl (ap (λ y. Then (Does y TakeFlow) ∷ log) (e ∙ ap (Consumer n) (sym f))))
+
+  -- it is told of the one that it took
+  told_next : (x : Notice) → IsRun o (Then (Told x) ∷ log) → Pending o log t → Pending o (Then (Told x) ∷ log) t
+  told_next x run pending = by (pending_next o log t (Told x) run pending)
+    where
+      by : Follows o log t (Told x) → Pending o (Then (Told x) ∷ log) t
+      by (inl (n, l, p, older, flow, is, e)) = (n, l, p, older, flow, inr (λ i. Then (e i) ∷ is i))
+      by (inr (n, l, p, e)) = absurd cc
+
+  -- another asks
+  other_next : (n u j m p : ℕ) → IsRun o (Then (Does (Consumer n u) (Ask j (words.SendFlow m p))) ∷ log) → (t == u) ≡ false → Pending o log t →
+      Pending o (Then (Does (Consumer n u) (Ask j (words.SendFlow m p))) ∷ log) t
+  other_next n u j m p run d pending = absurd (by (pending_next o log t (Does (Consumer n u) (Ask j (words.SendFlow m p))) run pending))
+    where
+      by : Follows o log t (Does (Consumer n u) (Ask j (words.SendFlow m p))) → ⊥
+      by (inl x) = let e = x.6 in cc
+      by (inr x) =
+          let e : u ≡ t = some_is (ap asker x.3) in
+          let f : true ≡ false = sym (eq-eqb t u (sym e)) ∙ d in cc
+
+  -- it is subscribed again
+  revived_settled : (who : Who) (j l : ℕ) (s : Setup) (m n : Member) → IsRun o (Then (Does who (Revive j)) ∷ log) → v.consumers.rows t ≡ Some m →
+      made_with t log ≡ Some s → n.seen ≡ applied (does_to v t m (Does who (Revive j))) m.seen → link_of n.seen ≡ Some l → (row : Option Seat) →
+      v.links.live j ≡ row → (t == ticket_of who) ≡ true → is_some row ≡ true →
+      asked_since s (does_to v t m (Does who (Revive j)) ++ done_to o t log) ≡ 0
+  revived_settled who j l s m n run is made seen_so on None e d alive = absurd cc
+  revived_settled who j l s m n run is made seen_so on (Some seat) e d alive = by (is_ended m.seen) refl
+    where
+      url : Parts
+      url = seat.address.url
+
+      does : does_to v t m (Does who (Revive j)) ≡ Lives j url ∷ []
+      does = (λ i. cond (d i) (subscription_does j (url_at (e i))) [])
+
+      by : (b : Bool) → is_ended m.seen ≡ b → asked_since s (does_to v t m (Does who (Revive j)) ++ done_to o t log) ≡ 0
+      by true ended =
+          let c = consumers_alone_lem once o log t m run.0 is in
+          let same : n.seen ≡ m.seen =
+          seen_so ∙ ap (λ xs. applied xs m.seen) does
+          ∙ ap (λ b. cond b m.seen (record m.seen { engine = record m.seen.engine { live = Some (reader.subscribed m.seen.engine.batch j url) } })) ended in
+          absurd (gone m.seen.ended refl c.0 c.2 (ap link_of (sym same) ∙ on) ended)
+        where
+          gone : (w : Option Ending) → m.seen.ended ≡ w → (s : Setup) → m.seen ≡ seen s (done_to o t log) → link_of m.seen ≡ Some l → is_ended m.seen ≡ true → ⊥
+          gone None f s q on ended = let g : false ≡ true = sym (ap is_some f) ∙ ended in cc
+          gone (Some why) f s q on ended =
+              none_some (sym (end_is_final s [] (done_to o t log) why (ap (λ (y : Seen). y.ended) (sym q) ∙ f)).1 ∙ ap link_of (sym q) ∙ on)
+      by false ended =
+          let c = consumers_alone_lem once o log t m run.0 is in
+          let same : c.0 ≡ s = some_is (sym c.1 ∙ made) in
+          let e : is_ended (seen s (done_to o t log)) ≡ false = ap (λ y. is_ended (seen y (done_to o t log))) (sym same) ∙ ap is_ended (sym c.2) ∙ ended in
+          ap (λ xs. asked_since s (xs ++ done_to o t log)) does ∙ ap (λ b. cond b (asked_since s (done_to o t log)) 0) e
+
+  revives_takes : (j : ℕ) (b : Bool) (row : Option Seat) → (b && is_some row) ≡ false → takes_in (cond b (subscription_does j (url_at row)) []) ≡ false
+  revives_takes j true None h = refl
+  revives_takes j true (Some seat) h = absurd cc
+  revives_takes j false row h = refl
+
+  kept_settled : (a : Act) (l : ℕ) (s : Setup) (m n : Member) → IsRun o (Then a ∷ log) → LinkFrom o log a t l → v.consumers.rows t ≡ Some m →
+      made_with t log ≡ Some s → n.seen ≡ applied (does_to v t m a) m.seen → link_of n.seen ≡ Some l → Goal a s m
+  kept_settled (Comes (ToLink j Reads)) l s m n run from is made seen_so on =
+      quiet_settled (Comes (ToLink j Reads)) l s m from is made (λ w i e f. absurd cc) (arrival_takes j (arrival_at (v.links.live j)) m.seen) refl
+      (never (Comes (ToLink j Reads)) run refl)
+  kept_settled (Comes (ToLink j (Ends end))) l s m n run from is made seen_so on =
+      quiet_settled (Comes (ToLink j (Ends end))) l s m from is made (λ w i e f. absurd cc) (loss_takes j (closing end v.now (v.links.live j))) refl
+      (never (Comes (ToLink j (Ends end))) run refl)
+  kept_settled (Comes (Polls u)) l s m n run from is made seen_so on =
+      quiet_settled (Comes (Polls u)) l s m from is made (λ w i e f. absurd cc) (either_takes (t == u) (Polled v.now ∷ []) [] refl refl) refl
+      (never (Comes (Polls u)) run refl)
+  kept_settled (Told x) l s m n run from is made seen_so on =
+      quiet_settled (Told x) l s m from is made (λ w i e f. absurd cc) refl refl (told_next x run)
+  kept_settled (Does (Consumer c u) (Ask j (words.SendFlow m' p))) l s m n run from is made seen_so on = elim (cases_Bool (t == u)) [
+    | inl d ↦
+        (let a : Act = Does (Consumer c u) (Ask j (words.SendFlow m' p)) in
+        let run2 : IsRun o (Then (Does (Consumer c t) (Ask j (words.SendFlow m' p))) ∷ log) =
+        subst (λ y. IsRun o (Then (Does (Consumer c y) (Ask j (words.SendFlow m' p))) ∷ log)) (sym (eqb-true t u d)) run in
+        let old = asked_settled once o log c t j m' p run2 k s made in
+        let x = taken_same s (does_to v t m a) (done_to o t log) (ask_takes m c u j m' p) in
+        let new : Flow = record { place = place_of (answer_at v.now (words.SendFlow m' p) (v.links.live j)); permits = p } in
+        let f : permits_of (new ∷ fs) ≡ p + permits_of fs = sum_by-cons (λ (y : Flow). y.permits) new fs in
+        let g : permits_of (flows_after v t a fs) ≡ permits_of (new ∷ fs) = ap (λ b. permits_of (cond b (new ∷ fs) fs)) d in
+        inl (omega (arith, old, x, f, g)))
+    | inr d ↦
+        quiet_settled (Does (Consumer c u) (Ask j (words.SendFlow m' p))) l s m from is made (λ w i e f. absurd cc) (ask_takes m c u j m' p)
+        (ap (λ b. cond b (record { place = place_of (answer_at v.now (words.SendFlow m' p) (v.links.live j)); permits = p } ∷ fs) fs) d)
+        (other_next c u j m' p run d)
+  ]
+    where
+      ask_takes : (m : Member) (c u j m' p : ℕ) → takes_in (does_to v t m (Does (Consumer c u) (Ask j (words.SendFlow m' p)))) ≡ false
+      ask_takes m c u j m' p =
+          either_takes (is_asked (answer_at v.now (words.SendFlow m' p) (v.links.live j)) && is_closed_by (closed_consumer (words.SendFlow m' p)) j m)
+          (Over Closed ∷ []) [] refl refl
+  kept_settled (Does who (Ask j request)) l s m n run from is made seen_so on =
+      quiet_settled (Does who (Ask j request)) l s m from is made (λ w i e f. absurd cc)
+      (either_takes (is_asked (answer_at v.now request (v.links.live j)) && is_closed_by (closed_consumer request) j m) (Over Closed ∷ []) [] refl refl) refl
+      (never (Does who (Ask j request)) run refl)
+  kept_settled (Does who TakeFlow) l s m n run from is made seen_so on = elim (cases_Bool (t == ticket_of who)) [
+    | inl d ↦ took_settled who l s m run from is made d
+    | inr d ↦
+        quiet_settled (Does who TakeFlow) l s m from is made (λ w i e f. absurd cc) (ap (λ b. takes_in (cond b (Asks ∷ []) [])) d) refl
+        (never (Does who TakeFlow) run refl)
+  ]
+  kept_settled (Does who (Revive j)) l s m n run from is made seen_so on = elim (cases_Bool (t == ticket_of who && is_some (v.links.live j))) [
+    | inl d ↦
+        (let two = and_parts (t == ticket_of who) (is_some (v.links.live j)) d in
+        let z = revived_settled who j l s m n run is made seen_so on (v.links.live j) refl two.0 two.1 in
+        inl (omega (arith, z)))
+    | inr d ↦
+        quiet_settled (Does who (Revive j)) l s m from is made
+        (λ w i e f.
+        (let x : who ≡ w = revivers e in
+        let y : j ≡ i = some_is (ap revived_on e) in
+        let g : true ≡ false = sym f ∙ sym (λ q. t == ticket_of (x q) && is_some (v.links.live (y q))) ∙ d in absurd cc))
+        (revives_takes j (t == ticket_of who) (v.links.live j) d) (ap (λ b. cond b [] fs) d) (never (Does who (Revive j)) run refl)
+  ]
+    where
+      revivers : {w : Who} {i : ℕ} → Does who (Revive j) ≡ Does w (Revive i) → who ≡ w
+      revivers {w} {i} e = cc
+  kept_settled (Does who (FailConsumer f)) l s m n run from is made seen_so on =
+      quiet_settled (Does who (FailConsumer f)) l s m from is made (λ w i e g. absurd cc) (either_takes (t == ticket_of who) (Fails f ∷ []) [] refl refl) refl
+      (never (Does who (FailConsumer f)) run refl)
+  kept_settled (Does who StopAll) l s m n run from is made seen_so on =
+      quiet_settled (Does who StopAll) l s m from is made (λ w i e f. absurd cc) refl refl (never (Does who StopAll) run refl)
+  kept_settled a l s m n run from is made seen_so on =
+      quiet_settled a l s m from is made (λ w i e f. absurd cc) refl refl (never a run refl)
+
+  row_settled : (a : Act) → IsRun o (Then a ∷ log) → (n : Member) (l : ℕ) (s : Setup) → (view o (Then a ∷ log)).consumers.rows t ≡ Some n →
+      link_of n.seen ≡ Some l → made_with t (Then a ∷ log) ≡ Some s → LinkFrom o log a t l → RowFrom o log a t →
+      (asked_since s (done_to o t (Then a ∷ log)) ≤ permits_of (flows_after v t a fs)) ⊎ Pending o (Then a ∷ log) t
+  row_settled a run n l s is on made from (IsNone e f) = absurd (none_some (sym f ∙ is))
+  row_settled a run n l s is on made from (IsMade s2 l2 e f how did) =
+      let z : asked_since s (done_to o t (Then a ∷ log)) ≡ 0 = ap (asked_since s) did ∙ made_zero s l2 (v.links.live l2) in inl (omega (arith, z))
+  row_settled a run n l s is on made from (IsKept m e r how did) =
+      let same : r.row ≡ n = some_is (sym r.is_it ∙ is) in
+      subst (λ h. (asked_since s h ≤ permits_of (flows_after v t a fs)) ⊎ Pending o (Then a ∷ log) t) (sym did)
+      (kept_settled a l s m n run from e (sym how ∙ made) (sym (ap (λ (y : Member). y.seen) same) ∙ r.seen) on)
+
+settled_run : EndsOnce → (o : Options) (log : List Entry) (t : ℕ) → IsRun o log → Every (Settled o t) log
+settled_run once o [] t run = λ m l s is on made. absurd (none_some is)
+settled_run once o (Begins e ∷ log) t run =
+    let k = settled_run once o log t run.0 in
+    (λ m l s is on made. begun (here (Settled o t) log k m l s (sym (begun_rows e (view o log) t) ∙ is) on made), k)
+  where
+    begun : {A : Type 0} → A ⊎ Pending o log t → A ⊎ Pending o (Begins e ∷ log) t
+    begun (inl x) = inl x
+    begun (inr pending) = absurd (let x = follows_next o log t run.0 None run.1 pending in none_some x.1)
+settled_run once o (Then a ∷ log) t run =
+    let k = settled_run once o log t run.0 in (
+      λ m l s is on made.
+          row_settled once o log t k a run m l s is on made (link_from once o log a t l m run is on)
+          (row_from o log t once a (consumer_ticket o (Then a ∷ log) t m run is) run),
+      k,
+    )
+
+pub flows_are_counted_lem : EndsOnce → FlowsAreCounted
+flows_are_counted_lem once o log t l m s run is on made =
+    let most = here (Covered o t) log (covered_run once o log t run) m l s is on made in (
+      most,
+      λ rests. elim (here (Settled o t) log (settled_run once o log t run) m l s is on made) [
+        | inl least ↦ omega (arith, most, least)
+        | inr pending ↦ absurd (let x = follows_next o log t run None rests pending in none_some x.1)
+      ],
+    )

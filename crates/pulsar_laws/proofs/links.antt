@@ -1,0 +1,15 @@
+pub mod Attempts
+pub mod Newest
+pub mod Alone
+pub mod Writing
+pub mod OfLink
+pub mod Written
+pub mod Deadlines
+pub mod Ticks
+pub mod OneEach
+pub mod Unread
+pub mod Claiming
+pub mod Early
+pub mod Ready
+pub mod Receipts
+pub mod Queued

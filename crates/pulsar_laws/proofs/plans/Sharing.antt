@@ -1,0 +1,84 @@
+-- Parts of calls: which call a send is a part of, and what it tells that. One step of a plan.
+use Rattle.std.proofs.Common.{◌≡◌, refl, Bool, true, false, Option, Some, None}
+use Rattle.pulsar_laws.proofs.ActWords.{Action, Call, Outcome, Procedure, Share, Tell}
+use Rattle.pulsar_laws.proofs.PlanWords.{action_of, Batches, Batching, begins, Building as Build, Deed, Errand, News, Order, Plan, Producing, Sending as Send, Storing, told, Ways}
+use Rattle.pulsar_calls.specs.declared.act.Outcome.TheVariants as outcome
+use Rattle.pulsar_calls.specs.declared.act.Procedure.TheVariants as procedure
+use Rattle.pulsar_plans.specs.declared.plan.Plan.TheVariants.{Sending}
+use Rattle.pulsar_laws.proofs.Cases.{none_some}
+use Rattle.pulsar_laws.proofs.plans.Arcs.{Arc, BatchArc, Begun, StaysSo, batch_sends, batches_go, begins_by, begins_leaving, begins_send, begins_storing, builds_on, part_fails, part_halts, part_sends, part_stores, part_tells, sends, stays_by}
+use Rattle.pulsar_laws.proofs.plans.ProducerArcs.{BuildArc, SendArc, draws, naming_rests}
+
+-- of which call a plan is a part
+abbrev pub shares_of : Plan → Option Share
+shares_of (Sending w e share s) = share
+shares_of (Storing share) = share
+shares_of _ = None
+
+abbrev pub is_tell : Action → Bool
+is_tell (Tell n) = true
+is_tell _ = false
+
+-- a part tells its own ticket
+abbrev pub TicketSo : Share → Outcome → Type 0
+TicketSo s (outcome.Parted k f) = k ≡ s.ticket
+TicketSo s _ = Unit {0}
+
+-- what is told by one that was a part of another call, and is none from then on
+abbrev pub TellSo : Option Share → Plan → Action → Type 0
+TellSo share q (Tell n) = (s : Share) × (share ≡ Some s) × (n.who ≡ Call s.of) × TicketSo s n.outcome × (shares_of q ≡ None)
+TellSo share q _ = Unit {0}
+
+pub record SharesSo (share : Option Share) (q : Plan) (a : Action) : Type 0 where
+  pub keeps : (s : Share) → shares_of q ≡ Some s → share ≡ Some s
+  pub tells : TellSo share q a
+
+untold : (share : Option Share) (q : Plan) (a : Action) → is_tell a ≡ false → TellSo share q a
+untold share q (Tell n) h = absurd cc
+untold share q _ h = tt
+
+send_mute : {w : Ways} {e : Errand} {s q : Send} {y : News} {d : Deed} → SendArc w e s y q d → is_tell (action_of d) ≡ false
+send_mute draws = refl
+send_mute _ = refl
+
+build_mute : {w : Ways} {o : Order} {b q : Build} {y : News} {d : Deed} → BuildArc w o b y q d → is_tell (action_of d) ≡ false
+build_mute naming_rests = refl
+build_mute _ = refl
+
+batch_mute : {w : Ways} {e : Errand} {b q : Batches} {y : News} {d : Deed} → BatchArc w e b y q d → is_tell (action_of d) ≡ false
+batch_mute (batch_sends k) = send_mute k
+batch_mute _ = refl
+
+arc_shares : {p q : Plan} {u : Outcome} {a : Action} → Arc p u q a → SharesSo (shares_of p) q a
+arc_shares (builds_on {w} {o} {b} {q} {u} d k) =
+    record { keeps = λ x h. absurd (none_some h); tells = untold None (Producing w o q) (action_of d) (build_mute k) }
+arc_shares (sends {w} {e} {s} {q} {u} d k) =
+    record { keeps = λ x h. absurd (none_some h); tells = untold None (Sending w e None q) (action_of d) (send_mute k) }
+arc_shares (part_sends {w} {e} {h} {s} {q} {u} d k b) =
+    record { keeps = λ x i. i; tells = untold (Some h) (Sending w e (Some h) q) (action_of d) (send_mute k) }
+arc_shares (part_tells {w} {e} {h} q d k b) = record { keeps = λ x i. absurd (none_some i); tells = (h, refl, refl, refl, refl) }
+arc_shares (part_fails {w} {e} {h}) = record { keeps = λ x i. absurd (none_some i); tells = (h, refl, refl, refl, refl) }
+arc_shares (part_halts {w} {e} {h} b) = record { keeps = λ x i. absurd (none_some i); tells = (h, refl, refl, tt, refl) }
+arc_shares (part_stores {h}) = record { keeps = λ x i. absurd (none_some i); tells = (h, refl, refl, refl, refl) }
+arc_shares (batches_go {w} {e} {b} {q} {u} d k) =
+    record { keeps = λ x h. absurd (none_some h); tells = untold None (Batching w e q) (action_of d) (batch_mute k) }
+arc_shares _ = record { keeps = λ x h. absurd (none_some h); tells = tt }
+
+pub told_shares : (p : Plan) (u : Outcome) → StaysSo (SharesSo (shares_of p)) (told p u)
+told_shares p u = stays_by (SharesSo (shares_of p)) p u (λ q a k. arc_shares k)
+
+-- and of which a procedure is
+abbrev pub share_in : Procedure → Option Share
+share_in (procedure.Send w e share m) = share
+share_in (procedure.Store n share e) = share
+share_in (procedure.FailShare s r) = Some s
+share_in _ = None
+
+begun_shares : {p : Procedure} {q : Plan} {a : Action} → Begun p q a → SharesSo (share_in p) q a
+begun_shares begins_send = record { keeps = λ x h. h; tells = tt }
+begun_shares begins_storing = record { keeps = λ x h. h; tells = tt }
+begun_shares (begins_leaving {h}) = record { keeps = λ x i. absurd (none_some i); tells = (h, refl, refl, refl, refl) }
+begun_shares _ = record { keeps = λ x h. absurd (none_some h); tells = tt }
+
+pub begins_shares : (p : Procedure) → StaysSo (SharesSo (share_in p)) (begins p)
+begins_shares p = begins_by (SharesSo (share_in p)) p (λ q a k. begun_shares k)

@@ -1,0 +1,199 @@
+-- Why the send of a batch fails.
+use Rattle.std.proofs.Common.{◌≡◌, inl, inr, ◌∙◌, sym, ap, subst, ℕ, List, ◌∷◌, refl, Bool, true, false, ◌||◌, cond, Some, None, Err}
+use Rattle.std.proofs.lemmas.Bool.{cases_Bool}
+use Rattle.std.specs.List.{list_any}
+use Rattle.pulsar_laws.proofs.ActWords.{Action, Does, Draw, Flush, is_same, Notice, Number, Outcome, PassTurn, Procedure, Producer, Recall, Remake, Rest, Shut, Starts, Store, TakeBatch, TakeTurn, Tell, TellAll, Told, Who}
+use Rattle.pulsar_laws.proofs.PlanWords.{Batches, Batching, begins, Errand, Heard, Member, news_of, Plan, Sending as Send, Stays, told, Ways}
+use Rattle.pulsar_laws.proofs.RunWords.{Begins, Entry, In, IsRun, notice, Options, Then, View, view}
+use Rattle.pulsar_laws.proofs.LinkWords.{Failure}
+use Rattle.pulsar_messages.specs.Content.{ProducerMessageValues}
+use Rattle.pulsar_outgoing.specs.Errors.{in_producer}
+use Rattle.pulsar_producer.specs.Plans as produce
+use Rattle.pulsar_producer.specs.declared.batching.Batching.TheVariants as batching
+use Rattle.pulsar_outgoing.specs.declared.news.News.TheVariants as news
+use Rattle.pulsar_producer.specs.declared.deed.Step.TheVariants as step
+use Rattle.pulsar_producer.specs.declared.sending.Sending.TheVariants as send
+use Rattle.pulsar_calls.specs.declared.act.Outcome.TheVariants as outcome
+use Rattle.pulsar_calls.specs.declared.act.Procedure.TheVariants as procedure
+use Rattle.pulsar_laws.proofs.plans.Standing.{moves, run_older, stands_so}
+use Rattle.pulsar_laws.proofs.producers.BatchRun.{turn_so, Batched, batched_run, calm_at, is_batch_deed, never_both, self_same}
+use Rattle.pulsar_laws.proofs.producers.Drawing.{every_run, Every, here}
+use Rattle.pulsar_laws.specs.BatchLaws.{told_since}
+use Rattle.pulsar_laws.specs.Laws.{FailsSo, IsAnswered, IsDenied, IsInProducer, IsPartial, IsRefused, IsRefusedShare, IsSettled, IsTold, IsTurned, IsUnexpected, IsUnexpectedInProducer, has_failed, IsInUse, IsOfSeveral, IsClosed}
+use Rattle.pulsar_laws.proofs.plans.Batched.{BatchSo, IsSending}
+use Rattle.pulsar_laws.proofs.plans.Failing.{allows_breaks, allows_reply, is_proper, told_same}
+use Rattle.pulsar_laws.proofs.plans.Granted.{GivenBy, granted_by, grants_given}
+use Rattle.pulsar_laws.proofs.plans.Owned.{starts_own}
+use Rattle.pulsar_laws.proofs.plans.Productions.{Ends, SendKeeps, sending_ends}
+
+-- what one is granted is no reply
+abbrev pub is_told_news : Outcome → Bool
+is_told_news (outcome.Granted (news.Told x)) = true
+is_told_news _ = false
+
+-- nobody is told that
+pub never_told : (o : Options) (log : List Entry) (who : Who) (u : Outcome) → IsRun o (Then (Told (notice who u)) ∷ log) → is_told_news u ≡ false
+never_told o log who u run = by u run
+  where
+    none : (v : View) (action : Action) (x : Heard) → GivenBy v action (news.Told x) → ⊥
+    none v (TakeTurn n) x h = h
+    none v (PassTurn n) x h = h
+    none v (Draw n) x h = h
+    none v (Recall n) x h = h
+    none v (Remake r) x h = h
+    none v Number x h = h
+    none v (Shut t) x h = h
+    none v (Store n entry) x h = h
+    none v (Flush n) x h = h
+    none v (TakeBatch n) x h = h
+    none v (Tell n) x h = h
+    none v (TellAll ns) x h = h
+    none v _ x h = h
+
+    by : (u : Outcome) → IsRun o (Then (Told (notice who u)) ∷ log) → is_told_news u ≡ false
+    by (outcome.Granted (news.Told x)) r =
+        let n : Notice = notice who (outcome.Granted (news.Told x)) in
+        let k = granted_by o log n refl r in
+        absurd (none (view o k.older) k.action x (grants_given o log n k (news.Told x) refl))
+    by _ r = refl
+
+proper_so : (u : Outcome) → is_told_news u ≡ false → is_proper u ≡ true
+proper_so (outcome.Granted (news.Told x)) h = absurd cc
+proper_so (outcome.Granted n) h = refl
+proper_so u h = refl
+
+-- MORE OUTCOMES
+
+-- whoever fails along some outcomes fails so along more of them
+more_so : (p : Procedure) (u : Outcome) (os : List Outcome) (f : Failure) → FailsSo p os f → FailsSo p (u ∷ os) f
+more_so p u os f (IsRefused r h e) = IsRefused r h e
+more_so p u os f (IsRefusedShare s r h e) = IsRefusedShare s r h e
+more_so p u os f (IsTold x i e) = IsTold x (inr i) e
+more_so p u os f (IsTurned x is i e) = IsTurned x is (inr i) e
+more_so p u os f (IsDenied w r d is i e k) = IsDenied w r d is (inr i) e k
+more_so p u os f (IsUnexpected r i e) = IsUnexpected r (inr i) e
+more_so p u os f (IsInProducer x is i e) = IsInProducer x is (inr i) e
+more_so p u os f (IsUnexpectedInProducer r is i e) = IsUnexpectedInProducer r is (inr i) e
+more_so p u os f (IsSettled i) = IsSettled (inr i)
+more_so p u os f (IsPartial first count failures h some e) =
+    IsPartial first count failures h (elim (has_failed u) as (λ b. (b || list_any has_failed os) ≡ true) [ true ↦ refl | false ↦ some ]) e
+more_so p u os f (IsInUse w order is i e) = IsInUse w order is (inr i) e
+more_so p u os f (IsOfSeveral w order r n k is i c two e) = IsOfSeveral w order r n k is (inr i) c two e
+more_so p u os f (IsClosed t n is i e) = IsClosed t n is (inr i) e
+more_so p u os f (IsAnswered r number s i is e) = IsAnswered r number s (inr i) is e
+
+-- why the one message of a batch fails
+abbrev pub Why : (number : ℕ) → List Entry → Ways → Errand → ProducerMessageValues → Failure → Type 0
+Why n log w e m f = FailsSo (procedure.Send w e None m) (told_since n log) f
+
+-- WHERE A BATCH STANDS
+
+abbrev pub KeepsSo : (number : ℕ) → List Entry → Plan → Type 0
+KeepsSo n log (Batching w e (batching.Sending ms c s)) = (m : ProducerMessageValues) → SendKeeps (Why n log w e m) s
+KeepsSo n log _ = Unit {0}
+
+abbrev pub Kept : Options → List Entry → Type 0
+Kept o log = (n : ℕ) (p : Plan) → (view o log).stand (Producer n) ≡ Some p → KeepsSo n log p
+
+-- IT IS TOLD SOMETHING
+
+module _ (o : Options) (log : List Entry) (n : ℕ) (u : Outcome) (w : Ways) (e : Errand) (m : ProducerMessageValues) where
+  abbrev later : List Entry
+  later = Then (Told (notice (Producer n) u)) ∷ log
+
+  -- what it was told is one of these from now on
+  since_told : told_since n later ≡ u ∷ told_since n log
+  since_told = ap (λ c. cond c (u ∷ told_since n log) (told_since n log)) (self_same n)
+
+  send_more : (s : Send) → SendKeeps (Why n log w e m) s → SendKeeps (Why n later w e m) s
+  send_more (send.Ending f) k =
+      subst (λ os. FailsSo (procedure.Send w e None m) os f) (sym since_told) (more_so (procedure.Send w e None m) u (told_since n log) f k)
+  send_more _ k = tt
+
+  ends_so : (s : Send) → IsRun o later → SendKeeps (Why n log w e m) s →
+      Ends (SendKeeps (Why n later w e m)) (Why n later w e m) (produce.send_told w e s (news_of u))
+  ends_so s run k =
+      let p : Procedure = procedure.Send w e None m in
+      let i : In u (told_since n later) = subst (In u) (sym since_told) (inl refl) in
+      let proper : is_proper u ≡ true = proper_so u (never_told o log (Producer n) u run) in
+      sending_ends (Why n later w e m) w e s (news_of u) (IsInProducer u refl i (ap in_producer (told_same u)))
+      (allows_breaks p (told_since n later) w u refl i proper)
+      (allows_reply p (told_since n later) u refl i proper) (send_more s k)
+
+-- it fails so
+pub fails_so : (o : Options) (log : List Entry) (n : ℕ) (u : Outcome) (w : Ways) (e : Errand) (m : ProducerMessageValues) (s : Send) (f : Failure) →
+    IsRun o (Then (Told (notice (Producer n) u)) ∷ log) → SendKeeps (Why n log w e m) s → produce.send_told w e s (news_of u) ≡ step.Gives (Err f) →
+    Why n (Then (Told (notice (Producer n) u)) ∷ log) w e m f
+fails_so o log n u w e m s f run k h =
+    let P = Why n (Then (Told (notice (Producer n) u)) ∷ log) w e m in
+    subst (Ends (SendKeeps P) P) h (ends_so o log n u w e m s run k)
+
+module _ (o : Options) (log : List Entry) (n : ℕ) (u : Outcome) (run : IsRun o (Then (Told (notice (Producer n) u)) ∷ log)) where
+  abbrev next : List Entry
+  next = Then (Told (notice (Producer n) u)) ∷ log
+
+  sends_on : (w : Ways) (e : Errand) (ms : List Member) (c : ℕ) (s : Send) (a : Action) (b : Batches) → KeepsSo n log (Batching w e b) →
+      IsSending w e ms c s a b u → (m : ProducerMessageValues) → SendKeeps (Why n next w e m) s
+  sends_on w e ms c s a batching.Resting k h m = absurd h
+  sends_on w e ms c s a batching.Taking k h m = subst (SendKeeps (Why n next w e m)) (sym h.6) tt
+  sends_on w e ms c s a (batching.Sending ns d old) k h m =
+      let P = Why n next w e m in
+      subst (Ends (SendKeeps P) P) h.2.1 (ends_so o log n u w e m old run (k m))
+  sends_on w e ms c s a batching.Settling k h m = absurd h
+
+  turn_keeps : (w : Ways) (e : Errand) (b : Batches) (q : Plan) (a : Action) → KeepsSo n log (Batching w e b) → BatchSo w e b u q a → KeepsSo n next q
+  turn_keeps w e b (Batching v x (batching.Sending ms c s)) a k (same, own, h) =
+      subst (λ y. KeepsSo n next (Batching y x (batching.Sending ms c s))) (sym same)
+      (subst (λ y. KeepsSo n next (Batching w y (batching.Sending ms c s))) (sym own) (sends_on w e ms c s a b k h))
+  turn_keeps w e b (Batching v x batching.Resting) a k h = tt
+  turn_keeps w e b (Batching v x batching.Taking) a k h = tt
+  turn_keeps w e b (Batching v x batching.Settling) a k h = tt
+  turn_keeps w e b _ a k h = absurd h
+
+-- OTHER ENTRIES
+
+-- where what it was told since then stays, so does this
+same_keeps : (log : List Entry) (e : Entry) (n : ℕ) (p : Plan) → (calm_at p ≡ true → told_since n (e ∷ log) ≡ told_since n log) → KeepsSo n log p →
+    KeepsSo n (e ∷ log) p
+same_keeps log x n (Batching w e (batching.Sending ms c s)) same k = λ m.
+    subst (λ os. SendKeeps (FailsSo (procedure.Send w e None m) os) s) (sym (same refl)) (k m)
+same_keeps log x n (Batching w e batching.Resting) same k = tt
+same_keeps log x n (Batching w e batching.Taking) same k = tt
+same_keeps log x n (Batching w e batching.Settling) same k = tt
+same_keeps log x n _ same k = tt
+
+since_same : (log : List Entry) (n : ℕ) (who : Who) (a : Action) → (is_same (Producer n) who ≡ true → is_batch_deed a ≡ true → ⊥) →
+    told_since n (Then (Does who a) ∷ log) ≡ told_since n log
+since_same log n who (TakeBatch m) other = elim (cases_Bool (is_same (Producer n) who)) [ inl e ↦ absurd (other e refl) | inr e ↦ rw e refl ]
+since_same log n who _ other = refl
+
+-- ALONG A LOG
+
+keeps_along : (o : Options) (n : ℕ) (log : List Entry) (p : Plan) → IsRun o log → (view o log).stand (Producer n) ≡ Some p → KeepsSo n log p
+keeps_along o n = stands_so o (Producer n) (IsRun o) (run_older o) (λ log p. KeepsSo n log p) more begun goes_on
+  where
+    more : (x : Entry) (log : List Entry) (p : Plan) → moves (Producer n) x ≡ false → IsRun o (x ∷ log) → (view o log).stand (Producer n) ≡ Some p →
+        KeepsSo n log p → KeepsSo n (x ∷ log) p
+    more (Then (Does who a)) log p m run s k =
+        same_keeps log (Then (Does who a)) n p (λ calm. since_same log n who a (never_both o log who a n p run (batched_run o log run.0) s calm)) k
+    more (Then (Told x)) log p m run s k =
+        same_keeps log (Then (Told x)) n p (λ calm. ap (λ c. cond c (x.outcome ∷ told_since n log) (told_since n log)) m) k
+    more (Then a) log p m run s k = same_keeps log (Then a) n p (λ calm. refl) k
+    more (Begins e) log p m run s k = same_keeps log (Begins e) n p (λ calm. refl) k
+
+    begun : (log : List Entry) (q : Procedure) (p : Plan) (a : Action) → IsRun o (Then (Starts (Producer n) q) ∷ log) → begins q ≡ Stays p a →
+        KeepsSo n (Then (Starts (Producer n) q) ∷ log) p
+    begun log q p a run e =
+        let s = starts_own o log n q run in
+        let b : Plan = Batching s.0 (record { producer = n; block = s.1 }) batching.Resting in
+        let f : Stays b Rest ≡ Stays p a = ap begins (sym s.2) ∙ e in
+        subst (KeepsSo n (Then (Starts (Producer n) q) ∷ log)) (let i : b ≡ p = cc in i) tt
+
+    goes_on : (log : List Entry) (b : Plan) (u : Outcome) (p : Plan) (a : Action) → IsRun o (Then (Told (notice (Producer n) u)) ∷ log) →
+        (view o log).stand (Producer n) ≡ Some b → KeepsSo n log b → told b u ≡ Stays p a → KeepsSo n (Then (Told (notice (Producer n) u)) ∷ log) p
+    goes_on log b u p a run s k e =
+        let j = here (Batched o) log (batched_run o log run.0) n b s in
+        turn_keeps o log n u run j.ways j.errand j.state p a (subst (KeepsSo n log) j.is_it k) (turn_so o log n u b p a j e)
+
+pub kept_run : (o : Options) (log : List Entry) → IsRun o log → Every (Kept o) log
+kept_run o log run = every_run o (Kept o) (λ log r n p s. keeps_along o n log p r s) log run

@@ -1,0 +1,236 @@
+-- What those of a batch are told.
+use Rattle.std.proofs.Common.{◌≡◌, ◌⊎◌, inl, inr, ◌∙◌, sym, ap, subst, ℕ, List, ◌∷◌, refl, length, map, Bool, true, false, cond, Option, Some, None, Result, Ok, Err}
+use Rattle.std.proofs.lemmas.Bool.{cases_Bool}
+use Rattle.pulsar_laws.proofs.ActWords.{Action, Ask, Does, Notice, Outcome, Producer, Rest, TellAll, Told}
+use Rattle.pulsar_laws.proofs.PlanWords.{Batches, Batching, Command, Errand, Fate, Heard, Looking, Making, News, news_in, news_of, overrides, SearchTurn, Sending as Send, Served, told_to, Ways}
+use Rattle.pulsar_laws.proofs.RunWords.{Cause, Entry, In, IsRun, notice, Options, Then}
+use Rattle.pulsar_laws.proofs.LinkWords.{Failure, Fault, Place, Reply}
+use Rattle.pulsar_messages.specs.Words as words
+use Rattle.pulsar_messages.specs.Content.{ProducerMessageValues}
+use Rattle.pulsar_frame.specs.Reply.{Reply as Content, is_body}
+use Rattle.pulsar_wire.specs.declared.key.RequestKey.TheVariants as keys
+use Rattle.pulsar_searches.specs.Plans as search
+use Rattle.pulsar_searches.specs.Replies.{unexpected}
+use Rattle.pulsar_searches.specs.declared.turn.Outcome.TheVariants as heard
+use Rattle.pulsar_searches.specs.declared.turn.Turn.TheVariants as search_turn
+use Rattle.pulsar_outgoing.specs.Batch.{batch_of, cut_report, entries_in, member_of, receipt_fate, reports}
+use Rattle.pulsar_producer.specs.Plans as produce
+use Rattle.pulsar_producer.specs.Plans.{Sent, fault_told, not_drawn, not_queued, receipt, send_looks, send_makes}
+use Rattle.pulsar_outgoing.specs.Storage.{Item}
+use Rattle.pulsar_producer.specs.declared.batching.Batching.TheVariants as batching
+use Rattle.pulsar_outgoing.specs.declared.news.News.TheVariants as news
+use Rattle.pulsar_producer.specs.declared.deed.Step.TheVariants as step
+use Rattle.pulsar_producer.specs.declared.sending.Sending.TheVariants as send
+use Rattle.pulsar_calls.specs.declared.act.Outcome.TheVariants as outcome
+use Rattle.pulsar_laws.proofs.Cases.{cond_so}
+use Rattle.pulsar_laws.specs.BatchLaws.{AskedAs, IsFateOf, MembersAreTold, under_way}
+use Rattle.pulsar_laws.proofs.plans.Batched.{Comes, IsSettling, Unsent, tells_where}
+use Rattle.pulsar_laws.proofs.producers.BatchFailing.{Kept, KeepsSo, Why, fails_so, is_told_news, kept_run, never_told}
+use Rattle.pulsar_laws.proofs.producers.BatchFrames.{asked_own}
+use Rattle.pulsar_laws.proofs.producers.BatchRun.{PromptSo, StateSo, batched_run, deed_at, some_batch, was_done}
+use Rattle.pulsar_laws.proofs.calls.Caused.{outcomes_are_caused_lem}
+use Rattle.pulsar_laws.proofs.producers.Drawing.{here}
+use Rattle.pulsar_laws.proofs.plans.Productions.{SendKeeps}
+use Rattle.pulsar_laws.proofs.links.Receipts.{IsSentFor, in_step, receipt_for}
+
+-- A SEND THAT GIVES A RECEIPT was told its reply
+
+abbrev gives_ok : Sent → Bool
+gives_ok (step.Stays s d) = false
+gives_ok (step.Gives (Ok r)) = true
+gives_ok (step.Gives (Err f)) = false
+
+not_drawn_gives : (e : Errand) (m : ProducerMessageValues) (f : Fault) → gives_ok (not_drawn e m f) ≡ false
+not_drawn_gives e m f = cond_so (λ z. gives_ok z ≡ false) (search.is_lost f) _ _ refl refl
+
+not_queued_gives : (e : Errand) (m : Option ProducerMessageValues) (f : Fault) → gives_ok (not_queued e m f) ≡ false
+not_queued_gives e None f = refl
+not_queued_gives e (Some m) f = not_drawn_gives e m f
+
+makes_gives : (e : Errand) (m : ProducerMessageValues) (c : Command) (x : SearchTurn Making (Result Served Failure)) → gives_ok (send_makes e m c x) ≡ false
+makes_gives e m c (search_turn.Stays s a) = refl
+makes_gives e m c (search_turn.Gives (Ok s)) = refl
+makes_gives e m c (search_turn.Gives (Err f)) = refl
+
+looks_gives : (e : Errand) (m : ProducerMessageValues) (c : Command) (x : SearchTurn Looking (Result Place Failure)) → gives_ok (send_looks e m c x) ≡ false
+looks_gives e m c (search_turn.Stays s a) = refl
+looks_gives e m c (search_turn.Gives (Ok place)) = makes_gives e m c (search.made_gets 0 place)
+looks_gives e m c (search_turn.Gives (Err f)) = refl
+
+abbrev is_sent : Send → Bool
+is_sent send.Sent = true
+is_sent _ = false
+
+unsent_gives : (w : Ways) (e : Errand) (s : Send) (y : News) → is_sent s ≡ false → gives_ok (produce.send_told w e s y) ≡ false
+unsent_gives w e (send.Waiting m) (news.HasTurn version) h = refl
+unsent_gives w e (send.Waiting m) _ h = refl
+unsent_gives w e (send.Drawing m) (news.Drew d) h = refl
+unsent_gives w e (send.Drawing m) y h = not_drawn_gives e m (fault_told y)
+unsent_gives w e (send.Asked kept) news.Queued h = refl
+unsent_gives w e (send.Asked kept) news.InLine h = refl
+unsent_gives w e (send.Asked kept) y h = not_queued_gives e kept (fault_told y)
+unsent_gives w e send.Sent y h = absurd cc
+unsent_gives w e (send.Recalling m) (news.Recalled c) h = looks_gives e m c (search.look_begins w)
+unsent_gives w e (send.Recalling m) y h = refl
+unsent_gives w e (send.Looking m c l) (news.Told x) h = looks_gives e m c (search.look_told w c.topic l x)
+unsent_gives w e (send.Looking m c l) _ h = refl
+unsent_gives w e (send.Making m c k) (news.Told x) h = makes_gives e m c (search.made_told w c k x)
+unsent_gives w e (send.Making m c k) _ h = refl
+unsent_gives w e (send.Remaking m) news.Done h = refl
+unsent_gives w e (send.Remaking m) y h = refl
+unsent_gives w e (send.Ending f) y h = refl
+
+abbrev sent_in : Content → Sent → Content
+sent_in r (step.Gives (Ok x)) = x
+sent_in r _ = r
+
+abbrev heard_in : Content → Heard → Content
+heard_in r (heard.Replied q) = q
+heard_in r _ = r
+
+abbrev is_reply : Heard → Bool
+is_reply (heard.Replied q) = true
+is_reply _ = false
+
+receipt_is : (x : Heard) (r : Content) → receipt (search.verdict 7 x) ≡ step.Gives (Ok r) → (x ≡ heard.Replied r) × (is_body 7 r.body ≡ true)
+receipt_is (heard.Replied q) r h = by (is_body 7 q.body) refl h
+  where
+    by : (b : Bool) → is_body 7 q.body ≡ b → receipt (cond b (Ok q) (Err (unexpected q q.body))) ≡ step.Gives (Ok r) →
+        (heard.Replied q ≡ heard.Replied r) × (is_body 7 r.body ≡ true)
+    by true e k = (let g : q ≡ r = ap (sent_in q) k in (ap heard.Replied g, ap (λ y. is_body 7 y.body) (sym g) ∙ e))
+    by false e k = (let f : false ≡ true = ap gives_ok k in absurd cc)
+receipt_is (heard.GotLink l) r h = (let f : false ≡ true = ap gives_ok h in absurd cc)
+receipt_is heard.Woken r h = (let f : false ≡ true = ap gives_ok h in absurd cc)
+receipt_is (heard.Failed f) r h = (let f : false ≡ true = ap gives_ok h in absurd cc)
+
+replied_in : (u : Outcome) (r : Content) → news_in u ≡ heard.Replied r → (reply : Reply) × (u ≡ outcome.Replied reply) × (reply.content ≡ r)
+replied_in (outcome.Replied q) r h = (q, refl, (let f : heard.Replied q.content ≡ heard.Replied r = h in ap (heard_in q.content) f))
+replied_in (outcome.GotLink l) r h = (let f : false ≡ true = ap is_reply h in absurd cc)
+replied_in outcome.Woken r h = (let f : false ≡ true = ap is_reply h in absurd cc)
+replied_in _ r h = (let f : false ≡ true = ap is_reply h in absurd cc)
+
+sent_told : (w : Ways) (e : Errand) (u : Outcome) (r : Content) → is_told_news u ≡ false → produce.send_told w e send.Sent (news_of u) ≡ step.Gives (Ok r) →
+    (reply : Reply) × (u ≡ outcome.Replied reply) × (reply.content ≡ r) × (is_body 7 r.body ≡ true)
+sent_told w e u r n h = by u n h
+  where
+    from : (u : Outcome) → receipt (search.verdict 7 (news_in u)) ≡ step.Gives (Ok r) →
+        (reply : Reply) × (u ≡ outcome.Replied reply) × (reply.content ≡ r) × (is_body 7 r.body ≡ true)
+    from u k = let x = receipt_is (news_in u) r k in let y = replied_in u r x.0 in (y.0, y.1, y.2, x.1)
+
+    by : (u : Outcome) → is_told_news u ≡ false → produce.send_told w e send.Sent (news_of u) ≡ step.Gives (Ok r) →
+        (reply : Reply) × (u ≡ outcome.Replied reply) × (reply.content ≡ r) × (is_body 7 r.body ≡ true)
+    by (outcome.Granted (news.Told x)) n k = absurd cc
+    by (outcome.Granted _) n k = (let f : false ≡ true = ap gives_ok k in absurd cc)
+    by outcome.Queued n k = (let f : false ≡ true = ap gives_ok k in absurd cc)
+    by outcome.InLine n k = (let f : false ≡ true = ap gives_ok k in absurd cc)
+    by u n k = from u k
+
+sent_same : (s : Send) → is_sent s ≡ true → s ≡ send.Sent
+sent_same send.Sent h = refl
+sent_same _ h = absurd cc
+
+-- it was told its reply
+gives_told : (w : Ways) (e : Errand) (s : Send) (u : Outcome) (r : Content) → is_told_news u ≡ false → produce.send_told w e s (news_of u) ≡ step.Gives (Ok r) →
+    (reply : Reply) × (u ≡ outcome.Replied reply) × (reply.content ≡ r) × (is_body 7 r.body ≡ true)
+gives_told w e s u r n h = elim (cases_Bool (is_sent s)) [
+  | inl q ↦ sent_told w e u r n (ap (λ x. produce.send_told w e x (news_of u)) (sym (sent_same s q)) ∙ h)
+  | inr q ↦ (let f : false ≡ true = sym (unsent_gives w e s (news_of u) q) ∙ ap gives_ok h in absurd cc)
+]
+
+-- THE LAW
+
+abbrev notices_in : List Notice → Action → List Notice
+notices_in ns (TellAll ms) = ms
+notices_in ns _ = ns
+
+module _ (o : Options) (log : List Entry) (n : ℕ) (ns : List Notice) (run : IsRun o (Then (Does (Producer n) (TellAll ns)) ∷ log)) where
+  -- the one whose receipt came
+  receipt_from : (older before : List Entry) (reply : Reply) (l : ℕ) (k : IsSentFor before (Producer n) l reply.content.key) →
+      log ≡ Then (Told (notice (Producer n) (outcome.Replied reply))) ∷ older →
+      In (Then (Does (Producer n) (Ask l (words.Send k.producer k.name k.sequence k.message k.block)))) older →
+      (s : ℕ) × (reply.content.key ≡ Some (keys.ProducerSend n s)) × AskedAs n s log
+  receipt_from older before reply l k there i =
+      let r : IsRun o (Then (Told (notice (Producer n) (outcome.Replied reply))) ∷ older) = subst (IsRun o) there run.0 in
+      let own : k.producer ≡ n = asked_own o older n l k.producer k.sequence k.name k.message k.block r.0 i in
+      let j : In (Then (Does (Producer n) (Ask l (words.Send k.producer k.name k.sequence k.message k.block)))) log =
+      subst (In (Then (Does (Producer n) (Ask l (words.Send k.producer k.name k.sequence k.message k.block))))) (sym there) (inr i) in (
+        k.sequence,
+        k.bears ∙ ap (λ m. Some (keys.ProducerSend m k.sequence)) own,
+        (
+          l,
+          k.name,
+          k.message,
+          k.block,
+          subst (λ m. In (Then (Does (Producer n) (Ask l (words.Send m k.name k.sequence k.message k.block)))) log) own j,
+        ),
+      )
+
+  receipt_bears : (older : List Entry) (reply : Reply) → log ≡ Then (Told (notice (Producer n) (outcome.Replied reply))) ∷ older →
+      is_body 7 reply.content.body ≡ true → (s : ℕ) × (reply.content.key ≡ Some (keys.ProducerSend n s)) × AskedAs n s log
+  receipt_bears older reply there body =
+      let r : IsRun o (Then (Told (notice (Producer n) (outcome.Replied reply))) ∷ older) = subst (IsRun o) there run.0 in
+      let step = in_step (Cause o (Producer n) (outcome.Replied reply)) older (outcomes_are_caused_lem o older (Producer n) (outcome.Replied reply) r) in
+      let x = receipt_for o step.1 (Producer n) reply step.0 step.2 body in
+      receipt_from older step.1 reply x.0 x.1 there
+      (step.3 (Then (Does (Producer n) (Ask x.0 (words.Send x.1.producer x.1.name x.1.sequence x.1.message x.1.block)))) x.1.listed)
+
+  fate_of : (older : List Entry) (items : List Item) (u : Outcome) (w : Ways) (e : Errand) (s : Send) (f : Fate) (m : ProducerMessageValues) →
+      log ≡ Then (Told (notice (Producer n) u)) ∷ older → e.producer ≡ n → batch_of (entries_in items) ≡ Ok m →
+      SendKeeps (Why n older w e m) s → Comes w e s u f → IsFateOf n log items u f
+  fate_of older items u w e s f m there own whole kept (inl h) = inr (inr (inr (inl h)))
+  fate_of older items u w e s f m there own whole kept (inr (inr h)) =
+      let r : IsRun o (Then (Told (notice (Producer n) u)) ∷ older) = subst (IsRun o) there run.0 in
+      let why : Why n (Then (Told (notice (Producer n) u)) ∷ older) w e m h.0 = fails_so o older n u w e m s h.0 r kept h.1 in
+      inr (inl (h.0, (w, e, m, own, whole, subst (λ l. Why n l w e m h.0) (sym there) why), h.2))
+  fate_of older items u w e s f m there own whole kept (inr (inl h)) =
+      let r : IsRun o (Then (Told (notice (Producer n) u)) ∷ older) = subst (IsRun o) there run.0 in
+      let q = gives_told w e s u h.0 (never_told o older (Producer n) u r) h.1 in
+      let body : is_body 7 q.0.content.body ≡ true = ap (λ x. is_body 7 x.body) q.2 ∙ q.3 in
+      let k = receipt_bears older q.0 (there ∙ ap (λ x. Then (Told (notice (Producer n) x)) ∷ older) q.1) body in
+      inl (q.0, k.0, q.1, body, k.1, k.2, h.2 ∙ ap receipt_fate (sym q.2))
+
+  unsent_fate : (items : List Item) (u : Outcome) (f : Fate) → Unsent items f → IsFateOf n log items u f
+  unsent_fate items u f (inl h) = inr (inr (inr (inr h)))
+  unsent_fate items u f (inr h) = inr (inr (inl h))
+
+  abbrev IsTold : List Item → Outcome → Type 0
+  IsTold items u =
+      ((f : Fate) × IsFateOf n log items u f × (ns ≡ map told_to (reports (length (entries_in items)) f (map member_of items))))
+      ⊎ ((overrides u ≡ true) × (ns ≡ map told_to (map cut_report (map member_of items))))
+
+  told_from : (older : List Entry) (u : Outcome) (w : Ways) (e : Errand) (b : Batches) → log ≡ Then (Told (notice (Producer n) u)) ∷ older →
+      IsRun o (Then (Told (notice (Producer n) u)) ∷ older) → PromptSo o older n b → StateSo o older n b → e.producer ≡ n →
+      KeepsSo n older (Batching w e b) → IsSettling w e (TellAll ns) b u →
+      (items : List Item) × (under_way o n log ≡ Some items) × IsTold items u
+  told_from older u w e batching.Resting there r p s own kept k = absurd k
+  told_from older u w e batching.Settling there r p s own kept k = absurd k
+  told_from older u w e batching.Taking there r p s own kept k = (
+    k.0,
+    ap (under_way o n) there ∙ some_batch o older n u k.0 (was_done o older n batching.Taking u p r.1) k.2,
+    inl (k.1, unsent_fate k.0 u k.1 k.3, ap (notices_in ns) k.4),
+  )
+  told_from older u w e (batching.Sending ms c x) there r p s own kept (inl k) = (
+    s.0,
+    ap (under_way o n) there ∙ s.1,
+    inr (k.0, ap (notices_in ns) k.1 ∙ ap (λ y. map told_to (map cut_report y)) s.2.0),
+  )
+  told_from older u w e (batching.Sending ms c x) there r p s own kept (inr k) = (
+    s.0,
+    ap (under_way o n) there ∙ s.1,
+    inl (
+      k.0,
+      fate_of older s.0 u w e x k.0 s.2.2 there own s.2.3 (kept s.2.2) k.1,
+      ap (notices_in ns) k.2 ∙ ap (λ y. map told_to (reports c k.0 y)) s.2.0 ∙ ap (λ y. map told_to (reports y k.0 (map member_of s.0))) s.2.1,
+    ),
+  )
+
+pub members_are_told_lem : MembersAreTold
+members_are_told_lem o log n ns run = elim (deed_at o log n (TellAll ns) run (batched_run o log run.0)) [
+  | inl d ↦
+      (let t = tells_where d.was.ways d.was.errand d.was.state d.outcome d.state ns d.step in
+      let kept : KeepsSo n d.older (Batching d.was.ways d.was.errand d.was.state) =
+      subst (KeepsSo n d.older) d.was.is_it (here (Kept o) d.older (kept_run o d.older d.run.0) n d.before d.stood) in
+      let x = told_from o log n ns run d.older d.outcome d.was.ways d.was.errand d.was.state d.there d.run d.was.prompt d.was.so d.was.own kept t.1 in
+      (x.0, d.outcome, d.older, x.1, d.there, x.2))
+  | inr r ↦ (let f : TellAll ns ≡ Rest = r in absurd cc)
+]

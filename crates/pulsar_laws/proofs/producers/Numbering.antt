@@ -1,0 +1,113 @@
+-- The numbers of topic producers. Each is drawn once, greater than all before it; a building has just those that it drew; and so a producer
+-- that joins has numbers that no other has.
+use Rattle.std.proofs.Common.{◌≡◌, sym, ap, subst, ℕ, ◌+◌, List, [], ◌∷◌, ◌++◌, refl, map, Bool, true, false, cond, Option, Some, None, Ok}
+use Rattle.pulsar_laws.proofs.ActWords.{Action, Makes, Nothing, Outcome, Procedure, Verdict}
+use Rattle.pulsar_laws.proofs.PlanWords.{Asking, Awaiting, begins, Building as Build, Built, Deed, Gives, is_answer, News, news_of, Order, Plan, Producing, Stays, told, Turn, Ways}
+use Rattle.pulsar_laws.proofs.RunWords.{Each, each_append}
+use Rattle.pulsar_exchange.specs.Request.{subscribed}
+use Rattle.pulsar_exchange.specs.declared.content.Subscribed.{Subscribed}
+use Rattle.pulsar_producer.specs.Plans as produce
+use Rattle.pulsar_producer.specs.declared.building.Building.TheVariants as build
+use Rattle.pulsar_outgoing.specs.declared.news.News.TheVariants as news
+use Rattle.pulsar_calls.specs.declared.act.Makes.TheVariants.{Producer}
+use Rattle.pulsar_calls.specs.declared.act.Outcome.TheVariants as outcome
+use Rattle.pulsar_plans.specs.Plan.{makes_of}
+use Rattle.pulsar_messages.specs.Words as words
+use Rattle.pulsar_laws.proofs.plans.Arcs.{Arc, Begun, BegunEnd, End, answers, begins_asking, begins_none, builds_on, by_arcs, by_begun, departs_asks, got_asks, produced, queued_waits, stands_on}
+use Rattle.pulsar_laws.proofs.plans.ProducerArcs.{BuildArc, BuildEnd, build_done, building_rests, builds_on_asks, builds_on_gets, builds_on_waits, built_numbers, none_named, numbered_makes}
+
+-- WHAT A PLAN HAS DRAWN
+
+abbrev pub number_of : Built → ℕ
+number_of b = b.number
+
+abbrev pub drawn_in : Build → List ℕ
+drawn_in (build.Naming n) = []
+drawn_in (build.Numbering p) = map number_of p.made
+drawn_in (build.Making c k number left made) = map number_of made ++ number ∷ []
+drawn_in (build.Closing left f) = []
+
+abbrev makes_producer : Makes → Bool
+makes_producer (Producer made) = true
+makes_producer _ = false
+
+-- so are the numbers that a plan has drawn; and a request makes no producer
+abbrev pub IsSound : (ℕ → Type 0) → Plan → Type 0
+IsSound Q (Producing w o b) = Each Q (drawn_in b)
+IsSound Q (Asking w) = makes_producer w.makes ≡ false
+IsSound Q (Awaiting w) = makes_producer w.makes ≡ false
+IsSound Q _ = Unit {0}
+
+abbrev pub MakesSound : (ℕ → Type 0) → Makes → Type 0
+MakesSound Q (Producer made) = Each Q (map number_of made.parts)
+MakesSound Q _ = Unit {0}
+
+abbrev pub TurnSound : (ℕ → Type 0) → Turn Plan Verdict → Type 0
+TurnSound Q (Stays plan action) = IsSound Q plan
+TurnSound Q (Gives verdict) = MakesSound Q verdict.makes
+
+map_end : (made : List Built) (b : Built) → map number_of (made ++ b ∷ []) ≡ map number_of made ++ b.number ∷ []
+map_end [] b = refl
+map_end (x ∷ made) b = ap (λ ns. x.number ∷ ns) (map_end made b)
+
+module _ (Q : ℕ → Type 0) where
+  build_sound : {w : Ways} {o : Order} {b q : Build} {y : News} {d : Deed} → BuildArc w o b y q d → Each Q (drawn_in b) →
+      ((m : ℕ) → y ≡ news.Numbered m → Q m) →
+      Each Q (drawn_in q)
+  build_sound (numbered_makes {p} {i}) k q = each_append Q (map number_of p.made) (i ∷ []) k (q i refl, tt)
+  build_sound (built_numbers {c} {s} {i} {m} {left} {made} new) k q = subst (Each Q) (sym (map_end made (produce.built c.topic i new))) k
+  build_sound (builds_on_gets e) k q = k
+  build_sound (builds_on_asks e) k q = k
+  build_sound (builds_on_waits e) k q = k
+  build_sound building_rests k q = k
+  build_sound _ k q = tt
+
+  built_sound : {b : Build} {y : News} {parts : List Built} → BuildEnd b y (Ok parts) → Each Q (drawn_in b) → Each Q (map number_of parts)
+  built_sound none_named k = tt
+  built_sound (build_done {c} {s} {i} {made} new) k = subst (Each Q) (sym (map_end made (produce.built c.topic i new))) k
+
+  -- a reply makes what its request does
+  makes_plain : (m : Makes) → makes_producer m ≡ false → MakesSound Q m
+  makes_plain (Producer made) h = absurd cc
+  makes_plain _ h = tt
+
+  either_makes : (b : Bool) (m : Makes) → makes_producer m ≡ false → MakesSound Q (cond b m Nothing)
+  either_makes true m h = makes_plain m h
+  either_makes false m h = tt
+
+  plain_of : (l : ℕ) (r : Option Subscribed) → makes_producer (makes_of l r) ≡ false
+  plain_of l None = refl
+  plain_of l (Some s) = refl
+
+  arc_sound : {p r : Plan} {u : Outcome} {a : Action} → Arc p u r a → IsSound Q p → ((m : ℕ) → u ≡ outcome.Granted (news.Numbered m) → Q m) → IsSound Q r
+  arc_sound (builds_on {u} d b) k q = build_sound b k (λ m h. q m (of_number u m h))
+    where
+      of_number : (u : Outcome) (m : ℕ) → news_of u ≡ news.Numbered m → u ≡ outcome.Granted (news.Numbered m)
+      of_number (outcome.Granted n) m h = ap outcome.Granted h
+      of_number outcome.Queued m h = absurd cc
+      of_number outcome.InLine m h = absurd cc
+      of_number _ m h = absurd cc
+  arc_sound (got_asks {request} {s} {l}) k q = plain_of l (subscribed request)
+  arc_sound queued_waits k q = k
+  arc_sound stands_on k q = k
+  arc_sound (departs_asks {t} {n} {l}) k q = plain_of l (subscribed (words.CloseConsumer n))
+  arc_sound _ k q = tt
+
+  end_sound : {p : Plan} {u : Outcome} {v : Verdict} → End p u v → IsSound Q p → MakesSound Q v.makes
+  end_sound (answers {x} {r}) k = either_makes (is_answer x.number r.content.body) x.makes k
+  end_sound (produced b) k = built_sound b k
+  end_sound _ k = tt
+
+  pub told_sound : (plan : Plan) (u : Outcome) → IsSound Q plan → ((m : ℕ) → u ≡ outcome.Granted (news.Numbered m) → Q m) → TurnSound Q (told plan u)
+  told_sound plan u k q = by_arcs (TurnSound Q) plan u (λ r a x. arc_sound x k q) (λ v x. end_sound x k)
+
+  begun_sound : {p : Procedure} {r : Plan} {a : Action} → Begun p r a → IsSound Q r
+  begun_sound (begins_asking {l} {request} {s}) = plain_of l (subscribed request)
+  begun_sound _ = tt
+
+  begun_ends : {p : Procedure} {v : Verdict} → BegunEnd p v → MakesSound Q v.makes
+  begun_ends begins_none = tt
+  begun_ends _ = tt
+
+  pub begins_sound : (p : Procedure) → TurnSound Q (begins p)
+  begins_sound p = by_begun (TurnSound Q) p (λ r a x. begun_sound x) (λ v x. begun_ends x)

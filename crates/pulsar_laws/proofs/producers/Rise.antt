@@ -1,0 +1,120 @@
+-- The numbers of the frames of a topic producer rise.
+use Rattle.std.proofs.Common.{◌≡◌, ◌∙◌, sym, ap, subst, ℕ, ◌+◌, ◌<◌, ◌≤◌, arith, List, [], ◌∷◌, ◌++◌, refl, Bool, true, false, cond, Option, Some, None}
+use Rattle.pulsar_laws.proofs.ActWords.{Ask, Call, Does, Draw, Told}
+use Rattle.pulsar_laws.proofs.RunWords.{Begins, begun_same, Entry, IsRun, Options, Then, view}
+use Rattle.pulsar_messages.specs.Words as words
+use Rattle.pulsar_messages.specs.Claims.{is_spent}
+use Rattle.pulsar_producer.specs.Topic as topic
+use Rattle.pulsar_outgoing.specs.Storage.{Item, SingleMessage, Flush, is_ready, pushed, is_nothing}
+use Rattle.pulsar_producer.specs.Topic.{Act as Deed, Takes, Passes, Draws, Remakes, Closes, Stores, Flushes, Cuts, TakesBatch, Halts, Seen, cuts, is_settled, left_of, stores, takes_in}
+use Rattle.pulsar_producer_table.specs.declared.table.Topic.{Topic}
+use Rattle.pulsar_laws.proofs.Cases.{cond_so}
+use Rattle.pulsar_laws.specs.ProducerLaws.{NumbersOfFramesRise, topic_acts}
+use Rattle.pulsar_laws.proofs.producers.Drawing.{drawn_run}
+use Rattle.pulsar_laws.proofs.producers.Frames.{IsFramed, frames_are_of_their_sends_lem, framed, it}
+use Rattle.pulsar_laws.proofs.links.Receipts.{run_behind}
+use Rattle.pulsar_laws.proofs.producers.Topics.{all_after, row_as, topic_all}
+
+-- THE NEXT NUMBER IS NOT LESS
+
+stores_next : (x : Item) (v : Seen) → v.next ≤ (stores x v).next
+stores_next x v =
+    let w : Seen = record v { storage = pushed x v.storage } in
+    cond_so (λ z. v.next ≤ z.next) (is_ready w.storage) (cuts w) w (omega arith) (omega arith)
+
+left_next : (bs : List (List Item)) (v : Seen) → v.next ≤ (left_of bs v).next
+left_next [] v = omega arith
+left_next (b ∷ bs) v = omega arith
+
+one_next : (d : Deed) (v : Seen) → v.next ≤ (topic.after d v).next
+one_next (Takes t) v = takes v.holder
+  where
+    takes : (h : Option ℕ) → v.next ≤ (takes_in h t v).next
+    takes None = omega arith
+    takes (Some u) = omega arith
+one_next Passes v = omega arith
+one_next Draws v = elim (is_spent v.next) as (λ b. v.next ≤ (cond b v (record v { next = v.next + 1 })).next) [ true ↦ omega arith | false ↦ omega arith ]
+one_next (Remakes l g) v = omega arith
+one_next Closes v = omega arith
+one_next (Stores t e) v = stores_next (SingleMessage t e) v
+one_next (Flushes t) v = cond_so (λ z. v.next ≤ z.next) (is_settled v) v (stores (Flush t) v) (omega arith) (stores_next (Flush t) v)
+one_next Cuts v = cond_so (λ z. v.next ≤ z.next) (is_nothing v.storage.items) v (cuts v) (omega arith) (omega arith)
+one_next TakesBatch v = left_next v.cut v
+one_next Halts v = omega arith
+
+all_next : (ds : List Deed) (v : Seen) → v.next ≤ (all_after ds v).next
+all_next [] v = omega arith
+all_next (d ∷ ds) v = let a : v.next ≤ (all_after ds v).next = all_next ds v in let b = one_next d (all_after ds v) in omega (arith, a, b)
+
+-- a row that is there stays there, and its next number is not less
+record IsLater (o : Options) (log : List Entry) (n : ℕ) (row : Topic) : Type 0 where
+  now : Topic
+  is_it : (view o log).producers.topics n ≡ Some now
+  more : row.seen.next ≤ now.seen.next
+
+later : (o : Options) (newer older : List Entry) (n : ℕ) (row : Topic) → IsRun o (newer ++ older) → (view o older).producers.topics n ≡ Some row →
+    IsLater o (newer ++ older) n row
+later o [] older n row run h = record { now = row; is_it = h; more = omega arith }
+later o (Begins e ∷ newer) older n row run h =
+    let k = later o newer older n row run.0 h in
+    record { now = k.now; is_it = begun_same (λ v. v.producers.topics n) e (view o (newer ++ older)) refl ∙ k.is_it; more = k.more }
+later o (Then a ∷ newer) older n row run h =
+    let k = later o newer older n row run.0 h in
+    let ds : List Deed = topic_acts (view o (newer ++ older)) n a in
+    record {
+      now = topic_all ds k.now;
+      is_it = row_as o (newer ++ older) (drawn_run o (newer ++ older) run.0) n k.now k.is_it a run;
+      more = (let x : row.seen.next ≤ k.now.seen.next = k.more in let y : k.now.seen.next ≤ (all_after ds k.now.seen).next = all_next ds k.now.seen in omega
+          (arith, x, y));
+    }
+
+-- WHAT STANDS BEFORE A DRAW
+
+abbrev is_ask : Entry → Bool
+is_ask (Then (Does who (Ask l request))) = true
+is_ask _ = false
+
+-- behind both there is all that was there before
+record Behind (x : Entry) (older behind : List Entry) : Type 0 where
+  newer : List Entry
+  is_it : behind ≡ newer ++ x ∷ older
+
+behind_two : (x y z : Entry) (newer older behind : List Entry) → is_ask x ≡ true → is_ask y ≡ false → is_ask z ≡ false →
+    newer ++ x ∷ older ≡ y ∷ z ∷ behind → Behind x older behind
+behind_two x y z [] older behind a b c h = let e : x ≡ y = cc in let f : true ≡ false = sym a ∙ ap is_ask e ∙ b in absurd cc
+behind_two x y z (u ∷ []) older behind a b c h = let e : x ≡ z = cc in let f : true ≡ false = sym a ∙ ap is_ask e ∙ c in absurd cc
+behind_two x y z (u ∷ w ∷ newer) older behind a b c h = record { newer = newer; is_it = (let e : newer ++ x ∷ older ≡ behind = cc in sym e) }
+
+-- the row that stood before the draw is the later one
+row_now : (o : Options) (there behind : List Entry) (n producer : ℕ) (now before : Topic) → behind ≡ there → n ≡ producer →
+    (view o there).producers.topics n ≡ Some now → (view o behind).producers.topics producer ≡ Some before → now ≡ before
+row_now o there behind n producer now before same named is was =
+    let x : (view o behind).producers.topics n ≡ Some now = subst (λ y. (view o y).producers.topics n ≡ Some now) (sym same) is in
+    let y : (view o behind).producers.topics n ≡ Some before = subst (λ m. (view o behind).producers.topics m ≡ Some before) (sym named) was in
+    let z : Some now ≡ Some before = sym x ∙ y in
+    cc
+
+rises : (one now before : Topic) (r s : ℕ) → now ≡ before → one.seen.next ≡ r + 1 → s ≡ before.seen.next → one.seen.next ≤ now.seen.next → r < s
+rises one now before r s same first number more =
+    let next : now.seen.next ≡ s = ap (λ y. y.seen.next) same ∙ sym number in
+    omega (arith, next, first, more)
+
+-- a send whose frame stands before the draw of another has a smaller number
+rise_from : (o : Options) (x : Entry) (older behind : List Entry) (n producer : ℕ) (one before : Topic) (r s : ℕ) → IsRun o behind →
+    Behind x older behind → (view o (x ∷ older)).producers.topics n ≡ Some one → one.seen.next ≡ r + 1 → n ≡ producer →
+    (view o behind).producers.topics producer ≡ Some before → s ≡ before.seen.next → r < s
+rise_from o x older behind n producer one before r s run b is first named was number =
+    let z : IsLater o (b.newer ++ x ∷ older) n one = later o b.newer (x ∷ older) n one (subst (IsRun o) b.is_it run) is in
+    rises one z.now before r s (row_now o (b.newer ++ x ∷ older) behind n producer z.now before b.is_it named z.is_it was) first number z.more
+
+pub numbers_of_frames_rise_lem : NumbersOfFramesRise
+numbers_of_frames_rise_lem o newer older t u l k n s r name alias m other block waits w v e f share part given told run h g =
+    let x : Entry = Then (Does (Call u) (Ask k (words.Send n alias r other waits))) in
+    let log : List Entry = newer ++ x ∷ older in
+    let run2 : IsRun o (x ∷ older) = run_behind o newer (x ∷ older) run.0 in
+    let first = frames_are_of_their_sends_lem o older u k n r alias other waits v f part told run2 g in
+    let a : IsFramed o log t l n s name m block w e share given run h =
+    framed o log t l n s name m block w e share given run h (it o log t l n s name m block w e share given run h) in
+    let b = behind_two x (Then (Told a.told)) (Then (Does (Call t) (Draw a.drawn))) newer older a.behind refl refl refl a.there in
+    let run3 : IsRun o (Then (Told a.told) ∷ Then (Does (Call t) (Draw a.drawn)) ∷ a.behind) = subst (IsRun o) a.there run.0 in
+    rise_from o x older a.behind n e.producer first.0 a.before r s run3.0.0 b first.2 first.8 a.producer a.was a.number

@@ -1,0 +1,744 @@
+-- Turns along a log: each kind of act keeps what is so of them.
+use Rattle.std.proofs.Common.{◌≡◌, ◌⊎◌, inl, inr, ◌∙◌, sym, ap, subst, ℕ, ◌+◌, ◌<◌, ◌≤◌, ◌==◌, arith, List, [], ◌∷◌, refl, Bool, true, false, ◌&&◌, cond, Option, Some, None}
+use Rattle.std.proofs.lemmas.Bool.{cases_Bool, eqb-true, and_parts}
+use Rattle.std.specs.BTreeSet.{insert_key}
+use Rattle.std.specs.List.{flat_map}
+use Rattle.std.specs.Option.{is_none, option_map, option_to_list}
+use Rattle.std.specs.Ordering.{nat_cmp}
+use Rattle.pulsar_laws.proofs.ActWords.{Act, Call, Consumer, Does, Heard, is_same, Notice, Outcome, PassTurn, Producer, Share, Starts, turn_of as taken_as, TakeTurn, Told, Who}
+use Rattle.pulsar_laws.proofs.PlanWords.{Plan, Serving, told}
+use Rattle.pulsar_laws.proofs.RunWords.{at_once, Begins, begun_same, Entry, In, IsRun, notice, Options, Then, turn_notice, view}
+use Rattle.pulsar_messages.specs.Claims.{is_spent}
+use Rattle.pulsar_producer.specs.Laws.{AreAbove}
+use Rattle.pulsar_producer.specs.Topic as topic
+use Rattle.pulsar_producer.specs.Topic.{Setup, Takes, Passes, first_of, next_holder, rest_of, takes_in}
+use Rattle.pulsar_outgoing.specs.declared.news.News.TheVariants as news
+use Rattle.pulsar_producer.specs.declared.sending.Sending.TheVariants as send
+use Rattle.pulsar_producer.proofs.Turns.{lowest_is_next}
+use Rattle.pulsar_calls.specs.declared.act.Outcome.TheVariants as outcome
+use Rattle.pulsar_plans.specs.declared.plan.Plan.TheVariants.{Sending}
+use Rattle.pulsar_producer_table.specs.declared.table.Topic.{Topic}
+use Rattle.pulsar_producer_table.specs.Producers.{Producers, topic_after, turn_passed}
+use Rattle.pulsar_laws.proofs.Cases.{none_some}
+use Rattle.pulsar_laws.specs.ProducerLaws.{HasTurn, PassedInTurn, QueuedInTurn, ToldInTurn, acts_on, turn_of}
+use Rattle.pulsar_acts.specs.Rules.{grants, takes_turn}
+use Rattle.pulsar_calls.specs.Who.{behind_all, in_turn}
+use Rattle.pulsar_laws.proofs.producers.Drawing.{Every, here}
+use Rattle.pulsar_laws.proofs.plans.Holding.{holds, is_turn_told}
+use Rattle.pulsar_laws.proofs.producers.InTurn.{AllTurns, IsAt, IsPassing, IsPending, IsTaking, IsTicket, OwnTurns, Turns, at_most_none, leaving_none, not_all, own_taking, own_waits, passing, self_same, stood_begun, stood_ticket, taking, who_same}
+use Rattle.pulsar_laws.proofs.producers.Topics.{topics_alone_lem}
+use Rattle.pulsar_laws.proofs.producers.Turns.{once_none, pend_kept, pend_then, pending, sum, turn_act, turn_note}
+use Rattle.pulsar_laws.proofs.plans.Servers.{is_server, server_does, server_stands}
+use Rattle.pulsar_laws.proofs.plans.Consuming.{is_modest}
+use Rattle.pulsar_laws.proofs.calls.Same.{same_call, same_producer, same_test}
+use Rattle.pulsar_laws.proofs.producers.TurnActs.{Everyone, Nobody, Waits, count_more, equal_self, in_insert, left_turns, starts_turns, step_turns, changed_at, changed_from, changed_not, told_turns}
+
+-- ONE TAKES ITS TURN
+
+no_note_of : (w who : Who) (x : Outcome) → is_turn_told x ≡ false → turn_note w (notice who x) ≡ 0
+no_note_of w who x h = ap (λ b. cond (is_same w who && b) 1 0) h
+    ∙ (elim (is_same w who) as (λ b. ◌≡◌ {A = ℕ} (cond (b && false) 1 0) 0) [ true ↦ refl | false ↦ refl ])
+
+-- of the one that takes it, be it a call or a topic producer
+record Taker (o : Options) (log : List Entry) (who : Who) (n : ℕ) : Type 0 where
+  calls : (u : ℕ) → is_same (Call u) who ≡ true → IsTaking o log u n × (taken_as who ≡ u)
+  is_own : (u : ℕ) → IsTicket u → u ≡ taken_as who → is_same (Call u) who ≡ true
+  producers : (m : ℕ) → is_same (Producer m) who ≡ true →
+      (n ≡ m) × (taken_as who ≡ behind_all) × ((p : Plan) → (view o log).stand (Producer m) ≡ Some p → holds p ≡ None)
+
+taker : (o : Options) (log : List Entry) (who : Who) (n : ℕ) → Every (AllTurns o) log → IsRun o (Then (Does who (TakeTurn n)) ∷ log) → Taker o log who n
+taker o log (Call t) n k run = record {
+  calls = λ u s. (let e : u ≡ t = eqb-true u t (and_parts (u == t) (u == t) s).0 in (subst (λ y. IsTaking o log y n) (sym e) (taking o log t n k run), sym e));
+  is_own = λ u x y. subst (λ z. is_same (Call z) (Call t) ≡ true) (sym y) (self_same t);
+  producers = λ m s. absurd cc;
+}
+taker o log (Consumer j t) n k run = (let f : is_modest (TakeTurn n) ≡ true = server_does o log j t (TakeTurn n) run in absurd cc)
+taker o log (Producer j) n k run = record {
+  calls = λ u s. absurd cc;
+  is_own = λ u x y. absurd (not_all u x y);
+  producers = λ m s.
+      (let e : m ≡ j = eqb-true m j (and_parts (m == j) true s).0 in
+      let x = own_taking o log j n run in
+      (x.number ∙ sym e, refl, λ p h. plain p x.plan x.none_held (sym (ap (λ y. (view o log).stand (Producer y)) e) ∙ h) x.stood));
+}
+  where
+    plain : (p q : Plan) → holds q ≡ None → (view o log).stand (Producer j) ≡ Some p → (view o log).stand (Producer j) ≡ Some q → holds p ≡ None
+    plain p q h e f = let g : Some p ≡ Some q = sym e ∙ f in let i : p ≡ q = cc in ap holds i ∙ h
+
+module _ (o : Options) (log : List Entry) (who : Who) (n : ℕ) (run : IsRun o (Then (Does who (TakeTurn n)) ∷ log)) (k : AllTurns o log)
+    (x : Taker o log who n) where
+  abbrev ps : Producers
+  ps = (view o log).producers
+
+  abbrev t : ℕ
+  t = taken_as who
+
+  abbrev it : Act
+  it = Does who (TakeTurn n)
+
+  took : (w : Who) (xs : List Act) → takes_turn who (ps.topics n) ≡ xs → pending o log w + sum (turn_act w) xs + 0 ≡ 0 + pending o (Then it ∷ log) w
+  took w xs e = subst (λ ys. pending o log w + sum (turn_act w) ys + 0 ≡ 0 + pending o (Then it ∷ log) w) e (pend_then o log w it run)
+
+  -- there is no such topic producer
+  module _ (none : ps.topics n ≡ None) where
+    same_topics : (m : ℕ) → (view o (Then it ∷ log)).producers.topics m ≡ ps.topics m
+    same_topics m = elim (cases_Bool (m == n)) [
+      | inl e ↦ (let f : ps.topics m ≡ None = ap ps.topics (eqb-true m n e) ∙ none in rw e (ap (option_map (topic_after (Takes t))) f ∙ sym f))
+      | inr e ↦ rw e refl
+    ]
+
+    pends_same : (w : Who) → pending o log w ≡ pending o (Then it ∷ log) w
+    pends_same w =
+        let e = took w (takes_turn who None) (ap (takes_turn who) none) in
+        let z : turn_note w (notice who outcome.Disconnected) ≡ 0 = no_note_of w who outcome.Disconnected refl in
+        omega (arith, e, z)
+
+    unknown_turns : AllTurns o (Then it ∷ log)
+    unknown_turns = record {
+      calls = step_turns o log it Everyone Nobody k.calls (record {
+        stand = λ u. refl;
+        keeps = λ u m q h. (h.0, same_topics m ∙ h.1, h.2);
+        holder = λ u m p s h. tt;
+        pender = λ u h. tt;
+        back = λ u m row y e i. inl (row, sym (same_topics m) ∙ e, i);
+        new_at = λ u m h. absurd h;
+        new_apart = λ u m j h w. absurd h;
+        new_one = λ u m j h w. absurd h;
+        new_begun = λ u m h. absurd h;
+        few = λ u. (let e = pends_same (Call u) in let f : pending o log (Call u) ≤ 1 = k.calls.few u in omega (arith, e, f));
+        told = λ u one. inl ((let e = pends_same (Call u) in omega (arith, e, one)), λ m h. h);
+      });
+      own = record {
+        held = λ m j p h e.
+            (let w = k.own.held m j p h e in
+            let d = pends_same (Producer m) in
+            let z : pending o log (Producer m) ≡ 0 = w.1 in
+            ((w.0.0, same_topics m ∙ w.0.1, w.0.2), omega (arith, d, z)));
+        few = λ m. (let e = pends_same (Producer m) in let f : pending o log (Producer m) ≤ 1 = k.own.few m in omega (arith, e, f));
+        told = λ m one.
+            (let e = pends_same (Producer m) in
+            let w = k.own.told m (omega (arith, e, one)) in
+            (w.0, same_topics m ∙ w.1, w.2));
+      };
+    }
+
+  module _ (row : Topic) (is : ps.topics n ≡ Some row) where
+    -- nobody has the turn
+    module _ (free : row.seen.holder ≡ None) where
+      abbrev given : Notice
+      given = notice who (outcome.Granted (news.HasTurn row.seen.given.version))
+
+      given_now : takes_turn who (ps.topics n) ≡ Told given ∷ []
+      given_now =
+          ap (takes_turn who) is
+          ∙ ap (λ h. flat_map (λ version. grants who (news.HasTurn version)) (option_to_list (cond (is_none h) (Some row.seen.given.version) None))) free
+
+      pends_more : (w : Who) → pending o log w + turn_note w given ≡ pending o (Then it ∷ log) w
+      pends_more w = let e = took w (Told given ∷ []) given_now in omega (arith, e)
+
+      note_self : (w : Who) → is_same w who ≡ true → turn_note w given ≡ 1
+      note_self w e = ap (λ b. cond (b && true) 1 0) e
+
+      note_other : (w : Who) → is_same w who ≡ false → turn_note w given ≡ 0
+      note_other w e = ap (λ b. cond (b && true) 1 0) e
+
+      now_held : (topic_after (Takes t) row).seen.holder ≡ Some t
+      now_held = ap (λ h. (takes_in h t row.seen).holder) free
+
+      same_waiting : (topic_after (Takes t) row).seen.waiting ≡ row.seen.waiting
+      same_waiting = ap (λ h. (takes_in h t row.seen).waiting) free
+
+      back_free : (u m : ℕ) (other : Topic) → (view o (Then it ∷ log)).producers.topics m ≡ Some other → In u other.seen.waiting → Waits o log u m
+      back_free u m other e i = elim (changed_from (Takes t) ps n row is m other e) [
+        | inl q ↦ (row, ap ps.topics q.0 ∙ is, subst (In u) (ap (λ r. r.seen.waiting) q.1 ∙ same_waiting) i)
+        | inr q ↦ (other, q.1, i)
+      ]
+
+      none_has : (w : Who) (m : ℕ) → (m == n) ≡ true → HasTurn (view o log) w m → ⊥
+      none_has w m e h =
+          let f : Some h.0 ≡ Some row = sym h.1 ∙ ap ps.topics (eqb-true m n e) ∙ is in
+          let same : h.0 ≡ row = cc in
+          none_some (sym free ∙ sym (ap (λ r. r.seen.holder) same) ∙ h.2)
+
+      keeps_free : (w : Who) (m : ℕ) → HasTurn (view o log) w m → HasTurn (view o (Then it ∷ log)) w m
+      keeps_free w m h = elim (cases_Bool (m == n)) [
+        | inl e ↦ absurd (none_has w m e h)
+        | inr e ↦ (h.0, changed_not (Takes t) ps n row is m e ∙ h.1, h.2)
+      ]
+
+      now_has : (topic : Topic) × ((view o (Then it ∷ log)).producers.topics n ≡ Some topic) × (topic.seen.holder ≡ Some t)
+      now_has = (topic_after (Takes t) row, changed_at (Takes t) ps n row is, now_held)
+
+      told_free : (u : ℕ) → is_same (Call u) who ≡ true → IsPending o (Then it ∷ log) u
+      told_free u s =
+          let y = x.calls u s in
+          record {
+            number = n;
+            has = (now_has.0, now_has.1, now_has.2 ∙ ap Some y.1);
+            stands = subst (IsAt n) (sym y.0.stood) (inl y.0.wants);
+            apart = λ m other e i. (let w = back_free u m other e i in y.0.clear.apart m w.0 w.1 w.2);
+            begun = count_more u it log (stood_begun o log u y.0.plan y.0.stood);
+            ticket = stood_ticket o log u y.0.plan run.0 y.0.stood;
+          }
+
+      own_none : (m : ℕ) → is_same (Producer m) who ≡ true → pending o log (Producer m) ≡ 0
+      own_none m s = at_most_none (pending o log (Producer m))
+          (λ one. let e : n ≡ m = (x.producers m s).0 in none_has (Producer m) m (subst (λ y. (y == n) ≡ true) e (equal_self n)) (k.own.told m one))
+
+      own_free : OwnTurns o (Then it ∷ log)
+      own_free = record {
+        held = λ m j p h e. elim (cases_Bool (is_same (Producer m) who)) [
+          | inl s ↦ absurd (none_some (sym ((x.producers m s).2 p h) ∙ e))
+          | inr s ↦
+              (let w = k.own.held m j p h e in
+              let d = pends_more (Producer m) in
+              let f : turn_note (Producer m) given ≡ 0 = note_other (Producer m) s in
+              let z : pending o log (Producer m) ≡ 0 = w.1 in
+              (keeps_free (Producer m) m w.0, omega (arith, d, f, z)))
+        ];
+        few = λ m. elim (cases_Bool (is_same (Producer m) who)) [
+          | inl s ↦
+              (let z : pending o log (Producer m) ≡ 0 = own_none m s in
+              let e = pends_more (Producer m) in
+              let f : turn_note (Producer m) given ≡ 1 = note_self (Producer m) s in
+              omega (arith, z, e, f))
+          | inr s ↦
+              (let e = pends_more (Producer m) in
+              let z : turn_note (Producer m) given ≡ 0 = note_other (Producer m) s in
+              let f : pending o log (Producer m) ≤ 1 = k.own.few m in
+              omega (arith, e, z, f))
+        ];
+        told = λ m one. elim (cases_Bool (is_same (Producer m) who)) [
+          | inl s ↦
+              (let y = x.producers m s in
+              subst (HasTurn (view o (Then it ∷ log)) (Producer m)) y.0 (now_has.0, now_has.1, now_has.2 ∙ ap Some y.1))
+          | inr s ↦
+              (let e = pends_more (Producer m) in
+              let z : turn_note (Producer m) given ≡ 0 = note_other (Producer m) s in
+              keeps_free (Producer m) m (k.own.told m (omega (arith, e, z, one))))
+        ];
+      }
+
+      free_turns : AllTurns o (Then it ∷ log)
+      free_turns = record {
+        calls = step_turns o log it Everyone Nobody k.calls (record {
+          stand = λ u. refl;
+          keeps = λ u m q h. keeps_free (Call u) m h;
+          holder = λ u m p s h. tt;
+          pender = λ u h. tt;
+          back = λ u m other y e i. inl (back_free u m other e i);
+          new_at = λ u m h. absurd h;
+          new_apart = λ u m j h w. absurd h;
+          new_one = λ u m j h w. absurd h;
+          new_begun = λ u m h. absurd h;
+          few = λ u. elim (cases_Bool (is_same (Call u) who)) [
+            | inl s ↦
+                (let z : pending o log (Call u) ≡ 0 = (x.calls u s).0.clear.none_pends in
+                let e = pends_more (Call u) in
+                let f : turn_note (Call u) given ≡ 1 = note_self (Call u) s in
+                omega (arith, z, e, f))
+            | inr s ↦
+                (let e = pends_more (Call u) in
+                let z : turn_note (Call u) given ≡ 0 = note_other (Call u) s in
+                let f : pending o log (Call u) ≤ 1 = k.calls.few u in
+                omega (arith, e, z, f))
+          ];
+          told = λ u one. elim (cases_Bool (is_same (Call u) who)) [
+            | inl s ↦ inr (told_free u s)
+            | inr s ↦
+                inl ((let e = pends_more (Call u) in let z : turn_note (Call u) given ≡ 0 = note_other (Call u) s in omega (arith, e, z, one)), λ m h. h)
+          ];
+        });
+        own = own_free;
+      }
+
+    -- another has it
+    module _ (other : ℕ) (busy : row.seen.holder ≡ Some other) where
+      nothing_now : takes_turn who (ps.topics n) ≡ []
+      nothing_now =
+          ap (takes_turn who) is
+          ∙ ap (λ h. flat_map (λ version. grants who (news.HasTurn version)) (option_to_list (cond (is_none h) (Some row.seen.given.version) None))) busy
+
+      pends_busy : (w : Who) → pending o log w ≡ pending o (Then it ∷ log) w
+      pends_busy w = let e = took w [] nothing_now in omega (arith, e)
+
+      same_holder : (topic_after (Takes t) row).seen.holder ≡ row.seen.holder
+      same_holder = ap (λ h. (takes_in h t row.seen).holder) busy
+
+      more_waiting : (topic_after (Takes t) row).seen.waiting ≡ insert_key nat_cmp row.seen.waiting t
+      more_waiting = ap (λ h. (takes_in h t row.seen).waiting) busy
+
+      abbrev Joined : ℕ → ℕ → Type 0
+      Joined u m = (is_same (Call u) who ≡ true) × (m ≡ n)
+
+      back_busy : (u m : ℕ) (r : Topic) → IsTicket u → (view o (Then it ∷ log)).producers.topics m ≡ Some r → In u r.seen.waiting →
+          Waits o log u m ⊎ Joined u m
+      back_busy u m r y e i = elim (changed_from (Takes t) ps n row is m r e) [
+        | inl q ↦ elim (in_insert u t row.seen.waiting (subst (In u) (ap (λ z. z.seen.waiting) q.1 ∙ more_waiting) i)) [
+          | inl j ↦ inl (row, ap ps.topics q.0 ∙ is, j)
+          | inr j ↦ inr (x.is_own u y j, q.0)
+        ]
+        | inr q ↦ inl (r, q.1, i)
+      ]
+
+      keeps_busy : (w : Who) (m : ℕ) → HasTurn (view o log) w m → HasTurn (view o (Then it ∷ log)) w m
+      keeps_busy w m h = elim (cases_Bool (m == n)) [
+        | inl e ↦
+            (let q : m ≡ n = eqb-true m n e in
+            let f : Some h.0 ≡ Some row = sym h.1 ∙ ap ps.topics q ∙ is in
+            let same : h.0 ≡ row = cc in
+            subst (HasTurn (view o (Then it ∷ log)) w) (sym q)
+            (topic_after (Takes t) row, changed_at (Takes t) ps n row is, same_holder ∙ sym (ap (λ r. r.seen.holder) same) ∙ h.2))
+        | inr e ↦ (h.0, changed_not (Takes t) ps n row is m e ∙ h.1, h.2)
+      ]
+
+      own_busy : OwnTurns o (Then it ∷ log)
+      own_busy = record {
+        held = λ m j p h e.
+            (let w = k.own.held m j p h e in
+            let d = pends_busy (Producer m) in
+            let z : pending o log (Producer m) ≡ 0 = w.1 in
+            (keeps_busy (Producer m) m w.0, omega (arith, d, z)));
+        few = λ m. (let e = pends_busy (Producer m) in let f : pending o log (Producer m) ≤ 1 = k.own.few m in omega (arith, e, f));
+        told = λ m one. (let e = pends_busy (Producer m) in keeps_busy (Producer m) m (k.own.told m (omega (arith, e, one))));
+      }
+
+      busy_turns : AllTurns o (Then it ∷ log)
+      busy_turns = record {
+        calls = step_turns o log it Everyone Joined k.calls (record {
+          stand = λ u. refl;
+          keeps = λ u m q h. keeps_busy (Call u) m h;
+          holder = λ u m p s h. tt;
+          pender = λ u h. tt;
+          back = back_busy;
+          new_at = λ u m h. (let y = (x.calls u h.0).0 in subst (IsAt m) (sym y.stood) (inl (y.wants ∙ ap Some (sym h.1))));
+          new_apart = λ u m j h w. (x.calls u h.0).0.clear.apart j w.0 w.1 w.2;
+          new_one = λ u m j h w. h.1 ∙ sym w.1;
+          new_begun = λ u m h. (let y = (x.calls u h.0).0 in stood_begun o log u y.plan y.stood);
+          few = λ u. (let e = pends_busy (Call u) in let f : pending o log (Call u) ≤ 1 = k.calls.few u in omega (arith, e, f));
+          told = λ u one. inl (
+            (let e = pends_busy (Call u) in omega (arith, e, one)),
+            λ m h.
+                (let e = pends_busy (Call u) in
+                let z : pending o log (Call u) ≡ 0 = (x.calls u h.0).0.clear.none_pends in
+                omega (arith, e, z, one)),
+          );
+        });
+        own = own_busy;
+      }
+
+    row_turns : (h : Option ℕ) → row.seen.holder ≡ h → AllTurns o (Then it ∷ log)
+    row_turns None e = free_turns e
+    row_turns (Some other) e = busy_turns other e
+
+  take_turns : (r : Option Topic) → ps.topics n ≡ r → AllTurns o (Then it ∷ log)
+  take_turns None e = unknown_turns e
+  take_turns (Some row) e = row_turns row e row.seen.holder refl
+
+-- ONE PASSES ITS TURN ON
+
+above_not : (x : ℕ) (xs : List ℕ) → AreAbove x xs → In x xs → ⊥
+above_not x [] h i = i
+above_not x (y ∷ xs) h (inl e) = let lt : x < y = h.0 in let q : x ≡ y = e in absurd
+    (let f : 1 ≤ 0 = omega (arith, lt, q) in (let g : ⊥ = omega (arith, f) in g))
+above_not x (y ∷ xs) h (inr i) = above_not x xs h.1 i
+
+-- the first of those that wait is the lowest
+pub lowest : (o : Options) (log : List Entry) (n : ℕ) (row : Topic) (x : ℕ) (xs : List ℕ) → IsRun o log → (view o log).producers.topics n ≡ Some row →
+    row.seen.waiting ≡ x ∷ xs →
+    AreAbove x xs
+lowest o log n row x xs run is w =
+    let a = topics_alone_lem o log n row run is in
+    let s : Setup = record { built = a.0; first_number = o.chosen.first_number; limits = a.1 } in
+    let h = acts_on o n log in
+    let wait : (topic.seen s h).waiting ≡ x ∷ xs = sym (ap (λ v. v.waiting) a.3) ∙ w in
+    let next : next_holder (topic.seen s h) ≡ Some x = ap first_of wait in
+    subst (AreAbove x) (ap rest_of wait) (lowest_is_next s h x next).0
+
+module _ (o : Options) (log : List Entry) (who : Who) (n : ℕ) (run : IsRun o (Then (Does who (PassTurn n)) ∷ log)) (k : AllTurns o log)
+    (y : IsPassing o log who n) where
+  abbrev was : Producers
+  was = (view o log).producers
+
+  abbrev pass : Act
+  pass = Does who (PassTurn n)
+
+  abbrev row : Topic
+  row = y.has.0
+
+  is_row : was.topics n ≡ Some row
+  is_row = y.has.1
+
+  told_next : (r : Option (ℕ × Option (List ℕ))) → turn_passed (was.topics n) ≡ r → (w : Who) →
+      pending o log w + 0 + sum (turn_note w) (option_to_list (option_map (turn_notice n) r)) ≡ 0 + pending o (Then pass ∷ log) w
+  told_next r e w =
+      let p = pend_then o log w pass run in
+      let z : sum (turn_act w) (at_once (view o log) pass) ≡ 0 = once_none (view o log) w pass refl in
+      let q : pending o log w + 0 + sum (turn_note w) (option_to_list (option_map (turn_notice n) (turn_passed (was.topics n)))) ≡ 0 + pending o
+      (Then pass ∷ log) w =
+      omega (arith, p, z) in
+      subst (λ q. pending o log w + 0 + sum (turn_note w) (option_to_list (option_map (turn_notice n) q)) ≡ 0 + pending o (Then pass ∷ log) w) e q
+
+  abbrev Others : ℕ → Type 0
+  Others u = u ≡ taken_as who → ⊥
+
+  -- who has the turn there is the one
+  holds_it : (w : Who) (m : ℕ) → (m == n) ≡ true → HasTurn (view o log) w m → taken_as w ≡ taken_as who
+  holds_it w m e h =
+      let f : Some h.0 ≡ Some row = sym h.1 ∙ ap was.topics (eqb-true m n e) ∙ is_row in
+      let same : h.0 ≡ row = cc in
+      let g : Some (taken_as w) ≡ Some (taken_as who) = sym h.2 ∙ ap (λ r. r.seen.holder) same ∙ y.has.2 in
+      cc
+
+  -- for others nothing is lost
+  keeps_pass : (w : Who) (m : ℕ) → (taken_as w ≡ taken_as who → (m == n) ≡ true → ⊥) → HasTurn (view o log) w m → HasTurn (view o (Then pass ∷ log)) w m
+  keeps_pass w m apart h = elim (cases_Bool (m == n)) [
+    | inl e ↦ absurd (apart (holds_it w m e h) e)
+    | inr e ↦ (h.0, changed_not Passes was n row is_row m e ∙ h.1, h.2)
+  ]
+
+  holder_pass : (u m : ℕ) (p : Plan) → (view o log).stand (Call u) ≡ Some p → holds p ≡ Some m → Others u
+  holder_pass u m p s h e =
+      let it : Call u ≡ who = y.is_own u (stood_ticket o log u p run.0 s) e in
+      let f : Some p ≡ Some y.plan = sym s ∙ ap (view o log).stand it ∙ y.stood in
+      let same : p ≡ y.plan = cc in
+      none_some (sym y.no_more ∙ sym (ap holds same) ∙ h)
+
+  pender_pass : (u : ℕ) → 1 ≤ pending o log (Call u) → Others u
+  pender_pass u one e =
+      let it : Call u ≡ who = y.is_own u (k.calls.told u one).ticket e in
+      let z : pending o log who ≡ 0 = y.none_pends in
+      let f : 1 ≤ pending o log who = subst (λ w. 1 ≤ pending o log w) it one in
+      absurd (let g : ⊥ = omega (arith, z, f) in g)
+
+  in_rest : (u : ℕ) (ts : List ℕ) → In u (rest_of ts) → In u ts
+  in_rest u [] h = h
+  in_rest u (x ∷ xs) h = inr h
+
+  back_pass : (u m : ℕ) (r : Topic) → (view o (Then pass ∷ log)).producers.topics m ≡ Some r → In u r.seen.waiting → Waits o log u m
+  back_pass u m r e i = elim (changed_from Passes was n row is_row m r e) [
+    | inl q ↦ (row, ap was.topics q.0 ∙ is_row, in_rest u row.seen.waiting (subst (In u) (ap (λ z. z.seen.waiting) q.1) i))
+    | inr q ↦ (r, q.1, i)
+  ]
+
+  pass_step : ((u : ℕ) → pending o (Then pass ∷ log) (Call u) ≤ 1) →
+      ((u : ℕ) → 1 ≤ pending o (Then pass ∷ log) (Call u) → (1 ≤ pending o log (Call u)) ⊎ IsPending o (Then pass ∷ log) u) →
+      Turns o (Then pass ∷ log)
+  pass_step few told = step_turns o log pass Others Nobody k.calls (record {
+    stand = λ u. refl;
+    keeps = λ u m apart h. keeps_pass (Call u) m (λ e f. apart e) h;
+    holder = holder_pass;
+    pender = pender_pass;
+    back = λ u m r x e i. inl (back_pass u m r e i);
+    new_at = λ u m h. absurd h;
+    new_apart = λ u m j h w. absurd h;
+    new_one = λ u m j h w. absurd h;
+    new_begun = λ u m h. absurd h;
+    few = few;
+    told = λ u one. elim (told u one) [ inl e ↦ inl (e, λ m h. h) | inr i ↦ inr i ];
+  })
+
+  -- of topic producers: the one that passes its turn on has none, and is told of none
+  is_passer : (m : ℕ) → taken_as (Producer m) ≡ taken_as who → (m == n) ≡ true → Producer m ≡ who
+  is_passer m e f = let x : m ≡ n = eqb-true m n f in ap Producer x ∙ sym (y.is_producer (sym e))
+
+  own_keeps : (m : ℕ) → (Producer m ≡ who → ⊥) → HasTurn (view o log) (Producer m) m → HasTurn (view o (Then pass ∷ log)) (Producer m) m
+  own_keeps m apart h = keeps_pass (Producer m) m (λ e f. apart (is_passer m e f)) h
+
+  own_apart : (m j : ℕ) (p : Plan) → (view o log).stand (Producer m) ≡ Some p → holds p ≡ Some j → Producer m ≡ who → ⊥
+  own_apart m j p s h e =
+      let f : Some p ≡ Some y.plan = sym s ∙ ap (view o log).stand e ∙ y.stood in
+      let same : p ≡ y.plan = cc in
+      none_some (sym y.no_more ∙ sym (ap holds same) ∙ h)
+
+  pends_apart : (m : ℕ) → 1 ≤ pending o log (Producer m) → Producer m ≡ who → ⊥
+  pends_apart m one e =
+      let z : pending o log who ≡ 0 = y.none_pends in
+      let f : 1 ≤ pending o log who = subst (λ w. 1 ≤ pending o log w) e one in
+      (let g : ⊥ = omega (arith, z, f) in g)
+
+  -- where nothing is told of a turn to topic producers
+  own_same : ((m : ℕ) → pending o log (Producer m) ≡ pending o (Then pass ∷ log) (Producer m)) → OwnTurns o (Then pass ∷ log)
+  own_same same = record {
+    held = λ m j p h e.
+        (let w = k.own.held m j p h e in
+        let d = same m in
+        let z : pending o log (Producer m) ≡ 0 = w.1 in
+        (own_keeps m (own_apart m j p h e) w.0, omega (arith, d, z)));
+    few = λ m. (let d = same m in let f : pending o log (Producer m) ≤ 1 = k.own.few m in omega (arith, d, f));
+    told = λ m one.
+        (let d = same m in
+        let f : 1 ≤ pending o log (Producer m) = omega (arith, d, one) in
+        own_keeps m (pends_apart m f) (k.own.told m f));
+  }
+
+  passed_as : (ts : List ℕ) → row.seen.waiting ≡ ts → turn_passed (was.topics n) ≡ option_map (λ ticket. (ticket, row.seen.given.version)) (first_of ts)
+  passed_as ts e = ap turn_passed is_row ∙ ap (λ z. option_map (λ ticket. (ticket, row.seen.given.version)) (first_of z)) e
+
+  -- nobody waits
+  none_waits : row.seen.waiting ≡ [] → AllTurns o (Then pass ∷ log)
+  none_waits e = record {
+    calls = pass_step
+        (λ u. (let p = told_next None (passed_as [] e) (Call u) in let f : pending o log (Call u) ≤ 1 = k.calls.few u in omega (arith, p, f)))
+        (λ u one. inl (let p = told_next None (passed_as [] e) (Call u) in omega (arith, p, one)));
+    own = own_same (λ m. (let p = told_next None (passed_as [] e) (Producer m) in omega (arith, p)));
+  }
+
+  -- the first of those that wait has it now
+  module _ (x : ℕ) (xs : List ℕ) (e : row.seen.waiting ≡ x ∷ xs) where
+    abbrev note : Notice
+    note = turn_notice n (x, row.seen.given.version)
+
+    pends_next : (w : Who) → pending o log w + turn_note w note ≡ pending o (Then pass ∷ log) w
+    pends_next w = let p = told_next (Some (x, row.seen.given.version)) (passed_as (x ∷ xs) e) w in omega (arith, p)
+
+    first_waits : In x row.seen.waiting
+    first_waits = subst (In x) (sym e) (inl refl)
+
+    next_held : (topic : Topic) × ((view o (Then pass ∷ log)).producers.topics n ≡ Some topic) × (topic.seen.holder ≡ Some x)
+    next_held = (topic_after Passes row, changed_at Passes was n row is_row, ap first_of e)
+
+    note_of : (w : Who) (b : Bool) → is_spent x ≡ b → turn_note w note ≡ cond (is_same w (cond b (Producer n) (Call x)) && true) 1 0
+    note_of w b s = ap (λ c. cond (is_same w (cond c (Producer n) (Call x)) && true) 1 0) s
+
+    -- a call
+    module _ (ticket : IsTicket x) where
+      not_told : pending o log (Call x) ≡ 0
+      not_told = at_most_none (pending o log (Call x)) (λ one. (k.calls.told x one).apart n row is_row first_waits)
+
+      note_is : (u : ℕ) → is_same (Call u) (Call x) ≡ true → turn_note (Call u) note ≡ 1
+      note_is u s = note_of (Call u) false ticket ∙ ap (λ b. cond (b && true) 1 0) s
+
+      note_not : (w : Who) → is_same w (Call x) ≡ false → turn_note w note ≡ 0
+      note_not w s = note_of w false ticket ∙ ap (λ b. cond (b && true) 1 0) s
+
+      no_more_waits : (m : ℕ) (r : Topic) → (view o (Then pass ∷ log)).producers.topics m ≡ Some r → In x r.seen.waiting → ⊥
+      no_more_waits m r f i = elim (changed_from Passes was n row is_row m r f) [
+        | inl q ↦
+            (let j : In x (rest_of row.seen.waiting) = subst (In x) (ap (λ z. z.seen.waiting) q.1) i in
+            above_not x xs (lowest o log n row x xs run.0 is_row e) (subst (λ ts. In x (rest_of ts)) e j))
+        | inr q ↦
+            (let same : m ≡ n = k.calls.one x m n r row ticket q.1 is_row i first_waits in
+            let d : (m == n) ≡ true = subst (λ z. (m == z) ≡ true) same (equal_self m) in
+            let f : true ≡ false = sym d ∙ q.0 in absurd cc)
+      ]
+
+      told_x : (u : ℕ) → u ≡ x → IsPending o (Then pass ∷ log) u
+      told_x u q = subst (IsPending o (Then pass ∷ log)) (sym q) (record {
+        number = n;
+        has = next_held;
+        stands = k.calls.waits x n row ticket is_row first_waits;
+        apart = no_more_waits;
+        begun = count_more x pass log (k.calls.begun x n row ticket is_row first_waits);
+        ticket = ticket;
+      })
+
+      call_turns : AllTurns o (Then pass ∷ log)
+      call_turns = record {
+        calls = pass_step
+            (λ u. elim (cases_Bool (is_same (Call u) (Call x))) [
+              | inl s ↦
+                  (let q : u ≡ x = same_call u x s in
+                  let p = pends_next (Call u) in
+                  let z : pending o log (Call u) ≡ 0 = subst (λ w. pending o log (Call w) ≡ 0) (sym q) not_told in
+                  let f : turn_note (Call u) note ≡ 1 = note_is u s in
+                  omega (arith, p, z, f))
+              | inr s ↦
+                  (let p = pends_next (Call u) in
+                  let z : turn_note (Call u) note ≡ 0 = note_not (Call u) s in
+                  let f : pending o log (Call u) ≤ 1 = k.calls.few u in
+                  omega (arith, p, z, f))
+            ])
+            (λ u one. elim (cases_Bool (is_same (Call u) (Call x))) [
+              | inl s ↦ inr (told_x u (same_call u x s))
+              | inr s ↦ inl (let p = pends_next (Call u) in let z : turn_note (Call u) note ≡ 0 = note_not (Call u) s in omega (arith, p, z, one))
+            ]);
+        own = own_same (λ m.
+            (let p = pends_next (Producer m) in let z : turn_note (Producer m) note ≡ 0 = note_not (Producer m) refl in omega (arith, p, z)));
+      }
+
+    -- the topic producer itself
+    module _ (last : is_spent x ≡ true) where
+      last_not : (u : ℕ) → turn_note (Call u) note ≡ 0
+      last_not u = note_of (Call u) true last
+
+      last_is : (m : ℕ) → is_same (Producer m) (Producer n) ≡ true → turn_note (Producer m) note ≡ 1
+      last_is m s = note_of (Producer m) true last ∙ ap (λ b. cond (b && true) 1 0) s
+
+      last_other : (m : ℕ) → is_same (Producer m) (Producer n) ≡ false → turn_note (Producer m) note ≡ 0
+      last_other m s = note_of (Producer m) true last ∙ ap (λ b. cond (b && true) 1 0) s
+
+      -- it has not had it, but as the one that passes it on
+      last_none : (m : ℕ) → is_same (Producer m) (Producer n) ≡ true → pending o log (Producer m) ≡ 0
+      last_none m s = at_most_none (pending o log (Producer m))
+          (λ one. pends_apart m one (is_passer m (holds_it (Producer m) m (same_test m n s) (k.own.told m one)) (same_test m n s)))
+
+      last_turns : AllTurns o (Then pass ∷ log)
+      last_turns = record {
+        calls = pass_step
+            (λ u. (let p = pends_next (Call u) in
+            let z : turn_note (Call u) note ≡ 0 = last_not u in
+            let f : pending o log (Call u) ≤ 1 = k.calls.few u in
+            omega (arith, p, z, f)))
+            (λ u one. inl (let p = pends_next (Call u) in let z : turn_note (Call u) note ≡ 0 = last_not u in omega (arith, p, z, one)));
+        own = record {
+          held = λ m j p h d. elim (cases_Bool (is_same (Producer m) (Producer n))) [
+            | inl s ↦
+                (let w = k.own.held m j p h d in
+                absurd (own_apart m j p h d (is_passer m (holds_it (Producer m) m (same_test m n s) w.0) (same_test m n s))))
+            | inr s ↦
+                (let w = k.own.held m j p h d in
+                let q = pends_next (Producer m) in
+                let f : turn_note (Producer m) note ≡ 0 = last_other m s in
+                let z : pending o log (Producer m) ≡ 0 = w.1 in
+                (own_keeps m (own_apart m j p h d) w.0, omega (arith, q, f, z)))
+          ];
+          few = λ m. elim (cases_Bool (is_same (Producer m) (Producer n))) [
+            | inl s ↦
+                (let z : pending o log (Producer m) ≡ 0 = last_none m s in
+                let q = pends_next (Producer m) in
+                let f : turn_note (Producer m) note ≡ 1 = last_is m s in
+                omega (arith, z, q, f))
+            | inr s ↦
+                (let q = pends_next (Producer m) in
+                let z : turn_note (Producer m) note ≡ 0 = last_other m s in
+                let f : pending o log (Producer m) ≤ 1 = k.own.few m in
+                omega (arith, q, z, f))
+          ];
+          told = λ m one. elim (cases_Bool (is_same (Producer m) (Producer n))) [
+            | inl s ↦
+                subst (HasTurn (view o (Then pass ∷ log)) (Producer m)) (sym (same_producer m n s))
+                (next_held.0, next_held.1, next_held.2 ∙ ap Some (eqb-true x behind_all last))
+            | inr s ↦
+                (let q = pends_next (Producer m) in
+                let z : turn_note (Producer m) note ≡ 0 = last_other m s in
+                let f : 1 ≤ pending o log (Producer m) = omega (arith, q, z, one) in
+                own_keeps m (pends_apart m f) (k.own.told m f))
+          ];
+        };
+      }
+
+    next_turns : AllTurns o (Then pass ∷ log)
+    next_turns = elim (cases_Bool (is_spent x)) [ inl s ↦ last_turns s | inr s ↦ call_turns s ]
+
+  pass_turns : (ts : List ℕ) → row.seen.waiting ≡ ts → AllTurns o (Then pass ∷ log)
+  pass_turns [] e = none_waits e
+  pass_turns (x ∷ xs) e = next_turns x xs e
+
+-- ALONG A LOG
+
+begins_turns : (o : Options) (log : List Entry) (e : Heard) → AllTurns o log → AllTurns o (Begins e ∷ log)
+begins_turns o log e k =
+    let p = begun_same (λ v. v.producers) e (view o log) refl in
+    let s = begun_same (λ v. v.stand) e (view o log) refl in
+    let has : (w : Who) (n : ℕ) → HasTurn (view o log) w n → HasTurn (view o (Begins e ∷ log)) w n = λ w n h. (h.0, ap (λ q. q.topics n) p ∙ h.1, h.2) in
+    let row : (n : ℕ) (r : Topic) → (view o (Begins e ∷ log)).producers.topics n ≡ Some r →
+    (view o log).producers.topics n ≡ Some r = λ n r h. sym (ap (λ q. q.topics n) p) ∙ h in
+    record {
+      calls = record {
+        held = λ t n q h d. has (Call t) n (k.calls.held t n q (sym (ap (λ f. f (Call t)) s) ∙ h) d);
+        waits = λ t n r x h i. subst (IsAt n) (sym (ap (λ f. f (Call t)) s)) (k.calls.waits t n r x (row n r h) i);
+        one = λ t n m r q x h j i w. k.calls.one t n m r q x (row n r h) (row m q j) i w;
+        begun = λ t n r x h i. k.calls.begun t n r x (row n r h) i;
+        few = λ t. omega arith;
+        told = λ t one. absurd (let f : ⊥ = omega (arith, one) in f);
+      };
+      own = record {
+        held = λ m n q h d. (has (Producer m) m (k.own.held m n q (sym (ap (λ f. f (Producer m)) s) ∙ h) d).0, refl);
+        few = λ m. omega arith;
+        told = λ m one. absurd (let f : ⊥ = omega (arith, one) in f);
+      };
+    }
+
+then_turns : (o : Options) (log : List Entry) (a : Act) → IsRun o (Then a ∷ log) → Every (AllTurns o) log → AllTurns o (Then a ∷ log)
+then_turns o log (Told n) run k = told_turns o log n run (here (AllTurns o) log k)
+then_turns o log (Starts who p) run k = starts_turns o log who p run (here (AllTurns o) log k)
+then_turns o log (Does who (TakeTurn n)) run k =
+    take_turns o log who n run (here (AllTurns o) log k) (taker o log who n k run) ((view o log).producers.topics n) refl
+then_turns o log (Does who (PassTurn n)) run k =
+    let y = passing o log who n k run in pass_turns o log who n run (here (AllTurns o) log k) y y.has.0.seen.waiting refl
+then_turns o log (Does who a) run k = left_turns o log (Does who a) run refl refl (λ w. refl) (here (AllTurns o) log k)
+then_turns o log a run k = left_turns o log a run refl refl (λ w. refl) (here (AllTurns o) log k)
+
+pub turns_run : (o : Options) (log : List Entry) → IsRun o log → Every (AllTurns o) log
+turns_run o [] run = record {
+  calls = record {
+    held = λ t n p h d. absurd (none_some h);
+    waits = λ t n r x h i. absurd (none_some h);
+    one = λ t n m r q x h j i w. absurd (none_some h);
+    begun = λ t n r x h i. absurd (none_some h);
+    few = λ t. omega arith;
+    told = λ t one. absurd (let f : ⊥ = omega (arith, one) in f);
+  };
+  own = record {
+    held = λ m n p h d. absurd (none_some h);
+    few = λ m. omega arith;
+    told = λ m one. absurd (let f : ⊥ = omega (arith, one) in f);
+  };
+}
+turns_run o (Begins e ∷ log) run = let k = turns_run o log run.0 in (begins_turns o log e (here (AllTurns o) log k), k)
+turns_run o (Then a ∷ log) run = let k = turns_run o log run.0 in (then_turns o log a run k, k)
+
+-- THE LAWS
+
+pub passed_in_turn_lem : PassedInTurn
+passed_in_turn_lem o log who n run =
+    let y = passing o log who n (turns_run o log run.0) run in
+    let row : Topic = y.has.0 in (
+      row,
+      y.has.1,
+      y.has.2,
+      λ next left e. (
+        lowest o log n row next left run.0 y.has.1 e,
+        subst (λ r. In (notice (in_turn n next) (outcome.Granted (news.HasTurn row.seen.given.version))) (option_to_list (option_map (turn_notice n) r)))
+            (sym (passed_as o log who n run (here (AllTurns o) log (turns_run o log run.0)) y (next ∷ left) e)) (inl refl),
+      ),
+    )
+
+told_call : (o : Options) (log : List Entry) (t n : ℕ) (version : Option (List ℕ)) (p : Plan) →
+    IsRun o (Then (Told (notice (Call t) (outcome.Granted (news.HasTurn version)))) ∷ log) → (view o log).stand (Call t) ≡ Some p → turn_of p ≡ Some n →
+    HasTurn (view o log) (Call t) n
+told_call o log t n version p run s w =
+    let k = (here (AllTurns o) log (turns_run o log run.0)).calls in
+    let it : Notice = notice (Call t) (outcome.Granted (news.HasTurn version)) in
+    let e = pend_kept o log (Call t) (Told it) refl refl run in
+    let f : turn_note (Call t) it ≡ 1 = ap (λ b. cond (b && true) 1 0) (self_same t) in
+    let i = k.told t (omega (arith, e, f)) in
+    elim (subst (IsAt i.number) s i.stands) [
+      | inl q ↦ (let g : Some i.number ≡ Some n = sym q ∙ w in let num : i.number ≡ n = cc in subst (HasTurn (view o log) (Call t)) num i.has)
+      | inr l ↦ absurd (none_some (sym (leaving_none p l).0 ∙ w))
+    ]
+
+told_producer : (o : Options) (log : List Entry) (m n : ℕ) (version : Option (List ℕ)) (p : Plan) →
+    IsRun o (Then (Told (notice (Producer m) (outcome.Granted (news.HasTurn version)))) ∷ log) → (view o log).stand (Producer m) ≡ Some p →
+    turn_of p ≡ Some n → HasTurn (view o log) (Producer m) n
+told_producer o log m n version p run s w =
+    let k = (here (AllTurns o) log (turns_run o log run.0)).own in
+    let it : Notice = notice (Producer m) (outcome.Granted (news.HasTurn version)) in
+    let e = pend_kept o log (Producer m) (Told it) refl refl run in
+    let f : turn_note (Producer m) it ≡ 1 = ap (λ b. cond (b && true) 1 0) (who_same (Producer m)) in
+    subst (HasTurn (view o log) (Producer m)) (sym (own_waits o log m n p run.0 s w)) (k.told m (omega (arith, e, f)))
+
+-- a consumer waits for no turn
+server_turn : (p : Plan) → is_server p ≡ true → turn_of p ≡ None
+server_turn (Serving w n s) h = refl
+server_turn p h = absurd cc
+
+pub told_in_turn_lem : ToldInTurn
+told_in_turn_lem o log (Call t) n version p run s w = told_call o log t n version p run s w
+told_in_turn_lem o log (Consumer m t) n version p run s w =
+    absurd (none_some (sym (server_turn p (server_stands o log m t p run.0 s)) ∙ w))
+told_in_turn_lem o log (Producer m) n version p run s w = told_producer o log m n version p run s w
+
+pub queued_in_turn_lem : QueuedInTurn
+queued_in_turn_lem o log t w e share m run s =
+    (here (AllTurns o) log (turns_run o log run)).calls.held t e.producer (Sending w e share (send.Asked m)) s (asked share)
+  where
+    asked : (x : Option Share) → holds (Sending w e x (send.Asked m)) ≡ Some e.producer
+    asked None = refl
+    asked (Some y) = refl
+
+-- a topic producer has its turn from where it is told so until it passes it on
+pub own_in_turn : (o : Options) (log : List Entry) (m n : ℕ) (p : Plan) → IsRun o log → (view o log).stand (Producer m) ≡ Some p → holds p ≡ Some n →
+    HasTurn (view o log) (Producer m) m
+own_in_turn o log m n p run s h = ((here (AllTurns o) log (turns_run o log run)).own.held m n p s h).0

@@ -1,0 +1,308 @@
+-- Tickets at a topic producer: whoever waits there, or is told what becomes of a batch, took a turn there, stored a message or flushed it.
+use Rattle.std.proofs.Common.{◌≡◌, inl, inr, sym, subst, ℕ, ◌+◌, ◌==◌, List, [], ◌∷◌, ◌++◌, refl, map, Bool, true, false, cond, Option, Some, None}
+use Rattle.std.specs.BTreeSet.{insert_key}
+use Rattle.std.specs.Option.{is_some}
+use Rattle.std.specs.Ordering.{match_ordering, nat_cmp}
+use Rattle.std.specs.declared.cmp.Ordering.{Ordering}
+use Rattle.std.specs.declared.cmp.Ordering.TheVariants.{Less, Equal, Greater}
+use Rattle.pulsar_laws.proofs.ActWords.{Act, Action, Batch, Call, Comes, Consumer, Does, Draw, Flush, Notice, Outcome, PassTurn, Procedure, Producer, Remake, Rings, Shut, StopAll, Store, TakeBatch, TakeTurn, TellAll, Told, turn_of, Who}
+use Rattle.pulsar_laws.proofs.PlanWords.{action_of, Batches, Batching, Building as Build, Deed, Errand, Fate, Member, News, news_of, Order, Plan, Sending as Send, told_to, Ways}
+use Rattle.pulsar_laws.proofs.RunWords.{Begins, Each, each_append, each_either, Entry, In, IsRun, notice, Options, room_of, Then, View, view}
+use Rattle.pulsar_laws.proofs.LinkWords.{rings}
+use Rattle.pulsar_messages.specs.Claims.{is_spent}
+use Rattle.pulsar_outgoing.specs.Batch.{cut_report, member_of, reports_from}
+use Rattle.pulsar_outgoing.specs.Storage.{Item, SingleMessage, Flush as FlushItem, is_ready, pushed, is_nothing, ticket_of}
+use Rattle.pulsar_producer.specs.Topic as topic
+use Rattle.pulsar_producer.specs.Topic.{Act as TopicAct, Setup, Seen, is_settled}
+use Rattle.pulsar_outgoing.specs.declared.batch.Fate.TheVariants as fate
+use Rattle.pulsar_outgoing.specs.declared.batch.Member.TheVariants as member
+use Rattle.pulsar_outgoing.specs.declared.batch.Report.{Report}
+use Rattle.pulsar_producer.specs.declared.batching.Batching.TheVariants as batching
+use Rattle.pulsar_outgoing.specs.declared.news.News.TheVariants as news
+use Rattle.pulsar_calls.specs.declared.act.Outcome.TheVariants as outcome
+use Rattle.pulsar_producer_table.specs.declared.table.Topic.{Topic}
+use Rattle.pulsar_laws.proofs.Lists.{in_each}
+use Rattle.pulsar_laws.proofs.Cases.{cond_so}
+use Rattle.pulsar_laws.proofs.plans.Arcs.{BatchArc, batch_sends, batch_settles, begun_arc, taken_settles, taken_starts, told_arc, Arc, Begun, batch_cuts, batches_go, begins_build, builds_on, part_sends, sends}
+use Rattle.pulsar_laws.proofs.plans.Standing.{run_older, stands_so}
+use Rattle.pulsar_laws.specs.ProducerLaws.{acts_on, drawn_by, rung_by, shut_by, topic_acts}
+use Rattle.pulsar_producer_table.specs.Producers.{next_batch_at, numbers_at}
+use Rattle.pulsar_laws.proofs.plans.Granted.{GivenBy, IsGrantedBy, IsLedSo, does_from, granted_by, grants_given}
+use Rattle.pulsar_laws.proofs.plans.ProducerArcs.{BuildArc, SendArc, draws, naming_rests}
+use Rattle.pulsar_laws.proofs.producers.Topics.{topics_alone_lem}
+
+-- WHO TELLS NOBODY TOGETHER: all plans but those of batches
+
+abbrev is_tell : Action → Bool
+is_tell (TellAll ns) = true
+is_tell _ = false
+
+send_alone : {w : Ways} {e : Errand} {s q : Send} {y : News} {d : Deed} → SendArc w e s y q d → is_tell (action_of d) ≡ false
+send_alone draws = refl
+send_alone _ = refl
+
+build_alone : {w : Ways} {o : Order} {b q : Build} {y : News} {d : Deed} → BuildArc w o b y q d → is_tell (action_of d) ≡ false
+build_alone naming_rests = refl
+build_alone _ = refl
+
+-- TICKETS THAT ARE SO: those of all that was done at a topic producer. Those of turns are so, and those of what is stored.
+
+each_insert : (P : ℕ → Type 0) (k : ℕ) (xs : List ℕ) → P k → Each P xs → Each P (insert_key nat_cmp xs k)
+each_insert P k [] p ps = (p, tt)
+each_insert P k (x ∷ xs) p ps = by (nat_cmp k x) (each_insert P k xs p ps.1)
+  where
+    by : (c : Ordering) → Each P (insert_key nat_cmp xs k) → Each P (match_ordering c (k ∷ x ∷ xs) (x ∷ xs) (x ∷ insert_key nat_cmp xs k))
+    by Less more = (p, ps)
+    by Equal more = ps
+    by Greater more = (ps.0, more)
+
+module _ (T P : ℕ → Type 0) where
+  -- what is done to one
+  abbrev pub ActSo : TopicAct → Type 0
+  ActSo (topic.Takes t) = T t
+  ActSo (topic.Stores t e) = P t
+  ActSo (topic.Flushes t) = P t
+  ActSo _ = Unit {0}
+
+  abbrev ItemSo : Item → Type 0
+  ItemSo x = P (ticket_of x)
+
+  -- what is seen of it
+  abbrev pub SeenSo : Seen → Type 0
+  SeenSo v = Each T v.waiting × Each ItemSo v.storage.items × Each (Each ItemSo) v.cut
+
+  takes_so : (t : ℕ) (holder : Option ℕ) (v : Seen) → T t → SeenSo v → SeenSo (topic.takes_in holder t v)
+  takes_so t None v p k = k
+  takes_so t (Some other) v p k = (each_insert T t v.waiting p k.0, k.1, k.2)
+
+  rest_so : (ts : List ℕ) → Each T ts → Each T (topic.rest_of ts)
+  rest_so [] k = tt
+  rest_so (t ∷ ts) k = k.1
+
+  cuts_so : (v : Seen) → SeenSo v → SeenSo (topic.cuts v)
+  cuts_so v k = (k.0, tt, each_append (Each ItemSo) v.cut (v.storage.items ∷ []) k.2 (k.1, tt))
+
+  stores_so : (x : Item) (v : Seen) → ItemSo x → SeenSo v → SeenSo (topic.stores x v)
+  stores_so x v p k =
+      let w : Seen = record v { storage = pushed x v.storage } in
+      let so : SeenSo w = (k.0, each_append ItemSo v.storage.items (x ∷ []) k.1 (p, tt), k.2) in
+      cond_so SeenSo (is_ready w.storage) (topic.cuts w) w (cuts_so w so) so
+
+  left_so : (cut : List (List Item)) (v : Seen) → Each (Each ItemSo) cut → SeenSo v → SeenSo (topic.left_of cut v)
+  left_so [] v c k = k
+  left_so (b ∷ bs) v c k = (k.0, k.1, c.1)
+
+  after_so : (act : TopicAct) (v : Seen) → ActSo act → SeenSo v → SeenSo (topic.after act v)
+  after_so (topic.Takes t) v p k = takes_so t v.holder v p k
+  after_so topic.Passes v p k = (rest_so v.waiting k.0, k.1, k.2)
+  after_so topic.Draws v p k = cond_so SeenSo (is_spent v.next) v (record v { next = v.next + 1 }) k k
+  after_so (topic.Remakes l g) v p k = k
+  after_so topic.Closes v p k = (k.0, tt, k.2)
+  after_so (topic.Stores t e) v p k = stores_so (SingleMessage t e) v p k
+  after_so (topic.Flushes t) v p k = cond_so SeenSo (is_settled v) v (topic.stores (FlushItem t) v) k (stores_so (FlushItem t) v p k)
+  after_so topic.Cuts v p k = cond_so SeenSo (is_nothing v.storage.items) v (topic.cuts v) k (cuts_so v k)
+  after_so topic.TakesBatch v p k = left_so v.cut v k.2 k
+  after_so topic.Halts v p k = (k.0, tt, tt)
+
+  seen_so : (s : Setup) (acts : List TopicAct) → Each ActSo acts → SeenSo (topic.seen s acts)
+  seen_so s [] k = (tt, tt, tt)
+  seen_so s (act ∷ acts) k = after_so act (topic.seen s acts) k.0 (seen_so s acts k.1)
+
+  -- A PLAN OF BATCHES
+
+  abbrev MemberSo : Member → Type 0
+  MemberSo (member.Message t) = P t
+  MemberSo (member.Flush t) = P t
+
+  abbrev StateSo : Batches → Type 0
+  StateSo (batching.Sending ms count s) = Each MemberSo ms
+  StateSo _ = Unit {0}
+
+  abbrev ReportSo : Report → Type 0
+  ReportSo r = P r.ticket
+
+  abbrev NewsSo : News → Type 0
+  NewsSo (news.HasBatch (Some items)) = Each ItemSo items
+  NewsSo _ = Unit {0}
+
+  members_so : (items : List Item) → Each ItemSo items → Each MemberSo (map member_of items)
+  members_so [] k = tt
+  members_so (SingleMessage t e ∷ items) k = (k.0, members_so items k.1)
+  members_so (FlushItem t ∷ items) k = (k.0, members_so items k.1)
+
+  reports_so : (i n : ℕ) (f : Fate) (ms : List Member) → Each MemberSo ms → Each ReportSo (reports_from i n f ms)
+  reports_so i n f [] k = tt
+  reports_so i n f (member.Message t ∷ ms) k = (k.0, reports_so (i + 1) n f ms k.1)
+  reports_so i n f (member.Flush t ∷ ms) k = (k.0, reports_so (i + 1) n f ms k.1)
+
+  cuts_members : (ms : List Member) → Each MemberSo ms → Each ReportSo (map cut_report ms)
+  cuts_members [] k = tt
+  cuts_members (member.Message t ∷ ms) k = (k.0, cuts_members ms k.1)
+  cuts_members (member.Flush t ∷ ms) k = (k.0, cuts_members ms k.1)
+
+  -- ANY PLAN
+
+  abbrev PlanSo : Plan → Type 0
+  PlanSo (Batching w e b) = StateSo b
+  PlanSo _ = Unit {0}
+
+  abbrev WhoSo : Who → Type 0
+  WhoSo (Call t) = P t
+  WhoSo (Consumer n t) = Unit {0}
+  WhoSo (Producer n) = Unit {0}
+
+  abbrev pub NoticeSo : Notice → Type 0
+  NoticeSo n = WhoSo n.who
+
+  abbrev TellsSo : Action → Type 0
+  TellsSo (TellAll ns) = Each NoticeSo ns
+  TellsSo _ = Unit {0}
+
+  abbrev TurnSo : Plan → Action → Type 0
+  TurnSo plan action = PlanSo plan × TellsSo action
+
+  told_to_so : (rs : List Report) → Each ReportSo rs → Each NoticeSo (map told_to rs)
+  told_to_so [] k = tt
+  told_to_so (r ∷ rs) k = (k.0, told_to_so rs k.1)
+
+  alone_so : (action : Action) → is_tell action ≡ false → TellsSo action
+  alone_so (TellAll ns) h = absurd cc
+  alone_so _ h = tt
+
+  batch_so : {w : Ways} {e : Errand} {b q : Batches} {y : News} {d : Deed} → BatchArc w e b y q d → StateSo b → NewsSo y → StateSo q × TellsSo (action_of d)
+  batch_so (taken_starts {items}) k h = (members_so items h, tt)
+  batch_so (taken_settles {items} c f) k h = (tt, told_to_so _ (reports_so 0 c f (map member_of items) (members_so items h)))
+  batch_so (batch_sends {d} x) k h = (k, alone_so (action_of d) (send_alone x))
+  batch_so (batch_settles {ms} {c} f) k h = (tt, told_to_so _ (reports_so 0 c f ms k))
+  batch_so _ k h = (tt, tt)
+
+  arc_so : {p q : Plan} {u : Outcome} {a : Action} → Arc p u q a → PlanSo p → NewsSo (news_of u) → TurnSo q a
+  arc_so (builds_on d x) k h = (tt, alone_so (action_of d) (build_alone x))
+  arc_so (sends d x) k h = (tt, alone_so (action_of d) (send_alone x))
+  arc_so (part_sends d x b) k h = (tt, alone_so (action_of d) (send_alone x))
+  arc_so (batches_go d x) k h = batch_so x k h
+  arc_so (batch_cuts {ms} rs (inl i) b) k h = (tt, told_to_so rs (subst (Each ReportSo) (sym i) (cuts_members ms k)))
+  arc_so (batch_cuts {ms} {c} rs (inr i) b) k h = (tt, told_to_so rs (subst (Each ReportSo) (sym i) (reports_so 0 c fate.Halted ms k)))
+  arc_so _ k h = (tt, tt)
+
+  begun_so : {p : Procedure} {q : Plan} {a : Action} → Begun p q a → TurnSo q a
+  begun_so begins_build = (tt, tt)
+  begun_so _ = (tt, tt)
+
+  -- ALONG A LOG in which whoever uses a topic producer is so
+
+  abbrev pub DoesSo : Act → Type 0
+  DoesSo (Does who (TakeTurn n)) = T (turn_of who)
+  DoesSo (Does who (Store n e)) = P (turn_of who)
+  DoesSo (Does who (Flush n)) = P (turn_of who)
+  DoesSo _ = Unit {0}
+
+  abbrev pub LogSo : List Entry → Type 0
+  LogSo [] = Unit {0}
+  LogSo (Begins e ∷ log) = LogSo log
+  LogSo (Then a ∷ log) = DoesSo a × LogSo log
+
+  shut_so : (n : ℕ) (ms : List ℕ) → Each ActSo (shut_by n ms)
+  shut_so n [] = tt
+  shut_so n (m ∷ ms) = each_either ActSo (n == m) (topic.Closes ∷ shut_by n ms) (shut_by n ms) (tt, shut_so n ms) (shut_so n ms)
+
+  one_act : (b : Bool) (act : TopicAct) → ActSo act → Each ActSo (cond b (act ∷ []) [])
+  one_act true act k = (k, tt)
+  one_act false act k = tt
+
+  acts_by : (v : View) (n : ℕ) (a : Act) → DoesSo a → Each ActSo (topic_acts v n a)
+  acts_by v n (Comes (Rings (Batch m))) k =
+      each_either ActSo (n == m) (rung_by (rings v.now (Batch m) v.alarms)) [] (one_act (rings v.now (Batch m) v.alarms) topic.Cuts tt) tt
+  acts_by v n (Does who (TakeTurn m)) k = one_act (n == m) (topic.Takes (turn_of who)) k
+  acts_by v n (Does who (PassTurn m)) k = one_act (n == m) topic.Passes tt
+  acts_by v n (Does who (Draw m)) k = each_either ActSo (n == m) (drawn_by (room_of v m)) [] (drawn_so (room_of v m)) tt
+    where
+      drawn_so : (r : Option Bool) → Each ActSo (drawn_by r)
+      drawn_so None = tt
+      drawn_so (Some room) = (tt, tt)
+  acts_by v n (Does who (Remake r)) k = one_act (n == r.number) (topic.Remakes r.link r.given) tt
+  acts_by v n (Does who (Store m e)) k = one_act (n == m) (topic.Stores (turn_of who) e) k
+  acts_by v n (Does who (Flush m)) k = one_act (n == m) (topic.Flushes (turn_of who)) k
+  acts_by v n (Does who (TakeBatch m)) k = one_act (n == m) topic.TakesBatch tt
+  acts_by v n (Does who StopAll) k = (tt, tt)
+  acts_by v n (Does who (Shut t)) k = shut_so n (numbers_at (v.producers.built t))
+  acts_by v n _ k = tt
+
+  acts_so : (o : Options) (n : ℕ) (log : List Entry) → LogSo log → Each ActSo (acts_on o n log)
+  acts_so o n [] k = tt
+  acts_so o n (Begins e ∷ log) k = acts_so o n log k
+  acts_so o n (Then a ∷ log) k =
+      each_either ActSo (is_some ((view o log).producers.topics n)) (topic_acts (view o log) n a ++ acts_on o n log) []
+      (each_append ActSo (topic_acts (view o log) n a) (acts_on o n log) (acts_by (view o log) n a k.0) (acts_so o n log k.1)) tt
+
+  -- a topic producer
+  pub row_so : (o : Options) (n : ℕ) (log : List Entry) (row : Topic) → IsRun o log → LogSo log → (view o log).producers.topics n ≡ Some row →
+      SeenSo row.seen
+  row_so o n log row run k is =
+      let a = topics_alone_lem o log n row run is in
+      let s : Setup = record { built = a.0; first_number = o.chosen.first_number; limits = a.1 } in
+      subst SeenSo (sym a.3) (seen_so s (acts_on o n log) (acts_so o n log k))
+
+  next_so : (cut : List (List Item)) → Each (Each ItemSo) cut → NewsSo (news.HasBatch (topic.next_of cut))
+  next_so [] k = tt
+  next_so (b ∷ bs) k = k.0
+
+  taken_so : (o : Options) (n : ℕ) (log : List Entry) (row : Option Topic) → IsRun o log → LogSo log → (view o log).producers.topics n ≡ row →
+      NewsSo (news.HasBatch (next_batch_at row))
+  taken_so o n log None run k is = tt
+  taken_so o n log (Some t) run k is = next_so t.seen.cut (row_so o n log t run k is).2
+
+  given_so : (o : Options) (log : List Entry) (action : Action) (items : Option (List Item)) → IsRun o log → LogSo log →
+      GivenBy (view o log) action (news.HasBatch items) → NewsSo (news.HasBatch items)
+  given_so o log (TakeBatch n) items run k h =
+      subst (λ x. NewsSo (news.HasBatch x)) h (taken_so o n log ((view o log).producers.topics n) run k refl)
+  given_so o log _ items run k h = absurd h
+
+  log_older : (e : Entry) (log : List Entry) → LogSo (e ∷ log) → LogSo log
+  log_older (Begins e) log k = k
+  log_older (Then a) log k = k.1
+
+  news_so : (o : Options) (log : List Entry) (w : Who) (u : Outcome) → IsRun o (Then (Told (notice w u)) ∷ log) → LogSo log → NewsSo (news_of u)
+  news_so o log w (outcome.Granted (news.HasBatch items)) run k =
+      let n : Notice = notice w (outcome.Granted (news.HasBatch items)) in
+      let g : IsGrantedBy o log n = granted_by o log n refl run in
+      let r : IsRun o (Then (Does w g.action) ∷ g.older) = subst (IsRun o) g.is_there run.0 in
+      let so : LogSo (Then (Does w g.action) ∷ g.older) = subst LogSo g.is_there k in
+      given_so o g.older g.action items r.0 so.1 (grants_given o log n g (news.HasBatch items) refl)
+  news_so o log w (outcome.Granted _) run k = tt
+  news_so o log w _ run k = tt
+
+  abbrev RunSo : Options → List Entry → Type 0
+  RunSo o log = IsRun o log × LogSo log
+
+  older_so : (o : Options) (e : Entry) (log : List Entry) → RunSo o (e ∷ log) → RunSo o log
+  older_so o e log k = (run_older o e log k.0, log_older e log k.1)
+
+  plans_so : (o : Options) (w : Who) (log : List Entry) (p : Plan) → RunSo o log → (view o log).stand w ≡ Some p → PlanSo p
+  plans_so o w =
+      stands_so o w (RunSo o) (older_so o) (λ log q. PlanSo q) (λ e log q m r s k. k) (λ log p q a r e. (begun_so {p = p} (begun_arc e)).0)
+      (λ log b u q a r s k e. (arc_so (told_arc e) k (news_so o log w u r.0 r.1.1)).0)
+
+  -- whom one tells together
+  pub tells_so : (o : Options) (log : List Entry) (w : Who) (ns : List Notice) → IsRun o (Then (Does w (TellAll ns)) ∷ log) → LogSo log → Each NoticeSo ns
+  tells_so o log w ns run k = elim (does_from o log w (TellAll ns) run) [ inl b ↦ (begun_so {p = b.procedure} (begun_arc b.leads)).1 | inr l ↦ led l ]
+    where
+      led : IsLedSo o log w (TellAll ns) → Each NoticeSo ns
+      led l =
+          let r : RunSo o (Then (Told (notice w l.outcome)) ∷ l.older) = (subst (IsRun o) l.is_there run.0, subst LogSo l.is_there k) in
+          let was : PlanSo l.before = plans_so o w l.older l.before (r.0.0, r.1.1) l.stood in
+          (arc_so (told_arc l.leads) was (news_so o l.older w l.outcome r.0 r.1.1)).1
+
+  -- who waits there, and who has stored something
+  pub waits_so : (o : Options) (n t : ℕ) (log : List Entry) (row : Topic) → IsRun o log → LogSo log → (view o log).producers.topics n ≡ Some row →
+      In t row.seen.waiting → T t
+  waits_so o n t log row run k is i = in_each T t row.seen.waiting i (row_so o n log row run k is).0
+
+  items_tickets : (xs : List Item) → Each ItemSo xs → Each P (map ticket_of xs)
+  items_tickets [] k = tt
+  items_tickets (x ∷ xs) k = (k.0, items_tickets xs k.1)
+
+  pub stored_so : (o : Options) (n t : ℕ) (log : List Entry) (row : Topic) → IsRun o log → LogSo log → (view o log).producers.topics n ≡ Some row →
+      In t (topic.stored_tickets row.seen) → P t
+  stored_so o n t log row run k is i =
+      in_each P t (map ticket_of row.seen.storage.items) i (items_tickets row.seen.storage.items (row_so o n log row run k is).1)

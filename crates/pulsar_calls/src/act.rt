@@ -2,9 +2,9 @@
 //! call, thing or event stands one level below them.
 
 use crate::content::{
-    Advice, Asking, Cause, Granted, Joined, Made, Notices, Numbers, Recalled, Remade, Said,
+    Advice, Asking, Granted, Joined, Made, Notices, Numbers, Recalled, Remade, Said,
 };
-use pulsar_addresses::content::{Address, Refusal as Failure};
+use pulsar_addresses::content::{Address, Cause, Refusal as Failure};
 use pulsar_exchange::content::{Received, Request, Subscribed};
 use pulsar_incoming::orders::Order as ConsumerOrder;
 use pulsar_outgoing::batch::Receipt;

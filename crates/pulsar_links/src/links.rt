@@ -16,9 +16,8 @@ ghost use Rattle.pulsar_links.specs.Seats.{answer_at, arrival_at, got_at, room_a
 
 use crate::due::DueMoments;
 use crate::row::Row;
-use pulsar_addresses::content::Address;
+use pulsar_addresses::content::{Address, Cause};
 use pulsar_calls::act::{Act, Arrival, End, LinkAct, Notice, Outcome, Part, Who};
-use pulsar_calls::content::Cause;
 use pulsar_calls::effect::Effect;
 use pulsar_exchange::content::Request;
 use pulsar_session::connection::Connection;

@@ -165,7 +165,7 @@ impl Links {
         Ok(())
     }
 
-    /// A link that has not ended is to be asked for a sign of life: its earlier ping does not wait.
+    /// A link that has not ended is to be pinged: its earlier ping does not wait.
     pub fn may_ping(&self, link: u64) -> bool
         ensures { result ≡ may_ping (live_in self.now.live link) }
     {
@@ -175,7 +175,7 @@ impl Links {
         }
     }
 
-    /// A link is asked for a sign of life.
+    /// A link is pinged.
     pub fn ping(&mut self, now: u64, link: u64, out: &mut Vec<Effect>) -> Result<(), NoMemory>
         ensures out { OnOk result (map shown out.new.items ≡ map shown out.old.items ++ given_at link LinkAct.Pings now (live_in self.old.live link)) }
         ensures started { OnOk result (self.new.started ≡ self.old.started) }

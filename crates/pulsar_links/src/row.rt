@@ -170,7 +170,7 @@ impl Row {
         tell_queued(alloc, &self.askers, before, after)
     }
 
-    /// It is asked for a sign of life.
+    /// It is pinged.
     pub fn ping(&mut self, now: u64, link: u64, out: &mut Vec<Effect>) -> Result<(), NoMemory>
         ensures out { OnOk result (map shown out.new.items ≡ map shown out.old.items ++ effects link LinkAct.Pings now self.old.connection) }
         ensures sees { OnOk result (Some (seat_of self.new) ≡ took LinkAct.Pings now (seat_of self.old)) }

@@ -4,3 +4,5 @@ pub mod ProducerLaws
 pub mod BatchLaws
 pub mod ConsumerLaws
 pub mod Traces
+pub mod RetryLaws
+pub mod PartLaws

@@ -37,15 +37,15 @@ untold : (share : Option Share) (q : Plan) (a : Action) → is_tell a ≡ false 
 untold share q (Tell n) h = absurd cc
 untold share q _ h = tt
 
-send_mute : {w : Ways} {e : Errand} {s q : Send} {y : News} {d : Deed} → SendArc w e s y q d → is_tell (action_of d) ≡ false
+pub send_mute : {w : Ways} {e : Errand} {s q : Send} {y : News} {d : Deed} → SendArc w e s y q d → is_tell (action_of d) ≡ false
 send_mute draws = refl
 send_mute _ = refl
 
-build_mute : {w : Ways} {o : Order} {b q : Build} {y : News} {d : Deed} → BuildArc w o b y q d → is_tell (action_of d) ≡ false
+pub build_mute : {w : Ways} {o : Order} {b q : Build} {y : News} {d : Deed} → BuildArc w o b y q d → is_tell (action_of d) ≡ false
 build_mute naming_rests = refl
 build_mute _ = refl
 
-batch_mute : {w : Ways} {e : Errand} {b q : Batches} {y : News} {d : Deed} → BatchArc w e b y q d → is_tell (action_of d) ≡ false
+pub batch_mute : {w : Ways} {e : Errand} {b q : Batches} {y : News} {d : Deed} → BatchArc w e b y q d → is_tell (action_of d) ≡ false
 batch_mute (batch_sends k) = send_mute k
 batch_mute _ = refl
 

@@ -94,7 +94,7 @@ few_starts o log who p t k = elim (cases_Bool (is_same (Call t) who)) [
   | inr e ↦ rw e (omega (arith, k))
 ]
 
-few_run : (o : Options) (log : List Entry) (t : ℕ) → Few o log t
+pub few_run : (o : Options) (log : List Entry) (t : ℕ) → Few o log t
 few_run o [] t = omega arith
 few_run o (Begins e ∷ log) t =
     subst (λ r. queued_times o t log + left_some r ≤ counted (start_of t) log) (sym (begun_same (λ v. v.stand (Call t)) e (view o log) refl)) (few_run o log t)

@@ -11,9 +11,7 @@ use Rattle.pulsar_addresses.specs.Backoff.{jitter}
 use Rattle.pulsar_searches.specs.Plans as search
 use Rattle.pulsar_searches.specs.Plans.{count_begins, count_told, look_begins, look_told, made_gets, made_told, is_retryable}
 use Rattle.pulsar_searches.specs.Replies.{fails_by, is_choice, query}
-use Rattle.pulsar_searches.specs.declared.count.Counting.{Counting}
 use Rattle.pulsar_searches.specs.declared.count.Counting.TheVariants as count
-use Rattle.pulsar_searches.specs.declared.look.Looking.{Looking}
 use Rattle.pulsar_searches.specs.declared.look.Looking.TheVariants as look
 use Rattle.pulsar_searches.specs.declared.look.Search.{Search}
 use Rattle.pulsar_searches.specs.declared.making.Command.{Command}
@@ -205,10 +203,10 @@ turn_along told (Stays s action) (o ∷ os) = turn_along told (told s o) os
 abbrev pub one_if : Bool → ℕ
 one_if b = if b then 1 else 0
 
-abbrev pub rests_along : {S A : Type 0} → (S → Bool) → (S → News → Turn S A) → Turn S A → List News → ℕ
+abbrev pub rests_along : {S A : Type 0} → (S → Wish → Bool) → (S → News → Turn S A) → Turn S A → List News → ℕ
 rests_along test told (Gives a) os = 0
-rests_along test told (Stays s action) [] = one_if (test s)
-rests_along test told (Stays s action) (o ∷ os) = one_if (test s) + rests_along test told (told s o) os
+rests_along test told (Stays s action) [] = one_if (test s action)
+rests_along test told (Stays s action) (o ∷ os) = one_if (test s action) + rests_along test told (told s o) os
 
 -- fewer retries than the options allow were made, so far as 32 bits count them; or as many
 abbrev pub MayRetry : Option ℕ → (retries : ℕ) → Type 0
@@ -224,18 +222,14 @@ abbrev pub AgainOrNot : {S A : Type 0} → Ways → (retries : ℕ) → (rests :
 AgainOrNot w n rests f turn =
     (MayRetry w.max_retries n × (turn ≡ Stays rests (wish.Wait w.retry_delay))) ⊎ (HasRetried w.max_retries n × (turn ≡ Gives (Err f)))
 
--- where a machine rests before it asks again
-abbrev pub rests_counting : Counting → Bool
-rests_counting (count.Resting n link) = true
-rests_counting _ = false
+-- A question rests where it waits; and a command does so before it looks for the broker again, which may wait for itself.
+abbrev pub is_wait : {S : Type 0} → S → Wish → Bool
+is_wait s (wish.Wait delay) = true
+is_wait s _ = false
 
-abbrev pub rests_looking : Looking → Bool
-rests_looking (look.Resting s link) = true
-rests_looking _ = false
-
-abbrev pub rests_making : Making → Bool
-rests_making (make.Retrying retry.Resting n) = true
-rests_making _ = false
+abbrev pub rests_making : Making → Wish → Bool
+rests_making (make.Retrying retry.Resting n) action = true
+rests_making _ action = false
 
 -- a reply tells that it failed since the service is not ready
 abbrev pub IsNotReady : (body fails : ℕ) → Content → Type 0
@@ -245,13 +239,13 @@ IsNotReady body fails r = (is_body body r.body ≡ true) × (fails_by (pos fails
 abbrev pub CountsAgain : Type 0
 CountsAgain = (w : Ways) (t : List ℕ) (os : List News) (again : Bool) (n l : ℕ) (a : Wish) (r : Content) →
     turn_along (count_told w t) (count_begins w t) os ≡ Stays (count.Asked again n l) a → IsNotReady 22 1 r →
-    AgainOrNot w (rests_along rests_counting (count_told w t) (count_begins w t) os) (count.Resting n l) (query r.error r.text)
+    AgainOrNot w (rests_along is_wait (count_told w t) (count_begins w t) os) (count.Resting n l) (query r.error r.text)
     (count_told w t (count.Asked again n l) (news.Replied r))
 
 abbrev pub LooksAgain : Type 0
 LooksAgain = (w : Ways) (t : List ℕ) (os : List News) (s : Search) (l : ℕ) (a : Wish) (r : Content) →
     turn_along (look_told w t) (look_begins w) os ≡ Stays (look.Asked s l) a → IsNotReady 24 2 r →
-    AgainOrNot w (rests_along rests_looking (look_told w t) (look_begins w) os) (look.Resting s l) (query r.error r.text)
+    AgainOrNot w (rests_along is_wait (look_told w t) (look_begins w) os) (look.Resting s l) (query r.error r.text)
     (look_told w t (look.Asked s l) (news.Replied r))
 
 -- and a command that makes a producer or a subscription where it failed so that another time may help.

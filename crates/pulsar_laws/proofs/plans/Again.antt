@@ -10,7 +10,7 @@ use Rattle.pulsar_laws.proofs.LinkWords.{Failure, Fault, OfConnection, Place}
 use Rattle.pulsar_frame.specs.Reply.{Reply as Content, is_body}
 use Rattle.pulsar_addresses.specs.Backoff.{allow_retry, one_more}
 use Rattle.pulsar_searches.specs.Plans as search
-use Rattle.pulsar_searches.specs.Plans.{count_begins, count_told, is_lost, is_retryable, look_begins, look_told, made_gets, made_told}
+use Rattle.pulsar_searches.specs.Plans.{count_begins, count_told, is_retryable, look_begins, look_told, made_gets, made_told}
 use Rattle.pulsar_searches.specs.Replies.{count_in, counted_of, fails_by, is_choice, is_set, place_at, place_heard, pointed_at, query}
 use Rattle.pulsar_searches.specs.declared.count.Counting.{Counting}
 use Rattle.pulsar_searches.specs.declared.count.Counting.TheVariants as count
@@ -39,27 +39,32 @@ use Rattle.pulsar_laws.proofs.Cases.{cond_so, cond_when}
 use Rattle.pulsar_laws.proofs.plans.Follow.{plans_follow_lem}
 use Rattle.pulsar_laws.proofs.plans.Waiting.{ways_are_chosen_lem}
 use Rattle.pulsar_laws.specs.Laws.{Deed, course, deeds, outcomes, ways_in}
-use Rattle.pulsar_laws.specs.RetryLaws.{AgainOrNot, CountsAgain, HasRetried, IsAllowed, LooksAgain, MakesAgain, MayRetry, QuestionsAreBounded, one_if, rests_along, rests_counting, rests_looking, rests_making, to_32, turn_along, waits_in}
+use Rattle.pulsar_laws.specs.RetryLaws.{AgainOrNot, CountsAgain, HasRetried, IsAllowed, LooksAgain, MakesAgain, MayRetry, QuestionsAreBounded, is_wait, one_if, rests_along, rests_making, to_32, turn_along, waits_in}
 
 -- ALONG WHAT A MACHINE IS TOLD
 
 -- what its states keep, by how often it rested
-abbrev Keeps : {S A : Type 0} → (S → Bool) → (S → ℕ → Type 0) → ℕ → SearchTurn S A → Type 0
-Keeps test I k (Stays s a) = I s (k + one_if (test s))
+abbrev Keeps : {S A : Type 0} → (S → Wish → Bool) → (S → ℕ → Type 0) → ℕ → SearchTurn S A → Type 0
+Keeps test I k (Stays s a) = I s (cond (test s a) (k + 1) k)
 Keeps test I k (Gives a) = Unit {0}
 
-kept : {S A : Type 0} (test : S → Bool) (told : S → News → SearchTurn S A) (I : S → ℕ → Type 0) →
+rests_on : (b : Bool) (k left : ℕ) → k + (one_if b + left) ≡ cond b (k + 1) k + left
+rests_on true k left = omega arith
+rests_on false k left = omega arith
+
+kept : {S A : Type 0} (test : S → Wish → Bool) (told : S → News → SearchTurn S A) (I : S → ℕ → Type 0) →
     ((s : S) (o : News) (k : ℕ) → I s k → Keeps test I k (told s o)) → (t : SearchTurn S A) (os : List News) (k m : ℕ) → Keeps test I k t →
     m ≡ k + rests_along test told t os → (s : S) (a : Wish) → turn_along told t os ≡ Stays s a → I s m
 kept test told I step (Gives x) os k m i e s a h = absurd cc
 kept test told I step (Stays r b) [] k m i e s a h =
-    subst (λ x. I x m) (let same : r ≡ s = cc in same) (subst (I r) (sym e) i)
+    let n : ℕ = one_if (test r b) in
+    let f : m ≡ k + n = e in
+    let g : k + (n + 0) ≡ cond (test r b) (k + 1) k + 0 = rests_on (test r b) k 0 in
+    subst (λ x. I x m) (let same : r ≡ s = cc in same) (subst (I r) (let d : cond (test r b) (k + 1) k ≡ m = omega (arith, f, g) in d) i)
 kept test told I step (Stays r b) (o ∷ os) k m i e s a h =
-    let n : ℕ = one_if (test r) in
+    let n : ℕ = cond (test r b) (k + 1) k in
     let left : ℕ = rests_along test told (told r o) os in
-    let f : m ≡ k + (n + left) = e in
-    let g : m ≡ k + n + left = omega (arith, f) in
-    kept test told I step (told r o) os (k + n) m (step r o (k + n) i) g s a h
+    kept test told I step (told r o) os n m (step r o n i) (e ∙ rests_on (test r b) k left) s a h
 
 -- so many retries, counted to the end of 32 bits
 abbrev IsNow : (n k : ℕ) → Type 0
@@ -68,9 +73,6 @@ IsNow n k = n ≡ to_32 k
 -- it rests, so often so far, and had counted one less
 abbrev IsBefore : (n k : ℕ) → Type 0
 IsBefore n k = (j : ℕ) × (k ≡ j + 1) × (n ≡ to_32 j)
-
-still : (n k : ℕ) → IsNow n k → IsNow n (k + 0)
-still n k h = subst (IsNow n) (let e : k ≡ k + 0 = omega arith in e) h
 
 rested : (n k : ℕ) → IsNow n k → IsBefore n (k + 1)
 rested n k h = (k, refl, h)
@@ -81,9 +83,6 @@ more_to most n j k e h = omega (arith, e, h)
 
 now_on : (n k : ℕ) → IsBefore n k → IsNow (one_more n) k
 now_on n k (j, e, h) = more_to (2 ^ 32 - 1) n j k e h
-
-counted_on : (n k : ℕ) → IsBefore n k → IsNow (one_more n) (k + 0)
-counted_on n k i = still (one_more n) k (now_on n k i)
 
 -- WHAT THE OPTIONS ALLOW
 
@@ -105,12 +104,21 @@ either_so w n k rests f turn e h = elim (cases_Bool (allow_retry w.max_retries n
   | inr y ↦ inr (has_retried w.max_retries n k e y, h ∙ ap (λ b. cond b (Stays rests (Wait w.retry_delay)) (Gives (Err f))) y)
 ]
 
--- and so it is of one that is told later
-held : (n k : ℕ) → IsBefore n k → IsBefore n (k + 0)
-held n k h = subst (IsBefore n) (let e : k ≡ k + 0 = omega arith in e) h
-
 none_more : (m : ℕ) → m ≡ 0 + m
 none_more m = omega arith
+
+-- a machine waits only where this is allowed, and its states keep how often it did
+abbrev WaitsSo : {S A : Type 0} → Ways → (S → ℕ → Type 0) → ℕ → SearchTurn S A → Type 0
+WaitsSo w I k (Stays s (Get p)) = I s k
+WaitsSo w I k (Stays s (Ask l request)) = I s k
+WaitsSo w I k (Stays s (Wait delay)) = MayRetry w.max_retries k × I s (k + 1)
+WaitsSo w I k (Gives a) = Unit {0}
+
+keeps_so : {S A : Type 0} (w : Ways) (I : S → ℕ → Type 0) (k : ℕ) (x : SearchTurn S A) → WaitsSo w I k x → Keeps is_wait I k x
+keeps_so w I k (Stays s (Get p)) i = i
+keeps_so w I k (Stays s (Ask l request)) i = i
+keeps_so w I k (Stays s (Wait delay)) i = i.1
+keeps_so w I k (Gives a) i = tt
 
 -- THE NUMBER OF PARTITIONS
 
@@ -120,28 +128,39 @@ module _ (w : Ways) (t : List ℕ) where
   CountSo (count.Asked again n l) k = IsNow n k
   CountSo (count.Resting n l) k = IsBefore n k
 
-  abbrev CountKeeps : ℕ → SearchTurn Counting (Result ℕ Failure) → Type 0
-  CountKeeps k x = Keeps rests_counting CountSo k x
+  abbrev CountWaits : ℕ → Heard ℕ → (n l : ℕ) → Type 0
+  CountWaits k h n l = WaitsSo w CountSo k (search.count_heard w n l h)
 
-  count_hears : (n l k : ℕ) → IsNow n k → (h : Heard ℕ) → CountKeeps k (search.count_heard w n l h)
-  count_hears n l k i (Says c) = tt
-  count_hears n l k i Later = rested n k i
-  count_hears n l k i (Denies f) = tt
+  count_allowed : (n l k : ℕ) → IsNow n k → (r : Content) → CountWaits k (count_in w n r) n l
+  unfolding count_in
+  count_allowed n l k i r =
+      cond_so (λ h. CountWaits k h n l) (is_body 22 r.body) _ _
+      (cond_so (λ h. CountWaits k h n l) (fails_by (pos 1) r.response) _ _
+      (cond_when (λ h. CountWaits k h n l) (is_choice (pos 6) r.error && allow_retry w.max_retries n) Later (Denies (query r.error r.text))
+      (λ h. (may_retry w.max_retries n k i (and_parts (is_choice (pos 6) r.error) (allow_retry w.max_retries n) h).1, rested n k i)) (λ h. tt))
+      (counted r.partitions))
+      tt
+    where
+      counted : (x : Option ℕ) → CountWaits k (counted_of r x) n l
+      counted None = tt
+      counted (Some c) = tt
 
-  count_step : (c : Counting) (o : News) (k : ℕ) → CountSo c k → CountKeeps k (count_told w t c o)
-  count_step (count.Getting again n) (news.GotLink l) k i = still n k i
-  count_step (count.Getting again n) _ k i = tt
-  count_step (count.Asked again n l) (news.Replied r) k i = count_hears n l k i (count_in w n r)
-  count_step (count.Asked again n l) o k i =
-      cond_so (CountKeeps k) (again && is_lost (search.fault_of o)) (search.count_gets w false n) (search.fails _) (still n k i) tt
-  count_step (count.Resting n l) news.Woken k i = counted_on n k i
-  count_step (count.Resting n l) _ k i = tt
+  count_waits : (c : Counting) (o : News) (k : ℕ) → CountSo c k → WaitsSo w CountSo k (count_told w t c o)
+  count_waits (count.Getting again n) (news.GotLink l) k i = i
+  count_waits (count.Getting again n) _ k i = tt
+  count_waits (count.Asked again n l) (news.Replied r) k i = count_allowed n l k i r
+  count_waits (count.Asked again n l) o k i = cond_so (WaitsSo w CountSo k) _ (search.count_gets w false n) (search.fails _) i tt
+  count_waits (count.Resting n l) news.Woken k i = now_on n k i
+  count_waits (count.Resting n l) _ k i = tt
+
+  count_starts : WaitsSo w CountSo 0 (count_begins w t)
+  count_starts = cond_so (WaitsSo w CountSo 0) (search.is_partition t) (Gives (Ok 0)) (search.count_gets w true 0) tt refl
 
   count_so : (os : List News) (again : Bool) (n l : ℕ) (a : Wish) → turn_along (count_told w t) (count_begins w t) os ≡ Stays (count.Asked again n l) a →
-      IsNow n (rests_along rests_counting (count_told w t) (count_begins w t) os)
+      IsNow n (rests_along is_wait (count_told w t) (count_begins w t) os)
   count_so os again n l a h =
-      kept rests_counting (count_told w t) CountSo count_step (count_begins w t) os 0 _
-      (cond_so (CountKeeps 0) (search.is_partition t) (Gives (Ok 0)) (search.count_gets w true 0) tt refl) (none_more _) (count.Asked again n l) a h
+      kept is_wait (count_told w t) CountSo (λ c o k i. keeps_so w CountSo k (count_told w t c o) (count_waits c o k i)) (count_begins w t) os 0 _
+      (keeps_so w CountSo 0 (count_begins w t) count_starts) (none_more _) (count.Asked again n l) a h
 
 count_denied : (w : Ways) (n : ℕ) (r : Content) → is_body 22 r.body ≡ true → fails_by (pos 1) r.response ≡ true → is_choice (pos 6) r.error ≡ true →
     count_in w n r ≡ cond (allow_retry w.max_retries n) Later (Denies (query r.error r.text))
@@ -166,31 +185,40 @@ module _ (w : Ways) (t : List ℕ) where
   LookSo (look.Resting s l) k = IsBefore s.retries k
   LookSo (look.Reaching place) k = Unit {0}
 
-  abbrev LookKeeps : ℕ → SearchTurn Looking (Result Place Failure) → Type 0
-  LookKeeps k x = Keeps rests_looking LookSo k x
+  abbrev LookWaits : ℕ → Heard Pointed → Question → (link : ℕ) → Type 0
+  LookWaits k h s l = WaitsSo w LookSo k (search.look_heard w s l h)
 
-  look_hears : (s : Question) (l k : ℕ) → IsNow s.retries k → (h : Heard Pointed) → LookKeeps k (search.look_heard w s l h)
-  look_hears s l k i (Says (Redirects place authority)) = still s.retries k i
-  look_hears s l k i (Says (Serves place)) = tt
-  look_hears s l k i Later = rested s.retries k i
-  look_hears s l k i (Denies f) = tt
+  look_allowed : (s : Question) (l k : ℕ) → IsNow s.retries k → (r : Content) → LookWaits k (place_heard w s.last.proxy s.retries r) s l
+  unfolding place_heard
+  look_allowed s l k i r =
+      cond_so (λ h. LookWaits k h s l) (is_body 24 r.body) _ _
+      (cond_so (λ h. LookWaits k h s l) (fails_by (pos 2) r.response) _ _
+      (cond_when (λ h. LookWaits k h s l) (is_choice (pos 6) r.error && allow_retry w.max_retries s.retries) Later (Denies (query r.error r.text))
+      (λ h. (may_retry w.max_retries s.retries k i (and_parts (is_choice (pos 6) r.error) (allow_retry w.max_retries s.retries) h).1, rested s.retries k i))
+      (λ h. tt))
+      (pointed (place_at w.base (s.last.proxy || is_set r.proxy) r.url)))
+      tt
+    where
+      pointed : (x : Option Place) → LookWaits k (pointed_at r.response r.authority x) s l
+      pointed None = tt
+      pointed (Some place) =
+          cond_so (λ h. LookWaits k h s l) (is_choice (pos 0) r.response) (Says (Redirects place (is_set r.authority))) (Says (Serves place)) i tt
 
-  look_step : (x : Looking) (o : News) (k : ℕ) → LookSo x k → LookKeeps k (look_told w t x o)
-  look_step (look.Getting s) (news.GotLink l) k i = still s.retries k i
-  look_step (look.Getting s) _ k i = tt
-  look_step (look.Asked s l) (news.Replied r) k i = look_hears s l k i (place_heard w s.last.proxy s.retries r)
-  look_step (look.Asked s l) o k i =
-      cond_so (LookKeeps k) (s.again && is_lost (search.fault_of o)) (search.look_gets (record s { again = false })) (search.fails _)
-      (still s.retries k i) tt
-  look_step (look.Resting s l) news.Woken k i = counted_on s.retries k i
-  look_step (look.Resting s l) _ k i = tt
-  look_step (look.Reaching place) (news.GotLink l) k i = tt
-  look_step (look.Reaching place) _ k i = tt
+  look_waits : (x : Looking) (o : News) (k : ℕ) → LookSo x k → WaitsSo w LookSo k (look_told w t x o)
+  look_waits (look.Getting s) (news.GotLink l) k i = i
+  look_waits (look.Getting s) _ k i = tt
+  look_waits (look.Asked s l) (news.Replied r) k i = look_allowed s l k i r
+  look_waits (look.Asked s l) o k i = cond_so (WaitsSo w LookSo k) _ (search.look_gets (record s { again = false })) (search.fails _) i tt
+  look_waits (look.Resting s l) news.Woken k i = now_on s.retries k i
+  look_waits (look.Resting s l) _ k i = tt
+  look_waits (look.Reaching place) (news.GotLink l) k i = tt
+  look_waits (look.Reaching place) _ k i = tt
 
   look_so : (os : List News) (s : Question) (l : ℕ) (a : Wish) → turn_along (look_told w t) (look_begins w) os ≡ Stays (look.Asked s l) a →
-      IsNow s.retries (rests_along rests_looking (look_told w t) (look_begins w) os)
+      IsNow s.retries (rests_along is_wait (look_told w t) (look_begins w) os)
   look_so os s l a h =
-      kept rests_looking (look_told w t) LookSo look_step (look_begins w) os 0 _ refl (none_more _) (look.Asked s l) a h
+      kept is_wait (look_told w t) LookSo (λ x o k i. keeps_so w LookSo k (look_told w t x o) (look_waits x o k i)) (look_begins w) os 0 _ refl (none_more _)
+      (look.Asked s l) a h
 
 look_denied : (w : Ways) (proxy : Bool) (n : ℕ) (r : Content) → is_body 24 r.body ≡ true → fails_by (pos 2) r.response ≡ true →
     is_choice (pos 6) r.error ≡ true →
@@ -232,15 +260,15 @@ module _ (w : Ways) (c : Command) where
   answers n l k (Err f) i = begun_again n k (OfConnection f) (is_retryable f && allow_retry w.max_retries n) i
 
   looked : (n k : ℕ) (x : SearchTurn Looking (Result Place Failure)) → IsBefore n k → MakeKeeps k (retried w n (search.nested x retry.Looking Gives))
-  looked n k (Stays s a) i = held n k i
-  looked n k (Gives (Ok place)) i = counted_on n k i
+  looked n k (Stays s a) i = i
+  looked n k (Gives (Ok place)) i = now_on n k i
   looked n k (Gives (Err f)) i = tt
 
   make_step : (m : Making) (o : News) (k : ℕ) → MakeSo m k → MakeKeeps k (made_told w c m o)
-  make_step (make.Getting n) (news.GotLink l) k i = still n k i
+  make_step (make.Getting n) (news.GotLink l) k i = i
   make_step (make.Getting n) _ k i = tt
   make_step (make.Asked n l) o k i = answers n l k (search.verdict c.answer o) i
-  make_step (make.Retrying retry.Resting n) news.Woken k i = held n k i
+  make_step (make.Retrying retry.Resting n) news.Woken k i = i
   make_step (make.Retrying retry.Resting n) _ k i = tt
   make_step (make.Retrying (retry.Looking l) n) o k i = looked n k (look_told w c.topic l o) i
 
@@ -279,21 +307,13 @@ module _ (w : Ways) where
   over_bounded : (k : ℕ) → IsAllowed w.max_retries k → IsAllowed w.max_retries (k + 0)
   over_bounded k a = same_allowed w.max_retries k (k + 0) (omega arith) a
 
-  -- a machine waits only where this is allowed, and its states keep how often it did
-  abbrev WaitsSo : {S A : Type 0} → (S → ℕ → Type 0) → ℕ → SearchTurn S (Result A Failure) → Type 0
-  WaitsSo I k (Stays s (Get p)) = I s k
-  WaitsSo I k (Stays s (Ask l request)) = I s k
-  WaitsSo I k (Stays s (Wait delay)) = MayRetry w.max_retries k × I s (k + 1)
-  WaitsSo I k (Gives a) = Unit {0}
-
   module _ {S A : Type 0} (I : S → ℕ → Type 0) (within : S → Search) (gives : A → SearchTurn Search (Result Answer Failure)) where
     abbrev Goes : List Outcome → Type 0
     Goes os = (s : S) (k : ℕ) → I s k → IsAllowed w.max_retries k → Bounded k (course (plan_turn.Stays (Searching w (within s)) Rest) os)
 
     goes_bounded : ((a : A) → (x : Result Answer Failure) × (gives a ≡ Gives x)) → (x : SearchTurn S (Result A Failure)) (k : ℕ) (os : List Outcome) →
-        WaitsSo I k x → IsAllowed w.max_retries k → Goes os → Bounded k (course (goes w (search.and_then x within gives)) os)
-    goes_bounded ends (Gives (Ok x)) k os i a on =
-        let e = ends x in subst (λ y. Bounded k (course (goes w y) os)) (sym e.1) (over_bounded k a)
+        WaitsSo w I k x → IsAllowed w.max_retries k → Goes os → Bounded k (course (goes w (search.and_then x within gives)) os)
+    goes_bounded ends (Gives (Ok x)) k os i a on = let e = ends x in subst (λ y. Bounded k (course (goes w y) os)) (sym e.1) (over_bounded k a)
     goes_bounded ends (Gives (Err f)) k os i a on = over_bounded k a
     goes_bounded ends (Stays s (Get p)) k [] i a on = over_bounded k a
     goes_bounded ends (Stays s (Get p)) k (o ∷ os) i a on = on s k i a
@@ -306,7 +326,7 @@ module _ (w : Ways) where
 
     on_bounded : (told : S → News → SearchTurn S (Result A Failure)) →
         ((s : S) (o : News) → search.told w (within s) o ≡ search.and_then (told s o) within gives) →
-        ((a : A) → (x : Result Answer Failure) × (gives a ≡ Gives x)) → ((s : S) (o : News) (k : ℕ) → I s k → WaitsSo I k (told s o)) →
+        ((a : A) → (x : Result Answer Failure) × (gives a ≡ Gives x)) → ((s : S) (o : News) (k : ℕ) → I s k → WaitsSo w I k (told s o)) →
         (os : List Outcome) → Goes os
     on_bounded told is ends step [] s k i a = over_bounded k a
     on_bounded told is ends step (outcome.Queued ∷ os) s k i a = on_bounded told is ends step os s k i a
@@ -318,73 +338,19 @@ module _ (w : Ways) where
         (goes_bounded ends (told s (news_in o)) k os (step s (news_in o) k i) a (on_bounded told is ends step os))
 
   module _ (t : List ℕ) where
-    abbrev CountWaits : ℕ → Heard ℕ → (n l : ℕ) → Type 0
-    CountWaits k h n l = WaitsSo (CountSo w t) k (search.count_heard w n l h)
-
-    count_allowed : (n l k : ℕ) → IsNow n k → (r : Content) → CountWaits k (count_in w n r) n l
-    unfolding count_in
-    count_allowed n l k i r =
-        cond_so (λ h. CountWaits k h n l) (is_body 22 r.body) _ _
-        (cond_so (λ h. CountWaits k h n l) (fails_by (pos 1) r.response) _ _
-        (cond_when (λ h. CountWaits k h n l) (is_choice (pos 6) r.error && allow_retry w.max_retries n) Later (Denies (query r.error r.text))
-        (λ h. (may_retry w.max_retries n k i (and_parts (is_choice (pos 6) r.error) (allow_retry w.max_retries n) h).1, rested n k i)) (λ h. tt))
-        (counted r.partitions))
-        tt
-      where
-        counted : (x : Option ℕ) → CountWaits k (counted_of r x) n l
-        counted None = tt
-        counted (Some c) = tt
-
-    count_waits : (c : Counting) (o : News) (k : ℕ) → CountSo w t c k → WaitsSo (CountSo w t) k (count_told w t c o)
-    count_waits (count.Getting again n) (news.GotLink l) k i = i
-    count_waits (count.Getting again n) _ k i = tt
-    count_waits (count.Asked again n l) (news.Replied r) k i = count_allowed n l k i r
-    count_waits (count.Asked again n l) o k i = cond_so (WaitsSo (CountSo w t) k) _ (search.count_gets w false n) (search.fails _) i tt
-    count_waits (count.Resting n l) news.Woken k i = now_on n k i
-    count_waits (count.Resting n l) _ k i = tt
-
-    abbrev LookWaits : ℕ → Heard Pointed → Question → (link : ℕ) → Type 0
-    LookWaits k h s l = WaitsSo (LookSo w t) k (search.look_heard w s l h)
-
-    look_allowed : (s : Question) (l k : ℕ) → IsNow s.retries k → (r : Content) → LookWaits k (place_heard w s.last.proxy s.retries r) s l
-    unfolding place_heard
-    look_allowed s l k i r =
-        cond_so (λ h. LookWaits k h s l) (is_body 24 r.body) _ _
-        (cond_so (λ h. LookWaits k h s l) (fails_by (pos 2) r.response) _ _
-        (cond_when (λ h. LookWaits k h s l) (is_choice (pos 6) r.error && allow_retry w.max_retries s.retries) Later (Denies (query r.error r.text))
-        (λ h. (may_retry w.max_retries s.retries k i (and_parts (is_choice (pos 6) r.error) (allow_retry w.max_retries s.retries) h).1, rested s.retries k i))
-        (λ h. tt))
-        (pointed (place_at w.base (s.last.proxy || is_set r.proxy) r.url)))
-        tt
-      where
-        pointed : (x : Option Place) → LookWaits k (pointed_at r.response r.authority x) s l
-        pointed None = tt
-        pointed (Some place) =
-            cond_so (λ h. LookWaits k h s l) (is_choice (pos 0) r.response) (Says (Redirects place (is_set r.authority))) (Says (Serves place)) i tt
-
-    look_waits : (x : Looking) (o : News) (k : ℕ) → LookSo w t x k → WaitsSo (LookSo w t) k (look_told w t x o)
-    look_waits (look.Getting s) (news.GotLink l) k i = i
-    look_waits (look.Getting s) _ k i = tt
-    look_waits (look.Asked s l) (news.Replied r) k i = look_allowed s l k i r
-    look_waits (look.Asked s l) o k i = cond_so (WaitsSo (LookSo w t) k) _ (search.look_gets (record s { again = false })) (search.fails _) i tt
-    look_waits (look.Resting s l) news.Woken k i = now_on s.retries k i
-    look_waits (look.Resting s l) _ k i = tt
-    look_waits (look.Reaching place) (news.GotLink l) k i = tt
-    look_waits (look.Reaching place) _ k i = tt
-
     -- so from their beginning
     counts_bounded : (os : List Outcome) → Bounded 0 (course (begins (procedure.Search w (sought.CountPartitions t))) os)
     counts_bounded os =
         let ends : (n : ℕ) → (x : Result Answer Failure) × (Gives (Ok (answer.Count n)) ≡ Gives x) = (λ n. (Ok (answer.Count n), refl)) in
         goes_bounded (CountSo w t) (searching.Counting t) (λ n. Gives (Ok (answer.Count n))) ends (count_begins w t) 0 os
-        (cond_so (WaitsSo (CountSo w t) 0) (search.is_partition t) (Gives (Ok 0)) (search.count_gets w true 0) tt refl) (none_waited w.max_retries)
-        (on_bounded (CountSo w t) (searching.Counting t) (λ n. Gives (Ok (answer.Count n))) (count_told w t) (λ s o. refl) ends count_waits os)
+        (count_starts w t) (none_waited w.max_retries)
+        (on_bounded (CountSo w t) (searching.Counting t) (λ n. Gives (Ok (answer.Count n))) (count_told w t) (λ s o. refl) ends (count_waits w t) os)
 
     looks_bounded : (os : List Outcome) → Bounded 0 (course (begins (procedure.Search w (sought.Look t))) os)
     looks_bounded os =
         let ends : (p : Place) → (x : Result Answer Failure) × (Gives (Ok (answer.Address p)) ≡ Gives x) = (λ p. (Ok (answer.Address p), refl)) in
         goes_bounded (LookSo w t) (searching.Looking t) (λ p. Gives (Ok (answer.Address p))) ends (look_begins w) 0 os refl (none_waited w.max_retries)
-        (on_bounded (LookSo w t) (searching.Looking t) (λ p. Gives (Ok (answer.Address p))) (look_told w t) (λ s o. refl) ends look_waits os)
+        (on_bounded (LookSo w t) (searching.Looking t) (λ p. Gives (Ok (answer.Address p))) (look_told w t) (λ s o. refl) ends (look_waits w t) os)
 
 pub questions_are_bounded_lem : QuestionsAreBounded
 questions_are_bounded_lem o log who w t run rests h = elim h [

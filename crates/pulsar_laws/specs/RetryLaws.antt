@@ -248,12 +248,13 @@ LooksAgain = (w : Ways) (t : List ℕ) (os : List News) (s : Search) (l : ℕ) (
     AgainOrNot w (rests_along is_wait (look_told w t) (look_begins w) os) (look.Resting s l) (query r.error r.text)
     (look_told w t (look.Asked s l) (news.Replied r))
 
--- and a command that makes a producer or a subscription where it failed so that another time may help.
+-- and a command that makes a producer or a subscription where it failed so that another time may help; where it failed otherwise, it is given up.
 abbrev pub MakesAgain : Type 0
 MakesAgain = (w : Ways) (c : Command) (place : Place) (os : List News) (n l : ℕ) (a : Wish) (o : News) (f : Fault) →
-    turn_along (made_told w c) (made_gets 0 place) os ≡ Stays (make.Asked n l) a → search.verdict c.answer o ≡ Err f → is_retryable f ≡ true →
-    AgainOrNot w (rests_along rests_making (made_told w c) (made_gets 0 place) os) (make.Retrying retry.Resting n) (OfConnection f)
-    (made_told w c (make.Asked n l) o)
+    turn_along (made_told w c) (made_gets 0 place) os ≡ Stays (make.Asked n l) a → search.verdict c.answer o ≡ Err f →
+    (is_retryable f ≡ true → AgainOrNot w (rests_along rests_making (made_told w c) (made_gets 0 place) os) (make.Retrying retry.Resting n) (OfConnection f)
+    (made_told w c (make.Asked n l) o))
+    × (is_retryable f ≡ false → made_told w c (make.Asked n l) o ≡ Gives (Err (OfConnection f)))
 
 -- how often one waited
 abbrev pub waits_in : List Deed → ℕ

@@ -277,15 +277,20 @@ module _ (w : Ways) (c : Command) where
   make_so place os n l a h =
       kept rests_making (made_told w c) MakeSo make_step (made_gets 0 place) os 0 _ refl (none_more _) (make.Asked n l) a h
 
+abbrev again_so : Ways → ℕ → Fault → Bool → SearchTurn Making (Result Served Failure)
+again_so w n f b = retried w n (cond b (Stays retry.Resting (Wait w.retry_delay)) (search.fails (OfConnection f)))
+
 pub makes_again_lem : MakesAgain
-makes_again_lem w c place os n l a o f h v r =
-    either_so w n _ (make.Retrying retry.Resting n) (OfConnection f) (made_told w c (make.Asked n l) o) (make_so w c place os n l a h)
-    (ap (search.made_answered w n l) v
-    ∙ ap (λ b. retried w n (cond (b && allow_retry w.max_retries n) (Stays retry.Resting (Wait w.retry_delay)) (search.fails (OfConnection f)))) r
-    ∙ begun (allow_retry w.max_retries n))
+makes_again_lem w c place os n l a o f h v = (
+  λ r. either_so w n _ (make.Retrying retry.Resting n) (OfConnection f) (made_told w c (make.Asked n l) o) (make_so w c place os n l a h)
+      (failed ∙ ap (λ b. again_so w n f (b && allow_retry w.max_retries n)) r ∙ begun (allow_retry w.max_retries n)),
+  λ r. failed ∙ ap (λ b. again_so w n f (b && allow_retry w.max_retries n)) r,
+)
   where
-    begun : (x : Bool) → retried w n (cond x (Stays retry.Resting (Wait w.retry_delay)) (search.fails (OfConnection f)))
-        ≡ cond x (Stays (make.Retrying retry.Resting n) (Wait w.retry_delay)) (Gives (Err (OfConnection f)))
+    failed : made_told w c (make.Asked n l) o ≡ again_so w n f (is_retryable f && allow_retry w.max_retries n)
+    failed = ap (search.made_answered w n l) v
+
+    begun : (x : Bool) → again_so w n f x ≡ cond x (Stays (make.Retrying retry.Resting n) (Wait w.retry_delay)) (Gives (Err (OfConnection f)))
     begun true = refl
     begun false = refl
 

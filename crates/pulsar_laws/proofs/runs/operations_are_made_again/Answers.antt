@@ -8,7 +8,7 @@ pub returns-clause-looks : goal.returns-clause-looks
 returns-clause-looks c = λ w t os s l a r h k. looks_again_lem w t os s l a r h k
 
 pub returns-clause-makes : goal.returns-clause-makes
-returns-clause-makes c = λ w d place os n l a o f h v r. makes_again_lem w d place os n l a o f h v r
+returns-clause-makes c = λ w d place os n l a o f h v. makes_again_lem w d place os n l a o f h v
 
 pub returns-clause-bounded : goal.returns-clause-bounded
 returns-clause-bounded c = λ o log who w t run rests h. questions_are_bounded_lem o log who w t run rests h

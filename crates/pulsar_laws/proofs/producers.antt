@@ -18,3 +18,4 @@ pub mod Rise
 pub mod TurnActs
 pub mod TurnRun
 pub mod Users
+pub mod Reread

@@ -1,5 +1,5 @@
 -- Each poll of a consumer that is there is answered first of all in its step, and nothing else is answered.
-use Rattle.std.proofs.Common.{◌≡◌, ◌∙◌, sym, ap, subst, ℕ, List, [], ◌∷◌, ◌++◌, refl, map, Bool, true, false, cond, append-nil, Option, Some, None}
+use Rattle.std.proofs.Common.{◌≡◌, ◌∙◌, sym, ap, subst, ℕ, List, [], ◌∷◌, ◌++◌, refl, map, Bool, true, false, cond, Option, Some, None}
 use Rattle.std.specs.List.{filter}
 use Rattle.std.specs.Option.{is_some, option_map, option_to_list}
 use Rattle.pulsar_laws.proofs.ActWords.{Act, Answers, Ask, Call, Comes, Consumer, Dials, Does, Heard, LinkAct, Polls, Producer, Said, Shown, ToLink, Who}
@@ -13,10 +13,9 @@ use Rattle.pulsar_calls.specs.Content.{Poll, Hands, Faults, FindsNothing, FindsE
 use Rattle.pulsar_calls.specs.Order.{effect_below}
 use Rattle.pulsar_calls.specs.Steps.{Step}
 use Rattle.pulsar_acts.specs.Effects.{effects, ends, retries, retries_on}
-use Rattle.pulsar_acts.specs.Run.{Rests, steps}
+use Rattle.pulsar_acts.specs.Run.{Rests}
 use Rattle.pulsar_agenda.proofs.Orders.{effect_order}
 use Rattle.pulsar_agenda.specs.Agenda.{first_of}
-use Rattle.pulsar_client.proofs.Single.{poll_comes}
 use Rattle.pulsar_consumer.specs.Topic as reader
 use Rattle.pulsar_consumer_table.specs.Consumers.{Member, polled, polled_so}
 use Rattle.pulsar_incoming.specs.declared.polled.Polled.{Polled as Answer}

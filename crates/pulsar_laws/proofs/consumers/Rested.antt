@@ -1,9 +1,7 @@
 -- How the plan of a consumer comes to rest: where it begins, where no flow is due any more, and where its subscription lives again.
-use Rattle.std.proofs.Common.{◌≡◌, ◌⊎◌, inl, inr, ◌∙◌, sym, ap, subst, ℕ, List, [], ◌∷◌, ◌++◌, refl, map, Bool, true, false, cond, Option, Some, None}
-use Rattle.std.proofs.lemmas.Bool.{cases_Bool}
-use Rattle.std.specs.Option.{is_some, option_map, option_to_list}
-use Rattle.pulsar_laws.proofs.ActWords.{Act, Action, Answers, Ask, Call, Consumer, Does, Makes, Notice, Outcome, Procedure, Producer, Rest, Revive, Starts, TakeFlow, Told, ticket_of, Verdict, Who}
-use Rattle.pulsar_laws.proofs.PlanWords.{begins, fails, Gives, Plan, Serving, Stays, told, Turn, Ways}
+use Rattle.std.proofs.Common.{◌≡◌, ◌⊎◌, inl, inr, ◌∙◌, sym, ap, subst, ℕ, List, [], ◌∷◌, ◌++◌, refl, Bool, true, false, Option, Some, None}
+use Rattle.pulsar_laws.proofs.ActWords.{Act, Action, Answers, Ask, Call, Consumer, Does, Makes, Outcome, Procedure, Producer, Rest, Revive, Starts, Told, ticket_of, Verdict, Who}
+use Rattle.pulsar_laws.proofs.PlanWords.{begins, fails, Plan, Serving, Stays, told, Ways}
 use Rattle.pulsar_laws.proofs.RunWords.{agenda, Agenda, at_once, Begins, Each, each_append, each_either, each_first, each_map, each_rest, Entry, first, follows, follows_some, is_served, IsRun, left_with, notice, Options, rest, rest_of, Then, told_some, view, View, ways_of}
 use Rattle.pulsar_laws.proofs.LinkWords.{Exhausted}
 use Rattle.pulsar_messages.specs.Words as words
@@ -19,7 +17,7 @@ use Rattle.pulsar_acts.specs.Reading.{revived_said, serves}
 use Rattle.pulsar_acts.specs.Rules.{batches_from}
 use Rattle.pulsar_laws.proofs.Cases.{none_some, some_is}
 use Rattle.pulsar_laws.proofs.calls.Same.{same_self}
-use Rattle.pulsar_laws.proofs.plans.Arcs.{Arc, lives_rests, no_flow_rests, recalled_revives, resumed_revives, serving_rests, told_arc}
+use Rattle.pulsar_plans.proofs.Arcs.{Arc, lives_rests, no_flow_rests, recalled_revives, resumed_revives, serving_rests, told_arc}
 use Rattle.pulsar_laws.proofs.plans.Batchers.{batcher_stands}
 use Rattle.pulsar_laws.proofs.plans.Left.{from_each}
 use Rattle.pulsar_laws.proofs.plans.Owned.{batcher_told, batches_begun, starts_own}

@@ -1,31 +1,30 @@
 -- Where the plan of a consumer rests, and a flow is due, it is to be told so still; so none is due at the end of a step.
-use Rattle.std.proofs.Common.{◌≡◌, ◌⊎◌, inl, inr, ◌∙◌, sym, ap, subst, ℕ, ◌==◌, List, [], ◌∷◌, ◌++◌, refl, arith, map, Bool, true, false, cond, eq-eqb, Option, Some, None}
+use Rattle.std.proofs.Common.{◌≡◌, ◌⊎◌, inl, inr, ◌∙◌, sym, ap, subst, ℕ, ◌==◌, List, [], ◌∷◌, ◌++◌, refl, arith, Bool, true, false, cond, eq-eqb, Option, Some, None}
 use Rattle.std.proofs.lemmas.Bool.{cases_Bool}
 use Rattle.std.specs.List.{sum}
 use Rattle.std.specs.Option.{is_some, option_map}
-use Rattle.pulsar_laws.proofs.ActWords.{Act, Action, Answers, Call, Comes, Consumer, Does, is_same, Notice, Outcome, Procedure, Revive, Starts, TakeFlow, Told, Verdict, Who}
-use Rattle.pulsar_laws.proofs.PlanWords.{Gives, Plan, Serving, Stays, told, Turn}
-use Rattle.pulsar_laws.proofs.RunWords.{agenda, Agenda, Begins, begun_same, consumers_after, EndsOnce, Entry, first, IsRun, notice, Options, stays, stays_some, Then, told_some, view, View}
+use Rattle.pulsar_laws.proofs.ActWords.{Act, Action, Answers, Call, Consumer, Does, is_same, Notice, Outcome, Procedure, Revive, Starts, TakeFlow, Told, Verdict, Who}
+use Rattle.pulsar_laws.proofs.PlanWords.{Gives, Plan, Stays, told, Turn}
+use Rattle.pulsar_laws.proofs.RunWords.{agenda, Agenda, Begins, begun_same, EndsOnce, Entry, first, IsRun, notice, Options, stays, stays_some, Then, told_some, view, View}
 use Rattle.pulsar_laws.proofs.LinkWords.{url_at}
 use Rattle.pulsar_consumer.specs.Laws.{asked_since}
 use Rattle.pulsar_consumer.specs.Topic.{Live, Seen, Asks, asked, behind, first_due, first_in, is_due, link_of}
 use Rattle.pulsar_calls.specs.declared.act.Outcome.TheVariants as outcome
 use Rattle.pulsar_calls.specs.declared.act.Word.TheVariants as word
 use Rattle.pulsar_plans.specs.declared.service.Service.TheVariants as service
-use Rattle.pulsar_consumer_table.specs.Consumers.{Member, flow_at, member_after, who_of}
+use Rattle.pulsar_consumer_table.specs.Consumers.{Member, flow_at, member_after}
 use Rattle.pulsar_acts.specs.Reading.{flow_said}
-use Rattle.pulsar_acts.specs.Run.{Rests}
 use Rattle.pulsar_laws.proofs.Cases.{none_some, some_is}
 use Rattle.pulsar_laws.proofs.calls.Done.{IsLeftIn, arises, first_done, none_left, stays as stays_left}
 use Rattle.pulsar_laws.proofs.calls.Same.{same_self, same_who}
 use Rattle.pulsar_laws.proofs.calls.Ticketed.{consumer_ticket}
 use Rattle.pulsar_laws.proofs.consumers.Due.{applied_number, built_due, due_to_plan, falls_due, is_waker, made_due_so, revived_due, rises}
 use Rattle.pulsar_laws.proofs.consumers.Ended.{permits_are_kept_lem}
-use Rattle.pulsar_laws.proofs.consumers.Lone.{IsKept, IsMade, IsNone, RowAfter, RowFrom, applied, begun_rows, none_after, row_from}
-use Rattle.pulsar_laws.proofs.consumers.Placed.{Takes, is_taking, takes_run, told_flow}
-use Rattle.pulsar_laws.proofs.consumers.Rested.{IsMadeBy, Revived, arc_rests, begins_made, due_is_taken, revived_run, reviving}
+use Rattle.pulsar_laws.proofs.consumers.Lone.{IsKept, IsMade, IsNone, RowFrom, applied, begun_rows, none_after, row_from}
+use Rattle.pulsar_laws.proofs.consumers.Placed.{Takes, takes_run, told_flow}
+use Rattle.pulsar_laws.proofs.consumers.Rested.{IsMadeBy, arc_rests, begins_made, due_is_taken, revived_run}
 use Rattle.pulsar_laws.proofs.consumers.Taken.{flow_none, flows_are_counted_lem}
-use Rattle.pulsar_laws.proofs.plans.Arcs.{told_arc}
+use Rattle.pulsar_plans.proofs.Arcs.{told_arc}
 use Rattle.pulsar_laws.specs.ConsumerLaws.{NoFlowIsDue, PermitsAreGranted, does_to, done_to, flows_since, is_resting, permits_of, subscription_does}
 
 abbrev said : Act → Outcome

@@ -1,21 +1,19 @@
 -- The frame that a topic producer asks for is read again: its sizes fit, and its numbers are in range.
-use Rattle.std.proofs.Common.{◌≡◌, inl, inr, ◌∙◌, sym, ap, subst, ℕ, ℤ, ◌+◌, ◌^◌, ◌<◌, nat_lt, List, [], ◌∷◌, ◌++◌, refl, arith, length, Bool, true, false, cond, Option, Some, None, Result, Ok, Err}
+use Rattle.std.proofs.Common.{◌≡◌, inl, inr, ◌∙◌, sym, subst, ℕ, ℤ, ◌+◌, ◌^◌, ◌<◌, List, [], ◌∷◌, ◌++◌, refl, arith, Bool, true, false, cond, Option, Some, None, Result, Ok, Err}
 use Rattle.std.proofs.lemmas.Bool.{cases_Bool}
 use Rattle.std.proofs.lemmas.Bool.Decides.{nat_tests}
 use Rattle.std.specs.Int.{w32}
 use Rattle.std.specs.List.{AllByRecursion}
 use Rattle.std.specs.Option.{is_some, option_to_list}
-use Rattle.std.specs.Prelude.{FitsSigned, IsTrue}
-use Rattle.std.specs.Str.{is_utf8}
-use Rattle.pulsar_laws.proofs.RunWords.{Entry, IsRun, Options, view}
+use Rattle.std.specs.Prelude.{FitsSigned}
+use Rattle.pulsar_laws.proofs.RunWords.{view}
 use Rattle.pulsar_laws.proofs.LinkWords.{answer_at, ConnectionError, is_numbered, Seat, Words}
 use Rattle.pulsar_wire.specs.Command.{with_kind}
 use Rattle.pulsar_wire.specs.Fits.{CommandInRange, InRange}
 use Rattle.pulsar_wire.specs.Row.{◌&◌}
 use Rattle.pulsar_wire.specs.Rows as rows
-use Rattle.pulsar_frame.specs.Frame.{FitsFrame, counted_bytes}
+use Rattle.pulsar_frame.specs.Frame.{FitsFrame}
 use Rattle.pulsar_frame.specs.Message.{MessageValues}
-use Rattle.pulsar_messages.specs.Content.{ProducerMessageValues}
 use Rattle.pulsar_messages.specs.Messages.{body, metadata_of}
 use Rattle.pulsar_messages.specs.Claims.{is_spent}
 use Rattle.pulsar_messages.specs.Words as words
@@ -26,7 +24,6 @@ use Rattle.pulsar_session.specs.Link.{Seen, answer_of, can_wait, drawn, fits, fr
 use Rattle.pulsar_outgoing.specs.Storage.{Item, Flush, SingleMessage, is_nothing, is_ready, pushed}
 use Rattle.pulsar_producer.specs.Topic as topic
 use Rattle.pulsar_producer.specs.Topic.{Act as Deed, Takes, Passes, Draws, Remakes, Closes, Stores, Flushes, Cuts, TakesBatch, Halts, Setup, cuts, is_settled, left_of, stores, takes_in}
-use Rattle.pulsar_producer_table.specs.declared.table.Topic.{Topic}
 use Rattle.pulsar_laws.proofs.Cases.{cond_so}
 use Rattle.pulsar_laws.proofs.links.Queued.{read_so}
 use Rattle.pulsar_laws.proofs.producers.Drawing.{Drawn, drawn_run, here}

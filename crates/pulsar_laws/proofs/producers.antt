@@ -19,3 +19,6 @@ pub mod TurnActs
 pub mod TurnRun
 pub mod Users
 pub mod Reread
+pub mod Texts
+pub mod TextReplies
+pub mod Named

@@ -5,7 +5,6 @@ use Rattle.std.specs.List.{list_any}
 use Rattle.std.specs.Map.{lookup}
 use Rattle.std.specs.Ordering.{nat_cmp}
 use Rattle.std.specs.Option.{is_some, option_map}
-use Rattle.std.specs.Str.{is_utf8}
 use Rattle.pulsar_run.specs.Laws.{In}
 use Rattle.pulsar_wire.specs.declared.error.ConnectionError.TheVariants as error
 use Rattle.pulsar_wire.specs.declared.key.RequestKey.TheVariants as key
@@ -156,11 +155,12 @@ IsTyped now s name m =
     × AreBytes (covered_bytes (record { metadata = metadata_of now name s m; bytes = m.payload }))
 
 -- And whoever decodes it reads the message: its payload, and what it says of that, under the producer's name and the number. Its sizes fit, since it
--- was queued, or stands in the line; and so do the numbers of the producer and of the message, of which none is drawn beyond 64 bits.
+-- was queued, or stands in the line; so do the numbers of the producer and of the message, of which none is drawn beyond 64 bits; and the name is a
+-- text, since a reply of the broker said it.
 abbrev pub FramesAreReadAgain : Type 0
 FramesAreReadAgain = (o : Options) (log : List Entry) (l n s : ℕ) (name : List ℕ) (m : ProducerMessageValues) (block : Bool) (place : Asked) (row : Topic)
     (behind : List ℕ) →
-    o.chosen.first_number < 2 ^ 64 → IsRun o log → (view o log).producers.topics n ≡ Some row → row.seen.next ≡ s + 1 → is_utf8 name ≡ true →
+    o.chosen.first_number < 2 ^ 64 → IsRun o log → (view o log).producers.topics n ≡ Some row → row.seen.next ≡ s + 1 → row.seen.given.name ≡ name →
     answer_at (view o log).now (words.Send n name s m block) ((view o log).links.live l) ≡ Ok place → IsTyped (view o log).now s name m →
     (id : ℕ) × (read : MessageValues)
     × (front (frame_bytes (message_of id (view o log).now (words.Send n name s m block)) ++ behind) ≡ Whole read behind)

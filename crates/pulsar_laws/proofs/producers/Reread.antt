@@ -28,6 +28,8 @@ use Rattle.pulsar_laws.proofs.Cases.{cond_so}
 use Rattle.pulsar_laws.proofs.links.Queued.{read_so}
 use Rattle.pulsar_laws.proofs.producers.Drawing.{Drawn, drawn_run, here}
 use Rattle.pulsar_laws.proofs.producers.Free.{low_run}
+use Rattle.pulsar_laws.proofs.producers.Named.{names_are_texts}
+use Rattle.pulsar_laws.proofs.producers.Texts.{IsText}
 use Rattle.pulsar_laws.proofs.producers.Topics.{topics_alone_lem}
 use Rattle.pulsar_laws.specs.ProducerLaws.{FramesAreReadAgain, acts_on}
 
@@ -106,8 +108,9 @@ send_in_range n s count p q r = (refl, ((p, tt), ((q, tt), (r, tt))))
 -- THE LAW
 
 pub frames_are_read_again_lem : FramesAreReadAgain
-frames_are_read_again_lem o log l n s name m block place row behind low run is next text answer typed =
+frames_are_read_again_lem o log l n s name m block place row behind low run is next called answer typed =
     let now : ℕ = (view o log).now in
+    let text : IsText name = subst IsText called (names_are_texts o log n row run is) in
     let request : Words = words.Send n name s m block in
     let f = answered_fits place now request ((view o log).links.live l) answer in
     let drawn_so = here (Drawn o) log (drawn_run o log run) in

@@ -6,7 +6,7 @@ use Rattle.std.specs.BTreeSet.{insert_key}
 use Rattle.std.specs.List.{flat_map, list_any}
 use Rattle.std.specs.Option.{is_some, option_map, option_to_list}
 use Rattle.std.specs.Ordering.{nat_cmp}
-use Rattle.pulsar_laws.proofs.ActWords.{Act, Answers, Arrival, Ask, Asked, Call, Calls, Comes, Consumer, Does, Ends, FailConsumer, FindConsumer, lacks_tickets, Makes, Notice, opens, Polls, Producer, Reads, Revive, shares, StopAll, TakeFlow, TakeNumber, ticket_of, Told, ToLink, Verdict, Who}
+use Rattle.pulsar_laws.proofs.ActWords.{Act, Answers, Arrival, Ask, Asked, Call, Calls, Comes, Consumer, Does, Ends, FailConsumer, FindConsumer, is_same, lacks_tickets, Makes, Notice, opens, Polls, Producer, Reads, Revive, shares, StopAll, TakeFlow, TakeNumber, ticket_of, Told, ToLink, Verdict, Who, Word}
 use Rattle.pulsar_laws.proofs.RunWords.{Arises, Begins, begun_same, consumers_after, consumers_made, Entry, In, InOne, joins, may_call, member_on, Options, rules, Then, turned, view, View}
 use Rattle.pulsar_laws.proofs.LinkWords.{answer_at, arrival_at, closed_consumer, closing, Failure, Fault, is_asked, is_body, Reply, Seat, url_at}
 use Rattle.url.specs.Parts.{Parts}
@@ -14,7 +14,7 @@ use Rattle.pulsar_exchange.specs.Request.{named_consumer}
 use Rattle.pulsar_exchange.specs.declared.content.Subscribed.{Subscribed}
 use Rattle.pulsar_consumer.specs.Frames.{failed, frame_in}
 use Rattle.pulsar_consumer.specs.Topic as reader
-use Rattle.pulsar_consumer.specs.Topic.{Act as Done, Lives, Hears, Loses, Fails, Ends as Over, Polls as Polled, Asks, Live, Seen, after, asked, behind, ends as reader_ends, first_due, first_in, is_due, is_ended, lives_on, loses}
+use Rattle.pulsar_consumer.specs.Topic.{Act as Done, Lives, Hears, Loses, Fails, Ends as Over, Polls as Polled, Asks, Live, Seen, after, asked, behind, ends as reader_ends, first_due, first_in, is_due, is_ended, lives_on, loses, resubscribes}
 use Rattle.pulsar_incoming.specs.declared.polled.Ending.TheVariants.{Closed, LinkLost, NotSubscribed, TopicEnded}
 use Rattle.pulsar_calls.specs.Content as content
 use Rattle.pulsar_calls.specs.declared.act.Arrival.TheVariants as arrivals
@@ -141,6 +141,14 @@ module _ (t : ℕ) where
   made_new live who makes.Client n cs h = inl h
   made_new live who (makes.Producer b) n cs h = inl h
 
+  other_has : (v : View) (a : Act) → ((who : Who) (verdict : Verdict) → a ≡ Answers who verdict → is_same (Call t) who ≡ false) →
+      ((m : Member) → v.consumers.rows t ≡ Some m → Has' v.consumers) → (n : Member) → (consumers_after v a).rows t ≡ Some n → Has' (consumers_after v a)
+  other_has v a other k n h = by (v.consumers.rows t) refl
+    where
+      by : (row : Option Member) → v.consumers.rows t ≡ row → Has' (consumers_after v a)
+      by None e = absurd (none_some (sym (none_after v t a other e) ∙ h))
+      by (Some m) e = after_has v a (k m e)
+
   has_on : (v : View) (a : Act) → ((m : Member) → v.consumers.rows t ≡ Some m → Has' v.consumers) → (n : Member) →
       (consumers_after v a).rows t ≡ Some n → Has' (consumers_after v a)
   has_on v (Answers who verdict) k n h =
@@ -150,11 +158,7 @@ module _ (t : ℕ) where
         | inl e ↦ after_has v (Answers who verdict) (k n e)
         | inr e ↦ ap (has t) (left_tickets who cs) ∙ e
       ]
-  has_on v a k n h = by (v.consumers.rows t) refl
-    where
-      by : (row : Option Member) → v.consumers.rows t ≡ row → Has' (consumers_after v a)
-      by None e = absurd (none_some (sym (none_after v t a (λ who verdict f. absurd cc) e) ∙ h))
-      by (Some m) e = after_has v a (k m e)
+  has_on v a k n h = other_has v a (λ who verdict f. absurd cc) k n h
 
   pub has_ticket : (o : Options) (log : List Entry) (m : Member) → (view o log).consumers.rows t ≡ Some m → In t (view o log).consumers.tickets
   has_ticket o log m h = in_has t (view o log).consumers.tickets (along log m h)
@@ -268,27 +272,33 @@ opened_in n [] i = absurd i
 opened_in n (x ∷ ns) i = inl (told_in n (x ∷ ns) i)
 
 -- a frame makes one due only with word of that
-frame_word : (l : ℕ) (r : Reply) (m : Member) → is_due (hears_frame l r m).seen ≡ true → (word_of_frame l r m ≡ Some word.Due) ⊎ (is_due m.seen ≡ true)
-frame_word l r m h = elim (cases_Bool (is_body 9 r.content.body)) [
-  | inl e ↦ elim (cases_Bool (lives_on l m.seen)) [
-    | inl on ↦
-        inl (ap (λ b. cond b (word_if (lives_on l m.seen && is_due (hears_frame l r m).seen) word.Due) _) e
-        ∙ ap (λ b. word_if (b && is_due (hears_frame l r m).seen) word.Due) on ∙ ap (λ b. word_if b word.Due) h)
-    | inr off ↦
-        inr (sym (ap (λ b. is_due (cond b (member_after (Hears l (frame_in r)) m) _).seen) e
-        ∙ ap (λ b. is_due (cond b (record m.seen { engine = reader.hears (frame_in r) m.seen.engine }) m.seen)) off) ∙ h)
-  ]
-  | inr e ↦ inr (other (is_body 27 r.content.body) (is_body 16 r.content.body) (sym (ap (λ b. is_due (cond b (member_after (Hears l (frame_in r)) m) _).seen) e) ∙ h))
-]
-  where
-    ended : (b : Bool) → is_due (cond b (member_after (Over TopicEnded) m) m).seen ≡ true → is_due m.seen ≡ true
-    ended true k = absurd cc
-    ended false k = k
+module _ (l : ℕ) (r : Reply) (m : Member) where
+  ended_due : (b : Bool) → is_due (cond b (member_after (Over TopicEnded) m) m).seen ≡ true → is_due m.seen ≡ true
+  ended_due true k = absurd cc
+  ended_due false k = k
 
-    other : (b c : Bool) → is_due (cond b (ends_on l TopicEnded m) (cond c (member_after (Loses l) m) m)).seen ≡ true → is_due m.seen ≡ true
-    other true c k = ended (lives_on l m.seen) k
-    other false true k = falls_loses l m.seen k
-    other false false k = k
+  abbrev heard_by : (a b c : Bool) → Member
+  heard_by a b c = cond a (member_after (Hears l (frame_in r)) m) (cond b (ends_on l TopicEnded m) (cond c (member_after (Loses l) m) m))
+
+  abbrev worded_by : (a b c : Bool) → Option Word
+  worded_by a b c =
+      cond a (word_if (lives_on l m.seen && is_due (heard_by a b c).seen) word.Due)
+      (cond b (word_if (resubscribes l m.seen) (word.TopicEnded l)) (cond c (word_if (resubscribes l m.seen) word.Lost) None))
+
+  message_word : (on : Bool) → lives_on l m.seen ≡ on → is_due (member_after (Hears l (frame_in r)) m).seen ≡ true →
+      (word_if (lives_on l m.seen && is_due (member_after (Hears l (frame_in r)) m).seen) word.Due ≡ Some word.Due) ⊎ (is_due m.seen ≡ true)
+  message_word true e h =
+      inl (ap (λ b. word_if (b && is_due (member_after (Hears l (frame_in r)) m).seen) word.Due) e ∙ ap (λ b. word_if b word.Due) h)
+  message_word false e h = inr (sym (ap (λ b. is_due (cond b (record m.seen { engine = reader.hears (frame_in r) m.seen.engine }) m.seen)) e) ∙ h)
+
+  frame_by : (a b c : Bool) → is_due (heard_by a b c).seen ≡ true → (worded_by a b c ≡ Some word.Due) ⊎ (is_due m.seen ≡ true)
+  frame_by true b c h = message_word (lives_on l m.seen) refl h
+  frame_by false true c h = inr (ended_due (lives_on l m.seen) h)
+  frame_by false false true h = inr (falls_loses l m.seen h)
+  frame_by false false false h = inr h
+
+  frame_word : is_due (hears_frame l r m).seen ≡ true → (word_of_frame l r m ≡ Some word.Due) ⊎ (is_due m.seen ≡ true)
+  frame_word h = frame_by (is_body 9 r.content.body) (is_body 27 r.content.body) (is_body 16 r.content.body) h
 
 heard_word : (l : ℕ) (a : Arrival) (m : Member) → is_due (hears l a m).seen ≡ true → (word_of l a m ≡ Some word.Due) ⊎ (is_due m.seen ≡ true)
 heard_word l (arrivals.Gives n r) m h = by (m.seen.number == n) h

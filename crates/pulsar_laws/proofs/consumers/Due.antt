@@ -1,11 +1,11 @@
 -- A flow that falls due is told to the plan of its consumer.
-use Rattle.std.proofs.Common.{◌≡◌, ◌⊎◌, inl, inr, ◌∙◌, sym, ap, subst, ℕ, ◌==◌, ◌||◌, ◌&&◌, List, [], ◌∷◌, ◌++◌, refl, arith, map, Bool, true, false, cond, eq-eqb, Option, Some, None}
+use Rattle.std.proofs.Common.{◌≡◌, ◌⊎◌, inl, inr, ◌∙◌, sym, ap, subst, ℕ, ◌==◌, ◌||◌, ◌&&◌, List, [], ◌∷◌, ◌++◌, refl, arith, map, Bool, true, false, cond, nat_lt, Option, Some, None}
 use Rattle.std.proofs.lemmas.Bool.{cases_Bool, eqb-true}
-use Rattle.std.proofs.lemmas.Bool.Decides.{nat_tests}
 use Rattle.std.specs.BTreeSet.{insert_key}
-use Rattle.std.specs.List.{flat_map, list_any}
+use Rattle.std.specs.List.{flat_map}
 use Rattle.std.specs.Option.{is_some, option_map, option_to_list}
-use Rattle.std.specs.Ordering.{nat_cmp}
+use Rattle.std.specs.Ordering.{match_ordering, nat_cmp}
+use Rattle.std.specs.declared.cmp.Ordering.TheVariants.{Less, Equal, Greater}
 use Rattle.pulsar_laws.proofs.ActWords.{Act, Answers, Arrival, Ask, Asked, Call, Calls, Comes, Consumer, Does, Ends, FailConsumer, FindConsumer, is_same, lacks_tickets, Makes, Notice, opens, Polls, Producer, Reads, Revive, shares, StopAll, TakeFlow, TakeNumber, ticket_of, Told, ToLink, Verdict, Who, Word}
 use Rattle.pulsar_laws.proofs.RunWords.{Arises, Begins, begun_same, consumers_after, consumers_made, Entry, In, InOne, joins, may_call, member_on, Options, rules, Then, turned, view, View}
 use Rattle.pulsar_laws.proofs.LinkWords.{answer_at, arrival_at, closed_consumer, closing, Failure, Fault, is_asked, is_body, Reply, Seat, url_at}
@@ -40,26 +40,26 @@ use Rattle.pulsar_laws.specs.ConsumerLaws.{does_to, loss_does, subscription_does
 
 -- THE TICKETS of all consumers are known
 
-abbrev has : ℕ → List ℕ → Bool
-has t ts = list_any (λ u. u == t) ts
+in_new : (t : ℕ) (ts : List ℕ) → In t (insert_key nat_cmp ts t)
+in_new t [] = inl refl
+in_new t (x ∷ xs) = by (nat_lt t x) (t == x) refl (in_new t xs)
+  where
+    by : (a b : Bool) → (t == x) ≡ b → In t (insert_key nat_cmp xs t) →
+        In t (match_ordering (cond a Less (cond b Equal Greater)) (t ∷ x ∷ xs) (x ∷ xs) (x ∷ insert_key nat_cmp xs t))
+    by true b e k = inl refl
+    by false true e k = inl (eqb-true t x e)
+    by false false e k = inr k
 
-has_new : (t : ℕ) (ts : List ℕ) → has t (insert_key nat_cmp ts t) ≡ true
-has_new t [] = ap (λ b. b || false) (eq-eqb t t refl)
-has_new t (x ∷ xs) = grind (arith, nat_tests, has_new t xs)
-
-has_kept : (t u : ℕ) (ts : List ℕ) → has t ts ≡ true → has t (insert_key nat_cmp ts u) ≡ true
-has_kept t u [] h = absurd cc
-has_kept t u (x ∷ xs) h = elim (cases_Bool (x == t)) [
-  | inl e ↦ grind (arith, nat_tests, e)
-  | inr e ↦ (let k : has t xs ≡ true = sym (ap (λ b. b || has t xs) e) ∙ h in grind (arith, nat_tests, has_kept t u xs k, k, e))
-]
-
-in_has : (t : ℕ) (ts : List ℕ) → has t ts ≡ true → In t ts
-in_has t [] h = absurd cc
-in_has t (x ∷ xs) h = elim (cases_Bool (x == t)) [
-  | inl e ↦ inl (sym (eqb-true x t e))
-  | inr e ↦ inr (in_has t xs (sym (ap (λ b. b || has t xs) e) ∙ h))
-]
+in_kept : (t u : ℕ) (ts : List ℕ) → In t ts → In t (insert_key nat_cmp ts u)
+in_kept t u [] i = absurd i
+in_kept t u (x ∷ xs) i = by (nat_lt u x) (u == x) i (in_kept t u xs)
+  where
+    by : (a b : Bool) → In t (x ∷ xs) → (In t xs → In t (insert_key nat_cmp xs u)) →
+        In t (match_ordering (cond a Less (cond b Equal Greater)) (u ∷ x ∷ xs) (x ∷ xs) (x ∷ insert_key nat_cmp xs u))
+    by true b i k = inr i
+    by false true i k = i
+    by false false (inl e) k = inl e
+    by false false (inr i) k = inr (k i)
 
 names_tickets : (number : Option ℕ) (cs : Consumers) → (names_in number cs).tickets ≡ cs.tickets
 names_tickets None cs = refl
@@ -90,10 +90,10 @@ left_tickets (Producer n) cs = refl
 
 module _ (t : ℕ) where
   abbrev Has' : Consumers → Type 0
-  Has' cs = has t cs.tickets ≡ true
+  Has' cs = In t cs.tickets
 
   joins_has : (who : Who) (m : Member) (cs : Consumers) → Has' cs → Has' (joins_as who m cs)
-  joins_has (Call u) m cs h = has_kept t u cs.tickets h
+  joins_has (Call u) m cs h = in_kept t u cs.tickets h
   joins_has (Consumer n u) m cs h = h
   joins_has (Producer n) m cs h = h
 
@@ -106,13 +106,15 @@ module _ (t : ℕ) where
 
   after_has : (v : View) (a : Act) → Has' v.consumers → Has' (consumers_after v a)
   after_has v (Comes (Calls asked advice)) h =
-      ap (has t) (called_tickets (lacks_tickets v.calls.drawn (shares asked)) (may_call v.calls) asked v.consumers) ∙ h
+      subst (In t) (sym (called_tickets (lacks_tickets v.calls.drawn (shares asked)) (may_call v.calls) asked v.consumers)) h
   after_has v (Does who (TakeNumber wanted)) h =
-      ap (has t)
+      subst (In t)
+      (sym
       (drew_tickets (next_free v.consumers) wanted (holds (ticket_of who) (numbering v.consumers wanted) v.consumers)
-      ∙ holds_tickets (ticket_of who) (numbering v.consumers wanted) v.consumers) ∙ h
+      ∙ holds_tickets (ticket_of who) (numbering v.consumers wanted) v.consumers)) h
   after_has v (Answers who verdict) h =
-      ap (has t) (left_tickets who (consumers_made v.links.live who verdict.makes v.consumers)) ∙ made_has v.links.live who verdict.makes v.consumers h
+      subst (In t) (sym (left_tickets who (consumers_made v.links.live who verdict.makes v.consumers)))
+      (made_has v.links.live who verdict.makes v.consumers h)
   after_has v (Comes (ToLink l Reads)) h = h
   after_has v (Comes (ToLink l (Ends end))) h = h
   after_has v (Comes (Polls u)) h = h
@@ -127,7 +129,7 @@ module _ (t : ℕ) where
   -- one that joins
   joins_new : (who : Who) (m n : Member) (cs : Consumers) → (joins_as who m cs).rows t ≡ Some n → (cs.rows t ≡ Some n) ⊎ Has' (joins_as who m cs)
   joins_new (Call u) m n cs h = elim (cases_Bool (t == u)) [
-    | inl e ↦ inr (subst (λ x. has t (insert_key nat_cmp cs.tickets x) ≡ true) (eqb-true t u e) (has_new t cs.tickets))
+    | inl e ↦ inr (subst (λ x. In t (insert_key nat_cmp cs.tickets x)) (eqb-true t u e) (in_new t cs.tickets))
     | inr e ↦ inl (rw e at h)
   ]
   joins_new (Consumer k u) m n cs h = inl h
@@ -156,19 +158,16 @@ module _ (t : ℕ) where
       let made : cs.rows t ≡ Some n = sym (ap (λ f. f t) (left_rows who cs)) ∙ h in
       elim (made_new v.links.live who verdict.makes n v.consumers made) [
         | inl e ↦ after_has v (Answers who verdict) (k n e)
-        | inr e ↦ ap (has t) (left_tickets who cs) ∙ e
+        | inr e ↦ subst (In t) (sym (left_tickets who cs)) e
       ]
   has_on v a k n h = other_has v a (λ who verdict f. absurd cc) k n h
 
   pub has_ticket : (o : Options) (log : List Entry) (m : Member) → (view o log).consumers.rows t ≡ Some m → In t (view o log).consumers.tickets
-  has_ticket o log m h = in_has t (view o log).consumers.tickets (along log m h)
-    where
-      along : (log : List Entry) (m : Member) → (view o log).consumers.rows t ≡ Some m → has t (view o log).consumers.tickets ≡ true
-      along [] m h = absurd (none_some h)
-      along (Begins e ∷ log) m h =
-          let same = begun_same (λ v. v.consumers) e (view o log) refl in
-          ap (λ cs. has t cs.tickets) same ∙ along log m (sym (ap (λ cs. cs.rows t) same) ∙ h)
-      along (Then a ∷ log) m h = has_on (view o log) a (λ n e. along log n e) m h
+  has_ticket o [] m h = absurd (none_some h)
+  has_ticket o (Begins e ∷ log) m h =
+      let same = begun_same (λ v. v.consumers) e (view o log) refl in
+      subst (λ (cs : Consumers). In t cs.tickets) (sym same) (has_ticket o log m (sym (ap (λ (cs : Consumers). cs.rows t) same) ∙ h))
+  has_ticket o (Then a ∷ log) m h = has_on (view o log) a (λ n e. has_ticket o log n e) m h
 
 -- ITS NUMBER stays
 

@@ -1,5 +1,5 @@
 -- A flow that falls due is told to the plan of its consumer.
-use Rattle.std.proofs.Common.{◌≡◌, ◌⊎◌, inl, inr, ◌∙◌, sym, ap, subst, ℕ, ◌==◌, ◌||◌, ◌&&◌, List, [], ◌∷◌, ◌++◌, refl, arith, map, Bool, true, false, cond, nat_lt, Option, Some, None}
+use Rattle.std.proofs.Common.{◌≡◌, ◌⊎◌, inl, inr, ◌∙◌, sym, ap, subst, ℕ, ◌==◌, ◌&&◌, List, [], ◌∷◌, ◌++◌, refl, map, Bool, true, false, cond, nat_lt, Option, Some, None}
 use Rattle.std.proofs.lemmas.Bool.{cases_Bool, eqb-true}
 use Rattle.std.specs.BTreeSet.{insert_key}
 use Rattle.std.specs.List.{flat_map}

@@ -1,7 +1,6 @@
 -- Where each arrival is finished no frame that is begun costs any permits, and at least half of the batch size is left.
 use Rattle.std.proofs.Common.{◌≡◌, inl, inr, ◌∙◌, ap, subst, ℕ, ◌+◌, ◌-◌, ◌≤◌, ◌==◌, nat_lt, List, [], ◌∷◌, ◌++◌, refl, arith, append-nil, length, drop, true, false, cond, eq-eqb, Some}
-use Rattle.std.proofs.lemmas.Bool.{cases_Bool}
-use Rattle.std.proofs.lemmas.Bool.Decides.{nat_tests}
+use Rattle.std.proofs.lemmas.Bool.{cases_Bool, le-ltb}
 use Rattle.std.proofs.lemmas.List.{length-append}
 use Rattle.std.specs.Option.{option_map}
 use Rattle.pulsar_consumer.specs.Frames.{Frame}
@@ -17,12 +16,9 @@ begun_all : (room : ℕ) (fs : List Frame) → length (items_of fs) ≤ room →
 begun_all room [] h = refl
 begun_all room (f ∷ fs) h =
     let both : length (f.items ++ items_of fs) ≡ length f.items + length (items_of fs) = length-append f.items (items_of fs) in
-    let fits : nat_lt room (length f.items) ≡ false = low both in
+    let fits : nat_lt room (length f.items) ≡ false = le-ltb room (length f.items) (omega (arith, both, h)) in
     ap (λ b. f ∷ cond b [] (begun_in (room - length f.items) fs)) fits
     ∙ ap (λ z. f ∷ z) (begun_all (room - length f.items) fs (omega (arith, both, h)))
-  where
-    low : length (f.items ++ items_of fs) ≡ length f.items + length (items_of fs) → nat_lt room (length f.items) ≡ false
-    low both = let le : length f.items ≤ room = omega (arith, both, h) in grind (arith, nat_tests)
 
 items_end : (fs : List Frame) (f : Frame) → length (items_of (fs ++ f ∷ [])) ≡ length (items_of fs) + length f.items
 items_end [] f = let e : length (f.items ++ []) ≡ length f.items = ap length (append-nil f.items) in omega (arith, e)

@@ -1,6 +1,6 @@
 -- The frame that a topic producer asks for is read again: its sizes fit, and its numbers are in range.
-use Rattle.std.proofs.Common.{◌≡◌, inl, inr, ◌∙◌, sym, subst, ℕ, ℤ, ◌+◌, ◌^◌, ◌<◌, List, [], ◌∷◌, ◌++◌, refl, arith, Bool, true, false, cond, Option, Some, None, Result, Ok, Err}
-use Rattle.std.proofs.lemmas.Bool.{cases_Bool}
+use Rattle.std.proofs.Common.{◌≡◌, inl, inr, ◌∙◌, sym, subst, ℕ, ℤ, ◌+◌, ◌^◌, ◌<◌, List, [], ◌∷◌, ◌++◌, length, refl, arith, Bool, true, false, cond, Option, Some, None, Result, Ok, Err}
+use Rattle.std.proofs.lemmas.Bool.{cases_Bool, ltb-true}
 use Rattle.std.proofs.lemmas.Bool.Decides.{nat_tests}
 use Rattle.std.specs.Int.{w32}
 use Rattle.std.specs.List.{AllByRecursion}
@@ -12,7 +12,7 @@ use Rattle.pulsar_wire.specs.Command.{with_kind}
 use Rattle.pulsar_wire.specs.Fits.{CommandInRange, InRange}
 use Rattle.pulsar_wire.specs.Row.{◌&◌}
 use Rattle.pulsar_wire.specs.Rows as rows
-use Rattle.pulsar_frame.specs.Frame.{FitsFrame}
+use Rattle.pulsar_frame.specs.Frame.{FitsFrame, counted_bytes}
 use Rattle.pulsar_frame.specs.Message.{MessageValues}
 use Rattle.pulsar_messages.specs.Messages.{body, metadata_of}
 use Rattle.pulsar_messages.specs.Claims.{is_spent}
@@ -60,17 +60,20 @@ answered_fits p now request (Some seat) h =
 
 fits_frame : (m : MessageValues) → fits m ≡ true → FitsFrame m
 unfolding FitsFrame
-fits_frame m h = grind (arith, nat_tests)
+fits_frame m h = ltb-true (length (counted_bytes m)) (2 ^ 32) h
 
 -- ITS NUMBERS ARE IN RANGE
 
 abbrev IsLow : topic.Seen → Type 0
 IsLow v = v.next < 2 ^ 64
 
+more_low : (n : ℕ) → n < 2 ^ 64 → is_spent n ≡ false → n + 1 < 2 ^ 64
+more_low n h e = grind (arith, nat_tests)
+
 draws_low : (v : topic.Seen) → IsLow v → IsLow (topic.draws v)
 draws_low v h = elim (cases_Bool (is_spent v.next)) [
   | inl e ↦ subst (λ b. IsLow (cond b v (record v { next = v.next + 1 }))) (sym e) h
-  | inr e ↦ subst (λ b. IsLow (cond b v (record v { next = v.next + 1 }))) (sym e) (grind (arith, nat_tests))
+  | inr e ↦ subst (λ b. IsLow (cond b v (record v { next = v.next + 1 }))) (sym e) (more_low v.next h e)
 ]
 
 stores_low : (x : Item) (v : topic.Seen) → IsLow v → IsLow (stores x v)

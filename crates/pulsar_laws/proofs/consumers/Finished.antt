@@ -16,9 +16,10 @@ begun_all : (room : ℕ) (fs : List Frame) → length (items_of fs) ≤ room →
 begun_all room [] h = refl
 begun_all room (f ∷ fs) h =
     let both : length (f.items ++ items_of fs) ≡ length f.items + length (items_of fs) = length-append f.items (items_of fs) in
-    let fits : nat_lt room (length f.items) ≡ false = le-ltb room (length f.items) (omega (arith, both, h)) in
+    let all : length (f.items ++ items_of fs) ≤ room = h in
+    let fits : nat_lt room (length f.items) ≡ false = le-ltb room (length f.items) (omega (arith, both, all)) in
     ap (λ b. f ∷ cond b [] (begun_in (room - length f.items) fs)) fits
-    ∙ ap (λ z. f ∷ z) (begun_all (room - length f.items) fs (omega (arith, both, h)))
+    ∙ ap (λ z. f ∷ z) (begun_all (room - length f.items) fs (omega (arith, both, all)))
 
 items_end : (fs : List Frame) (f : Frame) → length (items_of (fs ++ f ∷ [])) ≡ length (items_of fs) + length f.items
 items_end [] f = let e : length (f.items ++ []) ≡ length f.items = ap length (append-nil f.items) in omega (arith, e)
@@ -38,7 +39,7 @@ stuck [] e h = ap (λ b. cond b (finish e) e) h
 stuck (f ∷ fs) e h = ap (λ b. cond b (goes_on fs (next_of f fs e)) e) h
 
 -- one more frame without items
-bare : Frame
+abbrev bare : Frame
 bare = record { weight = 0; items = [] }
 
 module _ (s : Setup) (h : List Done) (l : Live) (live : (seen s h).engine.live ≡ Some l) (done : IsFinished s h) where

@@ -42,7 +42,7 @@ use Rattle.pulsar_calls.specs.declared.act.Makes.TheVariants as makes
 use Rattle.pulsar_calls.specs.declared.act.Outcome.TheVariants as outcome
 use Rattle.pulsar_plans.specs.Plan.{builds, goes_on_sending, halted, leaves, makes_of}
 use Rattle.pulsar_plans.specs.declared.plan.Plan.TheVariants.{Sending}
-use Rattle.pulsar_plans.proofs.Arcs.{Arc, Begun, BegunEnd, End, answers, begins_asking, begins_none, builds_on, by_arcs, by_begun, departs_asks, got_asks, produced, queued_waits, stands_on}
+use Rattle.pulsar_plans.proofs.Arcs.{Arc, Begun, BegunEnd, End, answers, batches_go, begins_asking, begins_none, builds_on, by_arcs, by_begun, departs_asks, got_asks, part_sends, produced, queued_waits, sends, stands_on}
 use Rattle.pulsar_laws.proofs.Cases.{cond_so, none_some, some_is}
 use Rattle.pulsar_laws.proofs.Lists.{in_each}
 use Rattle.pulsar_laws.proofs.calls.Caused.{outcomes_are_caused_lem}
@@ -174,10 +174,10 @@ send_good : (w : Ways) (e : Errand) (s : Send) (y : News) → GoodNews y → Sen
 send_good w e (send.Waiting m) (news.HasTurn v) g = tt
 send_good w e (send.Waiting m) _ g = tt
 send_good w e (send.Drawing m) (news.Drew d) g = tt
-send_good w e (send.Drawing m) y g = not_drawn_good e m _
+send_good w e (send.Drawing m) y g = not_drawn_good e m (produce.fault_told y)
 send_good w e (send.Asked k) news.Queued g = tt
 send_good w e (send.Asked k) news.InLine g = tt
-send_good w e (send.Asked k) y g = not_queued_good e k _
+send_good w e (send.Asked k) y g = not_queued_good e k (produce.fault_told y)
 send_good w e send.Sent (news.Told x) g = receipt_good (search.verdict 7 x)
 send_good w e send.Sent _ g = tt
 send_good w e (send.Recalling m) (news.Recalled c) g = looks_good e m c (search.look_begins w)
@@ -298,6 +298,9 @@ is_special _ = false
 
 arc_good : {p q : Plan} {u : Outcome} {a : Action} → Arc p u q a → is_special p ≡ false → PlanGood p → PlanGood q × ActGood a
 arc_good (builds_on d b) n k = absurd cc
+arc_good (sends d b) n k = absurd cc
+arc_good (part_sends d b s) n k = absurd cc
+arc_good (batches_go d b) n k = absurd cc
 arc_good (got_asks {request} {s} {l}) n k = (asked_none l (subscribed request), tt)
 arc_good queued_waits n k = (k, tt)
 arc_good stands_on n k = (k, tt)

@@ -50,7 +50,8 @@ content_texts bytes m h =
     let same : b.first ≡ m.command = ok_command c.first b.first c.is_then in
     subst HasTexts same (command_texts a.first.0 b.first (or_refused_is reason.Command (command_reading a.first.0) b.first b.is_first))
   where
-    ok_command : (payload : Option PayloadValues) (c : CommandValues) → Ok (record { command = c; payload = payload }) ≡ Ok m → c ≡ m.command
+    ok_command : (payload : Option PayloadValues) (c : CommandValues) → ◌≡◌ {A = Result MessageValues Reason} (Ok (record { command = c; payload = payload })) (Ok m) →
+        c ≡ m.command
     ok_command payload c h = let e : record { command = c; payload = payload } ≡ m = cc in ap (λ (x : MessageValues). x.command) e
 
 front_texts : (bytes rest : List ℕ) (m : MessageValues) → front bytes ≡ Whole m rest → HasTexts m.command

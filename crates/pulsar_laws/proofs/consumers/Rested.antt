@@ -148,7 +148,7 @@ served_none (Starts who p) h = absurd cc
 served_none _ h = refl
 
 abbrev is_verdict : Act → Bool
-is_verdict (Answers who verdict) = true
+is_verdict (Answers w verdict) = true
 is_verdict _ = false
 
 raised_none : (a b : Act) → is_verdict a ≡ false → IsRaised a b → NoService b

@@ -123,7 +123,7 @@ module _ (once : EndsOnce) (o : Options) (log : List Entry) (t : ℕ) (was : Ten
     told_own u (Some q) p run stood h rests = by (told q u) refl h
       where
         other : (due_to_plan n.seen.number t ≡ Told (notice who u) → ⊥) → Tells o n.seen.number t log → Tells o n.seen.number t (Then (Told (notice who u)) ∷ log)
-        other no k = left_behind o log n.seen.number t (Told (notice who u)) run no k
+        other differs k = left_behind o log n.seen.number t (Told (notice who u)) run differs k
 
         goes : (x : Plan) (action : Action) → told q u ≡ Stays x action → is_resting x ≡ true → Tells o n.seen.number t (Then (Told (notice who u)) ∷ log)
         goes x action leads r = elim (arc_rests (told_arc leads) r) [

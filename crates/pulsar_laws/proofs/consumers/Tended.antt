@@ -1,5 +1,5 @@
 -- Where the plan of a consumer rests, and a flow is due, it is to be told so still; so none is due at the end of a step.
-use Rattle.std.proofs.Common.{◌≡◌, ◌⊎◌, inl, inr, ◌∙◌, sym, ap, subst, ℕ, ◌==◌, List, [], ◌∷◌, ◌++◌, refl, arith, Bool, true, false, cond, eq-eqb, Option, Some, None}
+use Rattle.std.proofs.Common.{◌≡◌, inl, inr, ◌∙◌, sym, ap, subst, ℕ, ◌==◌, List, [], ◌∷◌, refl, arith, Bool, true, false, cond, eq-eqb, Option, Some, None}
 use Rattle.std.proofs.lemmas.Bool.{cases_Bool}
 use Rattle.std.specs.List.{sum}
 use Rattle.std.specs.Option.{is_some, option_map}
@@ -11,7 +11,6 @@ use Rattle.pulsar_consumer.specs.Laws.{asked_since}
 use Rattle.pulsar_consumer.specs.Topic.{Live, Seen, Asks, asked, behind, first_due, first_in, is_due, link_of}
 use Rattle.pulsar_calls.specs.declared.act.Outcome.TheVariants as outcome
 use Rattle.pulsar_calls.specs.declared.act.Word.TheVariants as word
-use Rattle.pulsar_plans.specs.declared.service.Service.TheVariants as service
 use Rattle.pulsar_consumer_table.specs.Consumers.{Member, flow_at, member_after}
 use Rattle.pulsar_acts.specs.Reading.{flow_said}
 use Rattle.pulsar_laws.proofs.Cases.{none_some, some_is}

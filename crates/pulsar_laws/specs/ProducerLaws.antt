@@ -158,11 +158,11 @@ IsTyped now s name m =
 -- was queued, or stands in the line; so do the numbers of the producer and of the message, of which none is drawn beyond 64 bits; and the name is a
 -- text, since a reply of the broker said it.
 abbrev pub FramesAreReadAgain : Type 0
-FramesAreReadAgain = (o : Options) (log : List Entry) (l n s : ℕ) (name : List ℕ) (m : ProducerMessageValues) (block : Bool) (place : Asked) (row : Topic)
-    (behind : List ℕ) →
+FramesAreReadAgain = (o : Options) (log : List Entry) (id l n s : ℕ) (name : List ℕ) (m : ProducerMessageValues) (block : Bool) (place : Asked)
+    (row : Topic) (behind : List ℕ) →
     o.chosen.first_number < 2 ^ 64 → IsRun o log → (view o log).producers.topics n ≡ Some row → row.seen.next ≡ s + 1 → row.seen.given.name ≡ name →
     answer_at (view o log).now (words.Send n name s m block) ((view o log).links.live l) ≡ Ok place → IsTyped (view o log).now s name m →
-    (id : ℕ) × (read : MessageValues)
+    (read : MessageValues)
     × (front (frame_bytes (message_of id (view o log).now (words.Send n name s m block)) ++ behind) ≡ Whole read behind)
     × (read.payload ≡ Some (record { metadata = metadata_of (view o log).now name s m; bytes = m.payload }))
 

@@ -110,7 +110,7 @@ send_in_range n s count p q r = (refl, ((p, tt), ((q, tt), (r, tt))))
 -- THE LAW
 
 pub frames_are_read_again_lem : FramesAreReadAgain
-frames_are_read_again_lem o log l n s name m block place row behind low run is next called answer typed =
+frames_are_read_again_lem o log id l n s name m block place row behind low run is next called answer typed =
     let now : ℕ = (view o log).now in
     let text : IsText name = subst IsText called (names_are_texts o log n row run is) in
     let request : Words = words.Send n name s m block in
@@ -124,12 +124,6 @@ frames_are_read_again_lem o log l n s name m block place row behind low run is n
     let producer : n < 2 ^ 64 = omega (arith, below, most) in
     let sequence : s < 2 ^ 64 = omega (arith, all, next) in
     let said : InRange rows.message_metadata (metadata_of 0 [] 0 m) = typed.1 in
-    let again =
-    read_so f.0 now n s name m block behind (fits_frame (message_of f.0 now request) f.1)
+    read_so id now n s name m block behind (fits_frame (message_of id now request) f.1)
     (send_in_range n s m.num_messages_in_batch producer sequence said.1.1.1.1.1.1.1.1.1.0)
-    (((text, tt), ((sequence, tt), ((typed.0, tt), said.1.1.1))), typed.2) in (
-      f.0,
-      again.0,
-      again.1,
-      again.2,
-    )
+    (((text, tt), ((sequence, tt), ((typed.0, tt), said.1.1.1))), typed.2)

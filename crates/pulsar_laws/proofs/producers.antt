@@ -18,3 +18,7 @@ pub mod Rise
 pub mod TurnActs
 pub mod TurnRun
 pub mod Users
+pub mod Reread
+pub mod Texts
+pub mod TextReplies
+pub mod Named

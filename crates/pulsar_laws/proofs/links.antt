@@ -13,3 +13,5 @@ pub mod Early
 pub mod Ready
 pub mod Receipts
 pub mod Queued
+pub mod Ending
+pub mod Settling

@@ -62,7 +62,7 @@ not_queued : (l : ℕ) (e : Shown) → is_queue l e ≡ false → queued_on l e 
 not_queued l (Queued k place bytes) h = rw h refl
 not_queued l _ h = refl
 
-only_tested : {A B : Type 0} (f : A → List B) (test : A → Bool) → ((x : A) → test x ≡ false → f x ≡ []) → (xs : List A) →
+pub only_tested : {A B : Type 0} (f : A → List B) (test : A → Bool) → ((x : A) → test x ≡ false → f x ≡ []) → (xs : List A) →
     flat_map f (filter test xs) ≡ flat_map f xs
 only_tested f test none [] = refl
 only_tested f test none (x ∷ xs) = elim (cases_Bool (test x)) [
@@ -79,7 +79,7 @@ none_tied test x alike (y ∷ ys) = elim (cases_Bool (test y)) [
   | inr e ↦ rw e (none_tied test x alike ys)
 ]
 
-tied_order : (test : Shown → Bool) → ((x y : Shown) → test x ≡ true → test y ≡ true → effect_below y x ≡ false) → (xs : List Shown) →
+pub tied_order : (test : Shown → Bool) → ((x y : Shown) → test x ≡ true → test y ≡ true → effect_below y x ≡ false) → (xs : List Shown) →
     InOrder effect_below (filter test xs)
 tied_order test alike [] = tt
 tied_order test alike (x ∷ xs) = elim (cases_Bool (test x)) [

@@ -14,4 +14,5 @@ pub mod Ready
 pub mod Receipts
 pub mod Queued
 pub mod Ending
+pub mod Late
 pub mod Settling

@@ -5,7 +5,7 @@ use Rattle.std.proofs.lemmas.Bool.Decides.{nat_tests}
 use Rattle.std.proofs.lemmas.Grind.{common_steps, flat_map-append}
 use Rattle.std.specs.List.{cons_option, filter_map, flat_map}
 use Rattle.std.specs.Option.{is_some, option_map, option_to_list}
-use Rattle.pulsar_laws.proofs.ActWords.{Answers, Ask, Bytes, Call, Comes, Consumer, Dials, Does, Drains, End, Ends, LinkAct, Opens, Overdue, Pings, Polls, Producer, Queued, Reads, Said, Shown, ToLink, Who}
+use Rattle.pulsar_laws.proofs.ActWords.{Answers, Ask, Bytes, Call, Comes, Consumer, Dials, Does, Drains, End, Ends, LinkAct, Opens, Pings, Polls, Producer, Queued, Reads, Said, Shown, ToLink, Who}
 use Rattle.pulsar_laws.proofs.RunWords.{Begins, calls_of, Chosen, Each, Entry, Options, rules, Then, turned, Turned, view}
 use Rattle.pulsar_laws.proofs.LinkWords.{closed_by, Fault, Pause, Seat, Words}
 use Rattle.pulsar_frame.specs.Frame.{Front, Short, Refused, Whole, front}
@@ -14,7 +14,7 @@ use Rattle.pulsar_frame.specs.Key.{key}
 use Rattle.pulsar_frame.specs.Message.{MessageValues}
 use Rattle.pulsar_wire.specs.declared.key.RequestKey.{RequestKey}
 use Rattle.pulsar_wire.specs.declared.key.RequestKey.TheVariants as keys
-use Rattle.pulsar_requests.specs.Waits.{Pending, is_some_due, places, request_at}
+use Rattle.pulsar_requests.specs.Waits.{Pending, places}
 use Rattle.pulsar_session.specs.Answers.{answers, is}
 use Rattle.pulsar_session.specs.declared.states.Stage.{Stage}
 use Rattle.pulsar_session.specs.declared.states.Stage.TheVariants.{Dialing, Handshaking, Ready, Over}
@@ -42,25 +42,17 @@ use Rattle.pulsar_acts.specs.View.{setup}
 use Rattle.pulsar_agenda.proofs.Orders.{effect_order}
 use Rattle.pulsar_run.proofs.Orders.{kinds_in_order_lem}
 use Rattle.pulsar_run.specs.Run.{in_order, steps_done, with_effects}
-use Rattle.pulsar_laws.specs.Laws.{call_at, dialed_with, has_come, is_late}
+use Rattle.pulsar_laws.specs.Laws.{call_at, dialed_with}
 use Rattle.pulsar_laws.specs.LinkLaws.{SettledAsTold, SettledOnce, and_then, settled_at, settled_so, settles_at, told_at, told_of}
 use Rattle.pulsar_laws.proofs.Cases.{cond_so, none_some, some_is}
 use Rattle.pulsar_laws.proofs.links.Alone.{Made, alone}
 use Rattle.pulsar_laws.proofs.links.Ending.{undialed}
+use Rattle.pulsar_laws.proofs.links.Late.{late_same}
 use Rattle.pulsar_laws.proofs.links.OfLink.{IsOf, given_of}
 use Rattle.pulsar_laws.proofs.links.Written.{only_tested, tied_order}
 
 one_place : (l j k place p q : ℕ) → (l == j) ≡ true → (p == place) ≡ true → (l == k) ≡ true → (q == place) ≡ true → is_before3 (1, k, q) (1, j, p) ≡ false
 one_place l j k place p q a b c d = grind (arith, nat_tests, common_steps)
-
--- a deadline has come for a request where it is overdue
-come_same : (now : ℕ) (v : Seen) (r : Option Pending) → is_some_due now v.waits.excused r ≡ has_come now v.waits r
-come_same now v None = refl
-come_same now v (Some r) = refl
-
-late_same : (end : End) (now : ℕ) (v : Seen) (place : ℕ) → times_out end now v place ≡ is_late end now v place
-late_same (Overdue below) now v place = ap (λ b. nat_lt place below && b) (come_same now v (request_at place v.waits.waiting))
-late_same end now v place = refl
 
 -- THE REQUEST OF A PLACE
 

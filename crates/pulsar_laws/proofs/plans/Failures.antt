@@ -18,7 +18,8 @@ use Rattle.pulsar_calls.specs.declared.act.Says.TheVariants as says
 use Rattle.pulsar_calls.specs.Content as content
 use Rattle.pulsar_laws.proofs.Lists.{in_append, in_each}
 use Rattle.pulsar_laws.proofs.Cases.{cond_so}
-use Rattle.pulsar_laws.specs.Laws.{FailuresAreTold, IsToldBy, OutcomesAreCaused, outcomes}
+use Rattle.pulsar_laws.proofs.calls.Causes.{IsToldBy, OutcomesAreCaused}
+use Rattle.pulsar_laws.specs.Laws.{FailuresAreTold, outcomes}
 use Rattle.pulsar_outgoing.specs.Batch.{entry_of}
 use Rattle.pulsar_producer_table.specs.Producers.{Producers, batches_in, errand_of, numbers_at, routed, why_not}
 use Rattle.pulsar_acts.specs.Rules.{order_of, produces_by}
@@ -188,7 +189,7 @@ start_made o log who p run =
     let g = agenda o log in
     each_first StartsMade g.now g.here g.behind g.parts (Starts who p) served_made (due_made o log run.0) run.1
 
-started_made : (o : Options) (log : List Entry) (w : Who) (p : Procedure) → IsRun o log → started w log ≡ Some p → IsMade p
+pub started_made : (o : Options) (log : List Entry) (w : Who) (p : Procedure) → IsRun o log → started w log ≡ Some p → IsMade p
 started_made o [] w p run h = absurd cc
 started_made o (Begins e ∷ log) w p run h = started_made o log w p run.0 h
 started_made o (Then (Starts who q) ∷ log) w p run h = elim (cases_Bool (is_same w who)) [
@@ -249,7 +250,7 @@ module _ (o : Options) (caused : OutcomesAreCaused) where
     | inr (inr none) ↦ absurd none
   ]
 
-  outcomes_proper : (w : Who) (log : List Entry) → IsRun o log → (u : Outcome) → In u (outcomes w log) → is_proper u ≡ true
+  pub outcomes_proper : (w : Who) (log : List Entry) → IsRun o log → (u : Outcome) → In u (outcomes w log) → is_proper u ≡ true
   outcomes_proper w [] run u i = absurd i
   outcomes_proper w (Begins e ∷ log) run u i = outcomes_proper w log run.0 u i
   outcomes_proper w (Then (Starts who p) ∷ log) run u i = elim (cases_Bool (is_same w who)) [

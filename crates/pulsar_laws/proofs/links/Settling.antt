@@ -403,7 +403,7 @@ module _ (l place : ℕ) where
         let same : m.setup ≡ s = some_is (sym m.dialed ∙ d) in
         let f = k.0 s d in
         let g = call_few s (calls_of o l log) seat.seen (settled_so x (view o log).now seat.seen place) (call_of x (view o log).now seat.seen)
-            (m.same ∙ ap (λ t. session.seen t (calls_of o l log)) same) in
+        (m.same ∙ ap (λ t. session.seen t (calls_of o l log)) same) in
         omega (arith, f, g),
     λ d. absurd (none_some (sym d ∙ (alone o log l seat h).dialed)),
   )

@@ -18,7 +18,7 @@ use Rattle.pulsar_laws.proofs.calls.Causes.{Cause as Told', IsToldBy}
 use Rattle.pulsar_laws.proofs.calls.Same.{same_self}
 use Rattle.pulsar_laws.proofs.calls.Sources.{step_runs, step_some}
 use Rattle.pulsar_laws.proofs.calls.Telling.{no_tell}
-use Rattle.pulsar_laws.proofs.plans.Arcs.{Arc, Begun, batches_go, begins_leaving, begins_send, begins_storing, begun_arc, builds_on, part_fails, part_halts, part_sends, part_stores, part_tells, sends, told_arc}
+use Rattle.pulsar_plans.proofs.Arcs.{Arc, Begun, batches_go, begins_leaving, begins_send, begins_storing, begun_arc, builds_on, part_fails, part_halts, part_sends, part_stores, part_tells, sends, told_arc}
 use Rattle.pulsar_laws.proofs.plans.Batchers.{batcher_does}
 use Rattle.pulsar_laws.proofs.plans.Consuming.{is_modest}
 use Rattle.pulsar_laws.proofs.plans.Failing.{begins_holds, leaves_so}
@@ -27,7 +27,7 @@ use Rattle.pulsar_laws.proofs.plans.Fitting.{is_settling}
 use Rattle.pulsar_laws.proofs.plans.Follow.{follows_run}
 use Rattle.pulsar_laws.proofs.plans.Granted.{BeginsSo, IsLedSo, does_from, in_each, tell_said, tell_settling}
 use Rattle.pulsar_laws.proofs.plans.Parted.{is_store, parts_run}
-use Rattle.pulsar_laws.proofs.plans.ProducerArcs.{SendArc, queued, sent_rests}
+use Rattle.pulsar_producer.proofs.Arcs.{SendArc, queued, sent_rests}
 use Rattle.pulsar_laws.proofs.plans.Servers.{server_does}
 use Rattle.pulsar_laws.proofs.plans.Sharing.{batch_mute, build_mute, is_tell, send_mute}
 use Rattle.pulsar_laws.proofs.plans.Standing.{moves, stands_so}

@@ -5,14 +5,9 @@ use Rattle.pulsar_laws.proofs.PlanWords.{action_of, Batches, Batching, begins, B
 use Rattle.pulsar_calls.specs.declared.act.Outcome.TheVariants as outcome
 use Rattle.pulsar_plans.specs.declared.plan.Plan.TheVariants.{Sending}
 use Rattle.pulsar_laws.proofs.Cases.{none_some}
-<<<<<<< HEAD
 pub use Rattle.pulsar_laws.specs.CauseLaws.{share_in}
-use Rattle.pulsar_laws.proofs.plans.Arcs.{Arc, BatchArc, Begun, StaysSo, batch_sends, batches_go, begins_by, begins_leaving, begins_send, begins_storing, builds_on, part_fails, part_halts, part_sends, part_stores, part_tells, sends, stays_by}
-use Rattle.pulsar_laws.proofs.plans.ProducerArcs.{BuildArc, SendArc, draws, naming_rests}
-=======
 use Rattle.pulsar_plans.proofs.Arcs.{Arc, BatchArc, Begun, StaysSo, batch_sends, batches_go, begins_by, begins_leaving, begins_send, begins_storing, builds_on, part_fails, part_halts, part_sends, part_stores, part_tells, sends, stays_by}
 use Rattle.pulsar_producer.proofs.Arcs.{BuildArc, SendArc, draws, naming_rests}
->>>>>>> 94ab9f96ffcb8baa5905ff2e2ba85bc12a8cd47a
 
 -- of which call a plan is a part
 abbrev pub shares_of : Plan → Option Share

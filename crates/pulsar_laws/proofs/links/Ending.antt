@@ -94,8 +94,14 @@ unstarted l n b e = ap (λ x. x && b) (late l n e)
     late : (l n : ℕ) → (l == n) ≡ true → nat_lt l n ≡ false
     late l n e = grind (arith, nat_tests)
 
+up : (l n : ℕ) → nat_lt l n ≡ true → nat_lt l (n + 1) ≡ true
+up l n h = grind (arith, nat_tests)
+
+down : (l n : ℕ) → (l == n) ≡ false → nat_lt l n ≡ false → nat_lt l (n + 1) ≡ false
+down l n e h = grind (arith, nat_tests)
+
 next_started : (l n : ℕ) → (l == n) ≡ false → nat_lt l (n + 1) ≡ nat_lt l n
-next_started l n e = grind (arith, nat_tests)
+next_started l n e = elim (cases_Bool (nat_lt l n)) [ inl t ↦ up l n t ∙ sym t | inr f ↦ down l n e f ∙ sym f ]
 
 none_before : (l : ℕ) → nat_lt l 0 ≡ false
 none_before l = grind (arith, nat_tests)

@@ -392,17 +392,24 @@ module _ (l place : ℕ) where
       subst (λ xs. length (all o log) ≤ length xs) (sym same) (k.0 s d)
   mute_few o log act false mute k s d = k.0 s d
 
+  -- what a link is told, and the calls of its connection
+  abbrev Told : Options → List Entry → List Settlement → List Act' → Type 0
+  Told o log told calls =
+      ((s : Setup) → dialed_with o l log ≡ Some s → length told + length (all o log) ≤ length (told_ever s place (calls ++ calls_of o l log) []))
+      × (dialed_with o l log ≡ None → length told + length (all o log) ≤ 0)
+
   link_few : (o : Options) (log : List Entry) (x : LinkAct) (row : Option Seat) → (view o log).links.live l ≡ row → Few o log →
-      ((s : Setup) → dialed_with o l log ≡ Some s →
-      length (told_at x (view o log).now place row) + length (all o log) ≤ length (told_ever s place (call_at x (view o log).now row ++ calls_of o l log) []))
-      × (dialed_with o l log ≡ None → length (told_at x (view o log).now place row) + length (all o log) ≤ 0)
-  link_few o log x None h k = (λ s d. let f = k.0 s d in omega (arith, f), λ d. let f = k.1 d in omega (arith, f))
+      Told o log (told_at x (view o log).now place row) (call_at x (view o log).now row)
+  link_few o log x None h k = k
   link_few o log x (Some seat) h k = (
     λ s d.
+        let now : ℕ = (view o log).now in
         let m : Made (dialed_with o l log) (calls_of o l log) seat.seen = alone o log l seat h in
         let same : m.setup ≡ s = some_is (sym m.dialed ∙ d) in
-        let f = k.0 s d in
-        let g = call_few s (calls_of o l log) seat.seen (settled_so x (view o log).now seat.seen place) (call_of x (view o log).now seat.seen)
+        let f : length (all o log) ≤ length (told_ever s place (calls_of o l log) []) = k.0 s d in
+        let g : length (told_at x now place (Some seat)) + length (told_ever s place (calls_of o l log) [])
+        ≤ length (told_ever s place (call_at x now (Some seat) ++ calls_of o l log) []) =
+        call_few s (calls_of o l log) seat.seen (settled_so x now seat.seen place) (call_of x now seat.seen)
         (m.same ∙ ap (λ t. session.seen t (calls_of o l log)) same) in
         omega (arith, f, g),
     λ d. absurd (none_some (sym d ∙ (alone o log l seat h).dialed)),
@@ -410,13 +417,27 @@ module _ (l place : ℕ) where
 
   to_link_few : (o : Options) (log : List Entry) (k : ℕ) (x : LinkAct) → Few o log → Few o (Then (Comes (ToLink k x)) ∷ log)
   to_link_few o log k x few =
-      let told : List Settlement = told_at x (view o log).now place ((view o log).links.live l) in
-      let g = link_few o log x ((view o log).links.live l) refl few in
-      let t = then_few told (told_of o l place log) in
-      elim (cases_Bool (l == k)) [
-        | inl e ↦ rw e (λ s d. (let f = g.0 s d in omega (arith, f, t)), λ d. (let f = g.1 d in omega (arith, f, t)))
-        | inr e ↦ rw e few
+      elim (l == k) as
+      (λ b. ((s : Setup) → dialed_with o l log ≡ Some s →
+      length (flat_map (λ xs. xs) (cond b (and_then told (told_of o l place log)) (told_of o l place log)))
+      ≤ length (told_ever s place (cond b (calls ++ calls_of o l log) (calls_of o l log)) []))
+      × (dialed_with o l log ≡ None →
+      length (flat_map (λ xs. xs) (cond b (and_then told (told_of o l place log)) (told_of o l place log))) ≤ 0)) [
+        | true ↦ (λ s d. let f = g.0 s d in omega (arith, f, t), λ d. let f = g.1 d in omega (arith, f, t))
+        | false ↦ few
       ]
+    where
+      told : List Settlement
+      told = told_at x (view o log).now place ((view o log).links.live l)
+
+      calls : List Act'
+      calls = call_at x (view o log).now ((view o log).links.live l)
+
+      g : Told o log told calls
+      g = link_few o log x ((view o log).links.live l) refl few
+
+      t : length (flat_map (λ xs. xs) (and_then told (told_of o l place log))) ≤ length told + length (all o log)
+      t = then_few told (told_of o l place log)
 
   late : (l n : ℕ) → (l == n) ≡ true → nat_lt l n ≡ false
   late l n e = grind (arith, nat_tests)
@@ -425,12 +446,14 @@ module _ (l place : ℕ) where
       ((s : Setup) → cond (l == (view o log).links.started) (Some new) (dialed_with o l log) ≡ Some s →
       length (all o log) ≤ length (told_ever s place (cond (l == (view o log).links.started) [] (calls_of o l log)) []))
       × (cond (l == (view o log).links.started) (Some new) (dialed_with o l log) ≡ None → length (all o log) ≤ 0)
-  dials_few o log new few = elim (cases_Bool (l == (view o log).links.started)) [
-    | inl e ↦
-        (let none : length (all o log) ≤ 0 = few.1 (undialed o log l (late l (view o log).links.started e)) in
-        rw e (λ s d. none, λ d. none))
-    | inr e ↦ rw e few
-  ]
+  dials_few o log new few = by (l == (view o log).links.started) (λ e. few.1 (undialed o log l (late l (view o log).links.started e)))
+    where
+      by : (b : Bool) → (b ≡ true → length (all o log) ≤ 0) →
+          ((s : Setup) → cond b (Some new) (dialed_with o l log) ≡ Some s →
+          length (all o log) ≤ length (told_ever s place (cond b [] (calls_of o l log)) []))
+          × (cond b (Some new) (dialed_with o l log) ≡ None → length (all o log) ≤ 0)
+      by true none = (λ s d. none refl, λ d. none refl)
+      by false none = few
 
   few_run : (o : Options) (log : List Entry) → Few o log
   few_run o [] = (λ s d. absurd (none_some d), λ d. omega arith)

@@ -522,3 +522,55 @@ module _ (l : ℕ) (bytes : List ℕ) (v : View) where
           by true e f = cc
           by false e f = cc
   after_same a h = after_by l bytes bytes v a (λ k. refl) refl refl refl refl
+
+-- A FRAME IS READ that is there
+
+module _ (b : List ℕ) (v : View) (l : ℕ) (seat : Seat) (open_now : is_open seat.seen.stage ≡ true) (is_here : is_there (front seat.seen.unread) ≡ true) where
+  abbrev s : Seen
+  s = seat.seen
+
+  abbrev bytes : List ℕ
+  bytes = s.unread ++ b
+
+  abbrev read : Seen
+  read = session.takes v.now s
+
+  abbrev left : List ℕ
+  left = read.unread ++ b
+
+  fed_is : (u : Seen) → is_open u.stage ≡ true → session.feeds b u ≡ record u { unread = u.unread ++ b }
+  fed_is u e = ap (λ c. cond c (record u { unread = u.unread ++ b }) u) e
+
+  came_same : came (with bytes s) ≡ came s
+  came_same = ap came (sym (fed_is s open_now)) ∙ (taken_before_or_after v.now b s is_here).0
+
+  read_same : session.takes v.now (with bytes s) ≡ with left read
+  read_same =
+      ap (session.takes v.now) (sym (fed_is s open_now)) ∙ (taken_before_or_after v.now b s is_here).1
+      ∙ fed_is read (taken_open s.stage (front s.unread) (ticked v.now s) refl open_now)
+
+  pub seat_read_same : seat_read v.now (holding bytes seat) ≡ holding left (seat_read v.now seat)
+  seat_read_same =
+      λ i. record {
+        address = seat.address;
+        seen = read_same i;
+        askers = askers_left (settled_in (came_same i)) seat.askers;
+        got = got_since (change_in (arrives (came_same i))) v.now seat.got;
+        ping = ping_left (settled_in (came_same i)) seat.ping;
+      }
+
+  abbrev turned_so : Came → Turned
+  turned_so c = record { link = l; key = address_key seat.address; change = change_in (arrives c); pause = None }
+
+  read_ruled : ruled (only v (Some (holding bytes seat))) (Comes (ToLink l Reads)) ≡ ruled (only v (Some seat)) (Comes (ToLink l Reads))
+  read_ruled =
+      λ i. record {
+        once = breaks_at l (arrives (came_same i));
+        joined = [];
+        caused =
+            opens
+            ((answered_by (came_same i) seat.askers ++ waiters_of served_on v.addresses (Some (turned_so (came_same i))))
+            ++ over_rows (heard_at l (arrives (came_same i))) v.consumers);
+        more = reads_on l (arrives (came_same i));
+        shown = (map (settles l settlement.Reply) (settled_in (came_same i)) ++ queues l s (read_same i)) ++ [];
+      }

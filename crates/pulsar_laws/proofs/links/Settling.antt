@@ -400,7 +400,10 @@ module _ (l place : ℕ) where
 
   link_few : (o : Options) (log : List Entry) (x : LinkAct) (row : Option Seat) → (view o log).links.live l ≡ row → Few o log →
       Told o log (told_at x (view o log).now place row) (call_at x (view o log).now row)
-  link_few o log x None h k = k
+  link_few o log x None h k = (
+    λ s d. let f : length (all o log) ≤ length (told_ever s place (calls_of o l log) []) = k.0 s d in omega (arith, f),
+    λ d. let f : length (all o log) ≤ 0 = k.1 d in omega (arith, f),
+  )
   link_few o log x (Some seat) h k = (
     λ s d.
         let now : ℕ = (view o log).now in

@@ -1,22 +1,24 @@
 -- What every run has of its links: each request is settled once, by what its connection tells, and a link has ended where an end of it stands
 -- in the log.
-use Rattle.std.specs.Prelude.{◌≡◌, ℕ, ◌≤◌, ◌==◌, ◌&&◌, ◌||◌, Bool, false, if◌then◌else◌, List, [], ◌∷◌, ◌++◌, length, map, Option, Some, None}
+use Rattle.std.specs.Prelude.{◌≡◌, ℕ, ◌≤◌, ◌==◌, ◌&&◌, ◌||◌, Bool, true, false, if◌then◌else◌, List, [], ◌∷◌, ◌++◌, length, map, Option, Some, None}
 use Rattle.std.specs.List.{flat_map}
 use Rattle.std.specs.Option.{is_some, option_to_list}
-use Rattle.pulsar_session.specs.Link.{Seen}
+use Rattle.pulsar_run.specs.Laws.{In}
+use Rattle.pulsar_session.specs.Link.{Seen, due}
 use Rattle.pulsar_session.specs.Laws.{Outcome as Fate, Replied, Ended, told_in}
 use Rattle.pulsar_links.specs.Seats.{Seat, closing, has_ended}
 use Rattle.pulsar_calls.specs.declared.act.Act.TheVariants.{Comes}
+use Rattle.pulsar_calls.specs.declared.act.End.TheVariants.{Overdue}
 use Rattle.pulsar_calls.specs.declared.act.LinkAct.{LinkAct}
 use Rattle.pulsar_calls.specs.declared.act.LinkAct.TheVariants.{Ends}
 use Rattle.pulsar_calls.specs.declared.act.Part.TheVariants.{ToLink}
 use Rattle.pulsar_calls.specs.declared.effect.Settlement.{Settlement}
 use Rattle.pulsar_calls.specs.declared.effect.Settlement.TheVariants.{Reply, TimedOut, Disconnected}
-use Rattle.pulsar_calls.specs.Content.{Shown, Settles}
+use Rattle.pulsar_calls.specs.Content.{Shown, Settles, Ticked}
 use Rattle.pulsar_calls.specs.Steps.{Step}
-use Rattle.pulsar_acts.specs.Run.{Entry, Begins, Then, steps, view}
+use Rattle.pulsar_acts.specs.Run.{Entry, Begins, Then, IsRun, Rests, steps, view}
 use Rattle.pulsar_machine.specs.Options.{Options}
-use Rattle.pulsar_laws.specs.Laws.{call_at, is_late}
+use Rattle.pulsar_laws.specs.Laws.{AreActs, call_at, is_late}
 
 -- REQUESTS ARE SETTLED ONCE
 
@@ -65,6 +67,13 @@ SettledAsTold = (o : Options) (log : List Entry) (l place : ℕ) → settled_at 
 -- So in a whole history each request is settled once at most.
 abbrev pub SettledOnce : Type 0
 SettledOnce = (o : Options) (log : List Entry) (l place : ℕ) → length (flat_map (λ xs. xs) (settled_at l place (steps o log))) ≤ 1
+
+-- A tick that isn't before the clock ends each link that is due at it, by its deadline: so none of its requests waits beyond that.
+abbrev pub DueLinksEnd : Type 0
+DueLinksEnd = (o : Options) (newer older : List Entry) (now l : ℕ) (seat : Seat) →
+    IsRun o (newer ++ Begins (Ticked now) ∷ older) → Rests o (newer ++ Begins (Ticked now) ∷ older) → AreActs newer →
+    (view o older).now ≤ now → (view o older).links.live l ≡ Some seat → due now seat.seen ≡ true →
+    In (Then (Comes (ToLink l (Ends (Overdue seat.seen.waits.queued))))) newer
 
 -- WHERE A LINK HAS ENDED
 

@@ -1,15 +1,22 @@
--- A link has ended exactly where an end of it stands in the log.
-use Rattle.std.proofs.Common.{◌≡◌, ◌∙◌, sym, ap, ℕ, ◌+◌, ◌==◌, ◌&&◌, ◌||◌, List, ◌∷◌, refl, arith, Bool, true, false, cond, nat_lt, Option, Some, None, inl, inr, []}
+-- A link has ended exactly where an end of it stands in the log, and a tick ends each link that is due.
+use Rattle.std.proofs.Common.{◌≡◌, ◌∙◌, sym, ap, ℕ, ◌+◌, ◌≤◌, ◌==◌, ◌&&◌, ◌||◌, List, [], ◌∷◌, refl, arith, map, Bool, true, false, cond, nat_le, nat_lt, Option, Some, None, inl, inr}
 use Rattle.std.proofs.lemmas.Bool.{cases_Bool}
 use Rattle.std.proofs.lemmas.Bool.Decides.{nat_tests}
 use Rattle.std.specs.Option.{is_none, is_some, option_map}
-use Rattle.pulsar_laws.proofs.ActWords.{Ask, Bytes, Comes, Dials, Does, Ends, Get, Heard, LinkAct, ToLink}
-use Rattle.pulsar_laws.proofs.RunWords.{Begins, begun_same, dialed, Entry, link_got, live_begun, Options, Then, view}
-use Rattle.pulsar_laws.proofs.LinkWords.{closed_by, Fault, got_at, Seat, seat_asked, seat_fed, seat_got, took_end, took_some}
-use Rattle.pulsar_links.specs.Seats.{has_ended}
+use Rattle.pulsar_laws.proofs.ActWords.{Ask, Bytes, Comes, Dials, Does, Ends, Get, Heard, LinkAct, numbers_from, Overdue, Part, Rings, ToLink}
+use Rattle.pulsar_laws.proofs.RunWords.{Begins, begun_same, dialed, Entry, In, is_live, link_got, live_begun, Options, parts, Then, View, view}
+use Rattle.pulsar_laws.proofs.LinkWords.{closed_by, Fault, got_at, over_links, Seat, seat_asked, seat_fed, seat_got, took_end, took_some}
+use Rattle.pulsar_session.specs.Link.{due}
+use Rattle.pulsar_calls.specs.Content.{Ticked}
+use Rattle.pulsar_links.specs.Alarms.{ringing}
+use Rattle.pulsar_links.specs.LinkRules.{due_part, on_link}
+use Rattle.pulsar_links.specs.Seats.{Links, has_ended}
 use Rattle.pulsar_laws.specs.Laws.{dialed_with}
-use Rattle.pulsar_laws.specs.LinkLaws.{EndedIs, end_in, is_end}
+use Rattle.pulsar_laws.specs.LinkLaws.{DueLinksEnd, EndedIs, end_in, is_end}
 use Rattle.pulsar_laws.proofs.Cases.{none_some}
+use Rattle.pulsar_laws.proofs.Lists.{in_left, into_flat}
+use Rattle.pulsar_laws.proofs.calls.Done.{all_is_done_lem}
+use Rattle.pulsar_laws.proofs.calls.Stopping.{in_numbers}
 use Rattle.pulsar_laws.proofs.links.Alone.{alone}
 
 -- A LINK THAT WAS NOT STARTED
@@ -158,3 +165,37 @@ module _ (o : Options) (l : ℕ) where
 
 pub ended_is_lem : EndedIs
 ended_is_lem o log l = ended_so o l log
+
+-- A DEADLINE
+
+into_map : {A B : Type 0} (f : A → B) (x : A) (xs : List A) → In x xs → In (f x) (map f xs)
+into_map f x [] i = i
+into_map f x (y ∷ xs) (inl e) = inl (ap f e)
+into_map f x (y ∷ xs) (inr i) = inr (into_map f x xs i)
+
+in_due : (ls : Links) (now l : ℕ) (seat : Seat) → ls.live l ≡ Some seat → nat_lt l ls.started ≡ true → due now seat.seen ≡ true →
+    In (ToLink l (Ends (Overdue seat.seen.waits.queued))) (over_links (due_part now) ls)
+in_due ls now l seat h lt d =
+    let part : Part = ToLink l (Ends (Overdue seat.seen.waits.queued)) in
+    let own : In part (on_link (due_part now) ls.live l) = rw (h, d) (inl refl) in
+    let below_all : nat_lt l (0 + ls.started) ≡ true = grind (arith, nat_tests) in
+    into_flat (on_link (due_part now) ls.live) l part (numbers_from 0 ls.started) (in_numbers ls.started 0 l (omega arith) below_all) own
+
+started : (o : Options) (log : List Entry) (l : ℕ) (seat : Seat) → (view o log).links.live l ≡ Some seat → nat_lt l (view o log).links.started ≡ true
+started o log l seat h = elim (cases_Bool (nat_lt l (view o log).links.started)) [
+  | inl e ↦ e
+  | inr e ↦ absurd (none_some (sym (unborn o log l ((view o log).links.live l) e refl) ∙ h))
+]
+
+not_before : (a b : ℕ) → a ≤ b → nat_le a b ≡ true
+not_before a b h = grind (arith, nat_tests)
+
+pub due_links_end_lem : DueLinksEnd
+due_links_end_lem o newer older now l seat run rests acts le h d =
+    let v : View = view o older in
+    let part : Part = ToLink l (Ends (Overdue seat.seen.waits.queued)) in
+    let live : is_live v (Ticked now) ≡ true = not_before v.now now le in
+    let due_now : In part (over_links (due_part now) v.links) = in_due v.links now l seat h (started o older l seat h) d in
+    let i : In part (parts o v (Ticked now)) =
+    rw live (in_left part (over_links (due_part now) v.links) (map Rings (ringing now v.alarms)) due_now) in
+    all_is_done_lem o newer older (Begins (Ticked now)) (Comes part) run rests acts (into_map Comes part (parts o v (Ticked now)) i)

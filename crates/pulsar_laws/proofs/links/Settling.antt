@@ -39,8 +39,6 @@ use Rattle.pulsar_incoming.specs.declared.polled.Polled.{Polled}
 use Rattle.pulsar_incoming.specs.declared.polled.Polled.TheVariants as poll
 use Rattle.pulsar_acts.specs.Effects.{effects, ends as ends_said, retries, retries_on}
 use Rattle.pulsar_acts.specs.View.{setup}
-use Rattle.pulsar_agenda.proofs.Orders.{effect_order}
-use Rattle.pulsar_run.proofs.Orders.{kinds_in_order_lem}
 use Rattle.pulsar_run.specs.Run.{in_order, steps_done, with_effects}
 use Rattle.pulsar_laws.specs.Laws.{call_at, dialed_with}
 use Rattle.pulsar_laws.specs.LinkLaws.{SettledAsTold, SettledOnce, and_then, settled_at, settled_so, settles_at, told_at, told_of}
@@ -49,7 +47,7 @@ use Rattle.pulsar_laws.proofs.links.Alone.{Made, alone}
 use Rattle.pulsar_laws.proofs.links.Ending.{undialed}
 use Rattle.pulsar_laws.proofs.links.Late.{late_same}
 use Rattle.pulsar_laws.proofs.links.OfLink.{IsOf, given_of}
-use Rattle.pulsar_laws.proofs.links.Written.{only_tested, tied_order}
+use Rattle.pulsar_laws.proofs.links.Written.{step_same, tied_order}
 
 one_place : (l j k place p q : ℕ) → (l == j) ≡ true → (p == place) ≡ true → (l == k) ≡ true → (q == place) ≡ true → is_before3 (1, k, q) (1, j, p) ≡ false
 one_place l j k place p q a b c d = grind (arith, nat_tests, common_steps)
@@ -337,15 +335,10 @@ module _ (l place : ℕ) where
   alike (Settles j p a) _ h t = absurd cc
   alike _ y h t = absurd cc
 
-  step_same : (s : Step) → settling (in_order effect_below s).effects ≡ settling s.effects
-  step_same s =
-      sym (only_tested (settles_at l place) is_settle not_settled (in_order effect_below s).effects)
-      ∙ ap (flat_map (settles_at l place)) (kinds_in_order_lem Shown effect_below is_settle s.effects effect_order (tied_order is_settle alike s.effects))
-      ∙ only_tested (settles_at l place) is_settle not_settled s.effects
-
   pub steps_same : (ss : List Step) → settled_at l place (map (in_order effect_below) ss) ≡ settled_at l place ss
   steps_same [] = refl
-  steps_same (s ∷ ss) = λ i. step_same s i ∷ steps_same ss i
+  steps_same (s ∷ ss) =
+      λ i. step_same (settles_at l place) is_settle not_settled s (tied_order is_settle alike s.effects) i ∷ steps_same ss i
 
   -- ONCE
 

@@ -62,7 +62,7 @@ not_queued : (l : ℕ) (e : Shown) → is_queue l e ≡ false → queued_on l e 
 not_queued l (Queued k place bytes) h = rw h refl
 not_queued l _ h = refl
 
-pub only_tested : {A B : Type 0} (f : A → List B) (test : A → Bool) → ((x : A) → test x ≡ false → f x ≡ []) → (xs : List A) →
+only_tested : {A B : Type 0} (f : A → List B) (test : A → Bool) → ((x : A) → test x ≡ false → f x ≡ []) → (xs : List A) →
     flat_map f (filter test xs) ≡ flat_map f xs
 only_tested f test none [] = refl
 only_tested f test none (x ∷ xs) = elim (cases_Bool (test x)) [
@@ -179,9 +179,9 @@ are_more l m n [] le k = tt
 are_more l m n (s ∷ ss) le k =
     (record { order = k.0.order; placed = placed_more l m n (filter (is_queue l) s.effects) le k.0.placed }, are_more l m n ss le k.1)
 
--- the bytes of the effects in their order are those of the effects as they were done
-step_same : (f : Shown → List ℕ) (test : Shown → Bool) → ((x : Shown) → test x ≡ false → f x ≡ []) → (s : Step) → InOrder effect_below (filter test s.effects) →
-    flat_map f (in_order effect_below s).effects ≡ flat_map f s.effects
+-- the effects in their order give what those give as they were done
+pub step_same : {B : Type 0} (f : Shown → List B) (test : Shown → Bool) → ((x : Shown) → test x ≡ false → f x ≡ []) → (s : Step) →
+    InOrder effect_below (filter test s.effects) → flat_map f (in_order effect_below s).effects ≡ flat_map f s.effects
 step_same f test none s k =
     sym (only_tested f test none (in_order effect_below s).effects)
     ∙ ap (flat_map f) (kinds_in_order_lem Shown effect_below test s.effects effect_order k)

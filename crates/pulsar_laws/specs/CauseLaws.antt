@@ -72,14 +72,13 @@ IsToldByBatch o who u e older =
 -- CAUSES
 
 -- GotLink: it got a link of an address, which serves, or that became ready while it waited; or it found that of a topic producer, or of a
--- consumer. NotFound:
--- the address cannot be reached. Failed, Canceled: the last attempt that it waited for ended, of a series that it or another started. Queued:
--- it asked, and its frame was queued at once or moved up. InLine, Refused: it asked, and the link said so; Refused also: it drew a number, and
--- there was none. Replied: its request was answered. Woken: its moment came. TimedOut, Disconnected, Cut, Stopped: its request, its frame in the
--- line or the attempt that it waited for ended so; Disconnected also: there is no such topic producer; Stopped also: the client was stopped, or a
--- part of it, or its batch, says so. Granted: it asked for a turn, for a number or the like, or its turn came; a batch was cut, or its flush is
--- settled. Parted: a part of it says so. Settled: its batch says so, or its producer is closed. Word: it asked of consumers, and this is said at
--- once; or it happened to its own consumer, or to the one whose link it waits for.
+-- consumer. NotFound: the address cannot be reached. Failed, Canceled: the last attempt that it waited for ended, of a series that it or
+-- another started. Queued: it asked, and its frame was queued at once or moved up. InLine, Refused: it asked, and the link said so; Refused
+-- also: it drew a number, and there was none. Replied: its request was answered. Woken: its moment came. TimedOut, Disconnected, Cut, Stopped:
+-- its request, its frame in the line or the attempt that it waited for ended so; Disconnected also: there is no such topic producer; Stopped
+-- also: the client was stopped, or a part of it, or its batch, says so. Granted: it asked for a turn, for a number or the like, or its turn
+-- came; a batch was cut, or its flush is settled. Parted: a part of it says so. Settled: its batch says so, or its producer is closed. Word:
+-- it asked of consumers, and this is said at once; or it happened to its own consumer, or to the one whose link it waits for.
 abbrev pub Cause : Options → Who → Outcome → Entry → List Entry → Type 0
 Cause o who (outcome.GotLink link) e older =
     Gets o who (λ p v. (is_reachable p ≡ true) × ((base_of v p).series ≡ Serves link)) e older

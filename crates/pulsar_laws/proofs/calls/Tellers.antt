@@ -67,7 +67,7 @@ PartSo w log q = (p : Procedure) × (started w log ≡ Some p) × PartOf p q
 part_run : (o : Options) (w : Who) (log : List Entry) (q : Plan) → (view o log).stand w ≡ Some q → PartSo w log q
 part_run o w log q h =
     stands_so o w (λ log. Unit {0}) (λ e log k. tt) (PartSo w) more
-    (λ log p q a r e. (p, ap (λ b. cond b (Some p) (started w log)) (same_self w), begun_part (begun_arc e)))
+    (λ log p q a r e. (p, ap (λ b. cond b (Some p) (started w log)) (same_self w), begun_part {p = p} (begun_arc e)))
     (λ log b u q a r s k e. (k.0, k.1, arc_part k.0 (told_arc e) k.2)) log q tt h
   where
     more : (e : Entry) (log : List Entry) (q : Plan) → moves w e ≡ false → Unit {0} → (view o log).stand w ≡ Some q → PartSo w log q → PartSo w (e ∷ log) q
@@ -152,7 +152,7 @@ never_odd o log who (outcome.Granted news.Queued) run =
     absurd (none some.entry some.older some.holds.0 some.holds.1)
   where
     none : (e : Entry) (older : List Entry) → IsRun o (e ∷ older) → Told' o who (outcome.Granted news.Queued) e older → ⊥
-    none e older r (inl (action, is, no)) = no
+    none e older r (inl (action, is, never)) = never
     none e older r (inr (inl (other, number, turn, version, is, same, granted, next))) = cc
     none e older r (inr (inr (inl (number, act, same, ready, woken, cuts)))) = cc
     none e older r (inr (inr (inr (other, inl is)))) =
@@ -162,7 +162,7 @@ never_odd o log who (outcome.Granted news.Queued) run =
     none e older r (inr (inr (inr (other, inr (ns, is, i))))) =
         let n : Notice = notice who (outcome.Granted news.Queued) in
         let f : false ≡ true =
-        in_each (λ m. is_settling m.outcome ≡ true) n ns i (tell_settling o older other ns (subst (λ x. IsRun o (x ∷ older)) is r)) in
+        in_each (λ m. is_settling m.outcome ≡ true) n ns (tell_settling o older other ns (subst (λ x. IsRun o (x ∷ older)) is r)) i in
         cc
 never_odd o log who (outcome.Granted n) run = refl
 never_odd o log who u run = refl
@@ -224,7 +224,7 @@ module _ (o : Options) (who : Who) (u : Outcome) (older : List Entry) where
         is = ap (started (Call t)) b.is_there ∙ ap (λ c. cond c (Some p) (started (Call t) b.older)) (same_self (Call t))
 
         x : StartsTelling p b.plan (Tell it)
-        x = begun_tells (begun_arc b.leads)
+        x = begun_tells {p = p} (begun_arc b.leads)
 
         own : x.0.ticket ≡ t
         own = ((parts_run o older run.0 t p is).share x.0 x.2).0
@@ -272,7 +272,7 @@ says_caused o who (outcome.Parted t f) e older run k = elim (told_so o who (outc
   | inr b ↦
       (let m : Notice = notice who (outcome.Parted t f) in
       let r : IsRun o (Then (Does (Producer b.0) (TellAll b.1)) ∷ older) = subst (λ x. IsRun o (x ∷ older)) b.2 run in
-      let no : false ≡ true = in_each (λ n. is_settling n.outcome ≡ true) m b.1 b.3 (tell_settling o older (Producer b.0) b.1 r) in
+      let no : false ≡ true = in_each (λ n. is_settling n.outcome ≡ true) m b.1 (tell_settling o older (Producer b.0) b.1 r) b.3 in
       absurd cc)
 ]
 says_caused o who outcome.Stopped e older run (inl k) = inl k

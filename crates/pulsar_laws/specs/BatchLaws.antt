@@ -18,7 +18,6 @@ use Rattle.pulsar_outgoing.specs.Storage.{Item, Flush}
 use Rattle.pulsar_producer.specs.Topic.{Setup, seen}
 use Rattle.pulsar_outgoing.specs.declared.batch.Fate.{Fate}
 use Rattle.pulsar_outgoing.specs.declared.batch.Fate.TheVariants as fate
-use Rattle.pulsar_producer.specs.declared.batching.Batching.{Batching}
 use Rattle.pulsar_producer.specs.declared.batching.Batching.TheVariants as batching
 use Rattle.pulsar_outgoing.specs.declared.news.News.TheVariants as news
 use Rattle.pulsar_outgoing.specs.declared.orders.Errand.{Errand}

@@ -37,7 +37,7 @@ use Rattle.pulsar_consumer.specs.Topic as reader
 use Rattle.pulsar_consumer_table.specs.Consumers.{Member, polled, polled_so}
 use Rattle.pulsar_incoming.specs.declared.polled.Polled.{Polled}
 use Rattle.pulsar_incoming.specs.declared.polled.Polled.TheVariants as poll
-use Rattle.pulsar_acts.specs.Effects.{effects, ends as ends_said, retries, retries_on}
+use Rattle.pulsar_acts.specs.Effects.{ends as ends_said, retries, retries_on}
 use Rattle.pulsar_acts.specs.View.{setup}
 use Rattle.pulsar_run.specs.Run.{in_order, steps_done, with_effects}
 use Rattle.pulsar_laws.specs.Laws.{call_at, dialed_with}

@@ -18,7 +18,6 @@ use Rattle.pulsar_outgoing.specs.Storage.{Item, Flush}
 use Rattle.pulsar_producer.specs.Topic.{Setup, seen}
 use Rattle.pulsar_outgoing.specs.declared.batch.Fate.{Fate}
 use Rattle.pulsar_outgoing.specs.declared.batch.Fate.TheVariants as fate
-use Rattle.pulsar_producer.specs.declared.batching.Batching.{Batching}
 use Rattle.pulsar_producer.specs.declared.batching.Batching.TheVariants as batching
 use Rattle.pulsar_outgoing.specs.declared.news.News.TheVariants as news
 use Rattle.pulsar_outgoing.specs.declared.orders.Errand.{Errand}
@@ -105,11 +104,14 @@ IsFateOf n log items u f =
 
 -- Those of a batch are told together, right behind what its producer is told of it: each what became of its message, with its place in the
 -- batch and the count of its messages. Where the client is stopped while its frame waits for a receipt, its messages are lost.
-abbrev pub MembersAreTold : Type 0
-MembersAreTold = (o : Options) (log : List Entry) (n : ℕ) (ns : List Notice) → IsRun o (Then (Does (Producer n) (TellAll ns)) ∷ log) →
+abbrev pub TellsBatch : Options → (number : ℕ) → List Notice → List Entry → Type 0
+TellsBatch o n ns log =
     (items : List Item) × (u : Outcome) × (older : List Entry) × (under_way o n log ≡ Some items) × (log ≡ Then (Told (notice (Producer n) u)) ∷ older)
     × (((f : Fate) × IsFateOf n log items u f × (ns ≡ map told_to (reports (length (entries_in items)) f (map member_of items))))
     ⊎ ((overrides u ≡ true) × (ns ≡ map told_to (map cut_report (map member_of items)))))
+
+abbrev pub MembersAreTold : Type 0
+MembersAreTold = (o : Options) (log : List Entry) (n : ℕ) (ns : List Notice) → IsRun o (Then (Does (Producer n) (TellAll ns)) ∷ log) → TellsBatch o n ns log
 
 -- THE FRAME OF A BATCH
 

@@ -4,8 +4,10 @@ pub mod BatchFrames
 pub mod BatchTold
 pub mod BatchSent
 pub mod Closed
+pub mod EachOnce
 pub mod Flushing
 pub mod Keepers
+pub mod Limits
 pub mod Numbering
 pub mod Drawing
 pub mod Free

@@ -1,6 +1,7 @@
 pub mod BatchRun
 pub mod BatchFailing
 pub mod BatchFrames
+pub mod BatchQueued
 pub mod BatchTold
 pub mod BatchSent
 pub mod Closed

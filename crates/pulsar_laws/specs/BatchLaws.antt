@@ -75,6 +75,19 @@ BatchesOneByOne = (o : Options) (log : List Entry) (n m : ℕ) → IsRun o (Then
 
 -- WHAT BECOMES OF A BATCH
 
+-- how often a frame was queued for the batch that was taken last
+abbrev pub asks_batch : Option Plan → Bool
+asks_batch (Some (plan.Batching w e (batching.Sending ms count s))) = asks_in s
+asks_batch _ = false
+
+abbrev pub frames_queued : Options → (number : ℕ) → List Entry → ℕ
+frames_queued o n [] = 0
+frames_queued o n (Then (Told x) ∷ log) =
+    if is_same (Producer n) x.who && (is_queued x.outcome && asks_batch ((view o log).stand (Producer n)))
+    then frames_queued o n log + 1 else frames_queued o n log
+frames_queued o n (Then (Does who (TakeBatch m)) ∷ log) = if is_same (Producer n) who then 0 else frames_queued o n log
+frames_queued o n (_ ∷ log) = frames_queued o n log
+
 -- the one who is told what becomes of a batch asked for a frame that bears this number
 abbrev pub AskedAs : (number sequence : ℕ) → List Entry → Type 0
 AskedAs n s log =
@@ -95,12 +108,12 @@ FailedSo n log items cause =
     (w : Ways) × (e : Errand) × (m : ProducerMessageValues) × (e.producer ≡ n) × (batch_of (entries_in items) ≡ Ok m)
     × FailsSo (procedure.Send w e None m) (told_since n log) cause
 
--- a receipt of its frame came; or its send failed, for this cause; or it could not be written; or the client was stopped; or there was no
+-- its frame was queued, once, and a receipt came for one that its topic producer asked for; or its send failed, for this cause; or it could not be written; or the client was stopped; or there was no
 -- message in it
-abbrev pub IsFateOf : (number : ℕ) → List Entry → List Item → Outcome → Fate → Type 0
-IsFateOf n log items u f =
+abbrev pub IsFateOf : Options → (number : ℕ) → List Entry → List Item → Outcome → Fate → Type 0
+IsFateOf o n log items u f =
     ((r : Reply) × (s : ℕ) × (u ≡ outcome.Replied r) × (is_body 7 r.content.body ≡ true) × (r.content.key ≡ Some (key.ProducerSend n s))
-    × AskedAs n s log × (f ≡ receipt_fate r.content))
+    × AskedAs n s log × (frames_queued o n log ≡ 1) × (f ≡ receipt_fate r.content))
     ⊎ ((cause : Failure) × FailedSo n log items cause × (f ≡ failed cause))
     ⊎ ((r : Reason) × (batch_of (entries_in items) ≡ Err r) × (f ≡ not_written r))
     ⊎ ((overrides u ≡ true) × (f ≡ fate.Halted))
@@ -111,8 +124,22 @@ IsFateOf n log items u f =
 abbrev pub MembersAreTold : Type 0
 MembersAreTold = (o : Options) (log : List Entry) (n : ℕ) (ns : List Notice) → IsRun o (Then (Does (Producer n) (TellAll ns)) ∷ log) →
     (items : List Item) × (u : Outcome) × (older : List Entry) × (under_way o n log ≡ Some items) × (log ≡ Then (Told (notice (Producer n) u)) ∷ older)
-    × (((f : Fate) × IsFateOf n log items u f × (ns ≡ map told_to (reports (length (entries_in items)) f (map member_of items))))
+    × (((f : Fate) × IsFateOf o n log items u f × (ns ≡ map told_to (reports (length (entries_in items)) f (map member_of items))))
     ⊎ ((overrides u ≡ true) × (ns ≡ map told_to (map cut_report (map member_of items)))))
+
+-- what a topic producer is told of what it does itself, or of the place of its frame
+abbrev pub is_granted : Outcome → Bool
+is_granted (outcome.Granted n) = true
+is_granted outcome.Queued = true
+is_granted outcome.InLine = true
+is_granted _ = false
+
+-- A batch whose frame was queued waits for what becomes of that: nothing that its topic producer is granted settles it. So its frame is not behind
+-- it, as the next batch is taken, before an outcome came.
+abbrev pub QueuedIsWaitedFor : Type 0
+QueuedIsWaitedFor = (o : Options) (log : List Entry) (n : ℕ) (ns : List Notice) (u : Outcome) (older : List Entry) →
+    IsRun o (Then (Does (Producer n) (TellAll ns)) ∷ log) → log ≡ Then (Told (notice (Producer n) u)) ∷ older → 1 ≤ frames_queued o n older →
+    is_granted u ≡ false
 
 -- THE FRAME OF A BATCH
 
@@ -138,19 +165,6 @@ AsksFrame n s e older =
 abbrev pub NumbersOfAllFramesRise : Type 0
 NumbersOfAllFramesRise = (o : Options) (newer older : List Entry) (x y : Entry) (n r s : ℕ) → IsRun o (y ∷ (newer ++ x ∷ older)) →
     AsksFrame n r x older → AsksFrame n s y (newer ++ x ∷ older) → r < s
-
--- how often a frame was queued for the batch that was taken last
-abbrev pub asks_batch : Option Plan → Bool
-asks_batch (Some (plan.Batching w e (batching.Sending ms count s))) = asks_in s
-asks_batch _ = false
-
-abbrev pub frames_queued : Options → (number : ℕ) → List Entry → ℕ
-frames_queued o n [] = 0
-frames_queued o n (Then (Told x) ∷ log) =
-    if is_same (Producer n) x.who && (is_queued x.outcome && asks_batch ((view o log).stand (Producer n)))
-    then frames_queued o n log + 1 else frames_queued o n log
-frames_queued o n (Then (Does who (TakeBatch m)) ∷ log) = if is_same (Producer n) who then 0 else frames_queued o n log
-frames_queued o n (_ ∷ log) = frames_queued o n log
 
 -- The frame of a batch is queued at most once, over all links.
 abbrev pub BatchSentOnce : Type 0

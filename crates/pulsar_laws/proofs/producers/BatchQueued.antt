@@ -1,5 +1,5 @@
 -- A batch whose frame is queued is settled by what becomes of that; and by a receipt only where it is queued.
-use Rattle.std.proofs.Common.{◌≡◌, ◌⊎◌, inl, inr, ◌∙◌, sym, ap, subst, ℕ, ◌+◌, ◌≤◌, arith, List, ◌∷◌, refl, Bool, true, false, ◌&&◌, cond, Option, Some, None, Ok, Err}
+use Rattle.std.proofs.Common.{◌≡◌, ◌⊎◌, inl, inr, ◌∙◌, sym, ap, subst, ℕ, ◌+◌, ◌≤◌, arith, List, ◌∷◌, refl, Bool, true, false, ◌&&◌, cond, Some, Ok, Err}
 use Rattle.std.proofs.lemmas.Bool.{cases_Bool}
 use Rattle.pulsar_laws.proofs.ActWords.{Action, Does, Draw, Flush, is_same, Notice, Number, Outcome, PassTurn, Procedure, Producer, Recall, Remake, Rest, Shut, Starts, Store, TakeBatch, TakeTurn, Tell, TellAll, Told, Who}
 use Rattle.pulsar_laws.proofs.PlanWords.{Batches, Batching, begins, Deed, Errand, Member, News, news_of, overrides, Plan, Sending as Send, Stays, told, Ways}
@@ -21,7 +21,7 @@ use Rattle.pulsar_laws.proofs.plans.ProducerArcs.{SendArc, queued, send_arc, sen
 use Rattle.pulsar_laws.proofs.plans.Standing.{moves, run_older, stands_so}
 use Rattle.pulsar_laws.proofs.producers.BatchFailing.{is_told_news, never_told}
 use Rattle.pulsar_laws.proofs.producers.BatchRun.{AtDeed, Batched, PromptSo, batched_run, calm_at, deed_at, is_batch_deed, never_both, self_same, turn_so}
-use Rattle.pulsar_laws.proofs.producers.BatchSent.{Few, batch_sent_once_lem, cases_in, few_run, left_in, left_some, none_yet}
+use Rattle.pulsar_laws.proofs.producers.BatchSent.{Few, batch_sent_once_lem, cases_in, few_run, left_some, none_yet}
 use Rattle.pulsar_laws.proofs.producers.Drawing.{here}
 
 -- WHERE ONE COMES TO THIS STATE: it was told that its frame is queued

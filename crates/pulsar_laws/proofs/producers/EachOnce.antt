@@ -3,7 +3,7 @@ use Rattle.std.proofs.Common.{◌≡◌, inl, inr, ◌∙◌, sym, ap, subst, �
 use Rattle.std.proofs.lemmas.Bool.{cases_Bool, eqb-true}
 use Rattle.std.proofs.lemmas.Bool.Decides.{nat_tests}
 use Rattle.std.specs.Option.{option_map}
-use Rattle.pulsar_laws.proofs.ActWords.{Act, Action, Call, Consumer, Does, is_same, Notice, Outcome, Producer, Starts, Store, TakeBatch, TellAll, Told, turn_of, Who}
+use Rattle.pulsar_laws.proofs.ActWords.{Act, Call, Consumer, Does, is_same, Notice, Producer, Starts, Store, TakeBatch, TellAll, Told, turn_of, Who}
 use Rattle.pulsar_laws.proofs.PlanWords.{Plan, Stored, Storing}
 use Rattle.pulsar_laws.proofs.RunWords.{Begins, begun_same, counted, Each, Entry, IsRun, Options, start_of, Then, view, View}
 use Rattle.pulsar_frame.specs.Batch.{EntryValues}

@@ -3,14 +3,14 @@ use Rattle.std.proofs.Common.{◌≡◌, ◌⊎◌, inl, inr, ◌∙◌, sym, ap
 use Rattle.std.proofs.lemmas.Bool.{cases_Bool, eqb-true}
 use Rattle.std.proofs.lemmas.Bool.Decides.{nat_tests}
 use Rattle.std.specs.Option.{is_some, option_map}
-use Rattle.pulsar_laws.proofs.ActWords.{Act, Action, Alarm, Answers, Asked, Batch, Call, Calls, Comes, Does, Draw, is_same, lacks_tickets, Makes, Nothing, Outcome, Procedure, Rings, shares, Shut, Starts, Told, Verdict, Who}
-use Rattle.pulsar_laws.proofs.PlanWords.{begins, Built, fails, Gives, Order, Plan, Producing, Ways}
-use Rattle.pulsar_laws.proofs.RunWords.{Begins, begun_same, Chosen, counted, draws_on, Entry, IsRun, may_call, notice, Options, producers_made, producers_rung, room_of, start_of, started, Then, view, View}
+use Rattle.pulsar_laws.proofs.ActWords.{Act, Action, Alarm, Answers, Asked, Batch, Call, Calls, Comes, Does, Draw, Heard, is_same, lacks_tickets, Makes, Nothing, Outcome, Procedure, Rings, shares, Shut, Starts, Told, Verdict, Who}
+use Rattle.pulsar_laws.proofs.PlanWords.{begins, Built, Order, Plan, Producing, Ways}
+use Rattle.pulsar_laws.proofs.RunWords.{Begins, begun_same, counted, draws_on, Entry, IsRun, may_call, notice, Options, producers_made, producers_rung, room_of, start_of, started, Then, view, View}
 use Rattle.pulsar_laws.proofs.LinkWords.{rings}
 use Rattle.pulsar_messages.specs.Content.{ProducerMessageValues, ProducerOptionsValues}
 use Rattle.pulsar_wire.specs.Sink.{capped}
 use Rattle.pulsar_exchange.specs.Request.{named_producer}
-use Rattle.pulsar_outgoing.specs.Storage.{bytes_of, ends_in_flush, is_nothing, is_ready, Item, limits_of, reaches, Storage}
+use Rattle.pulsar_outgoing.specs.Storage.{bytes_of, ends_in_flush, is_nothing, is_ready, limits_of, reaches}
 use Rattle.pulsar_outgoing.specs.declared.storage.Limits.{Limits}
 use Rattle.pulsar_producer.specs.Producer as producer
 use Rattle.pulsar_producer.specs.Routing.{Routed, begun as routed_from}
@@ -24,14 +24,14 @@ use Rattle.pulsar_calls.specs.declared.act.Makes.TheVariants.{Producer}
 use Rattle.pulsar_calls.specs.declared.act.Procedure.TheVariants as procedure
 use Rattle.pulsar_calls.specs.declared.content.Building.{Building}
 use Rattle.pulsar_plans.specs.Plan.{built_of}
-use Rattle.pulsar_producer_table.specs.Producers.{Producers, all_routed, called_on, changed, made_of, names_in, numbers_at, opened_on, partition_of, routed, sent_on, shut_all, timeout_at, timeout_in, why_not, with_built, with_topic, with_topics}
+use Rattle.pulsar_producer_table.specs.Producers.{Producers, all_routed, called_on, changed, made_of, names_in, numbers_at, opened_on, partition_of, routed, sent_on, shut_all, timeout_in, why_not, with_built, with_topic, with_topics}
 use Rattle.pulsar_producer_table.specs.declared.table.Topic.{Topic}
 use Rattle.pulsar_acts.specs.View as seen
 use Rattle.pulsar_laws.proofs.Cases.{cond_so, none_some, some_is}
 use Rattle.pulsar_laws.specs.BatchLaws.{BatchesByItsOptions}
 use Rattle.pulsar_laws.specs.ProducerLaws.{acts_on, topic_acts}
 use Rattle.pulsar_laws.proofs.calls.Once.{ends_once_lem}
-use Rattle.pulsar_laws.proofs.calls.Same.{same_self, same_who}
+use Rattle.pulsar_laws.proofs.calls.Same.{same_self}
 use Rattle.pulsar_laws.proofs.plans.Arcs.{Arc, Begun, BegunEnd, End, answers, begins_none, begins_not, begins_numbers, begins_produce_asks, begins_produce_gets, begins_produce_waits, begun_arc, begun_end, builds_on, produced, told_arc, told_end}
 use Rattle.pulsar_laws.proofs.plans.Standing.{moves, stands_so}
 use Rattle.pulsar_laws.proofs.producers.Drawing.{Drawn, answers_from, drawn_run, here, row_from, who_call}
@@ -293,7 +293,7 @@ ordered_then o log a t P run k = record {
   so = k.so;
 }
 
-ordered_begins : (log : List Entry) (e : _) (t : ℕ) (P : ProducerOptionsValues → Type 0) → IsOrdered log t P → IsOrdered (Begins e ∷ log) t P
+ordered_begins : (log : List Entry) (e : Heard) (t : ℕ) (P : ProducerOptionsValues → Type 0) → IsOrdered log t P → IsOrdered (Begins e ∷ log) t P
 ordered_begins log e t P k = record { ways = k.ways; order = k.order; started_so = k.started_so; so = k.so }
 
 ordered_same : (log : List Entry) (t : ℕ) (P Q : ProducerOptionsValues → Type 0) → ((x : ProducerOptionsValues) → P x → Q x) → IsOrdered log t P →
@@ -409,7 +409,8 @@ batches_by_its_options_lem o log n row run h =
           let not : is_ready row.seen.storage ≡ false =
           ap (λ (v : topic.Seen). is_ready v.storage) x.3
           ∙ stored_is_not_ready s (acts_on o n log) (ap (λ (v : topic.Seen). is_nothing v.storage.items) (sym x.3) ∙ some) in
-          let both = neither _ _ (ends_in_flush row.seen.storage.items) not in (
+          let both = neither (reaches (length row.seen.storage.items) row.seen.storage.limits.max_size)
+          (reaches (capped (bytes_of row.seen.storage.items)) row.seen.storage.limits.max_byte_size) (ends_in_flush row.seen.storage.items) not in (
             λ limit e. below_limit (length row.seen.storage.items) limit row.seen.storage.limits.max_size (size ∙ e) both.0,
             λ limit e. below_limit (capped (bytes_of row.seen.storage.items)) limit row.seen.storage.limits.max_byte_size (bytes ∙ e) both.1,
           )),

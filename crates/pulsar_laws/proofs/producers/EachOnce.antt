@@ -1,7 +1,6 @@
 -- The send of a ticket is queued at most once, by itself or as a message of a batch.
 use Rattle.std.proofs.Common.{◌≡◌, inl, inr, ◌∙◌, sym, ap, subst, ℕ, zero, suc, ◌+◌, ◌≤◌, ◌==◌, arith, List, [], ◌∷◌, ◌++◌, refl, Bool, true, false, ◌&&◌, cond, Option, Some, None, eq-eqb}
 use Rattle.std.proofs.lemmas.Bool.{cases_Bool, eqb-true}
-use Rattle.std.proofs.lemmas.Bool.Decides.{nat_tests}
 use Rattle.std.specs.Option.{option_map}
 use Rattle.pulsar_laws.proofs.ActWords.{Act, Call, Consumer, Does, is_same, Notice, Producer, Starts, Store, TakeBatch, TellAll, Told, turn_of, Who}
 use Rattle.pulsar_laws.proofs.PlanWords.{Plan, Stored, Storing}
@@ -210,10 +209,10 @@ module _ (t : ℕ) where
           let later : ℕ → ℕ = λ i. at_row ((view o (Then (Does who (TakeBatch n)) ∷ log)).producers.topics i) in
           let taken : later n + times_under t (next_batch_at (v.producers.topics n)) ≤ at_row (v.producers.topics n) =
           took_row (n == n) (v.producers.topics n) (eq-eqb n n refl) in
-          let here : later m + times_under t (next_batch_at (v.producers.topics n)) ≤ at_row (v.producers.topics m) =
+          let row : later m + times_under t (next_batch_at (v.producers.topics n)) ≤ at_row (v.producers.topics m) =
           subst (λ i. later i + times_under t (next_batch_at (v.producers.topics n)) ≤ at_row (v.producers.topics i)) (sym own) taken in
           let was : queued_with o m log + waits + at_row (v.producers.topics m) ≤ counted (stores_at m) log = k in
-          rw e (omega (arith, was, here)))
+          rw e (omega (arith, was, row)))
       | inr e ↦
           (let h = row_held o log (Does who (TakeBatch n)) m run in
           let was : queued_with o m log + waits + at_row (v.producers.topics m) ≤ counted (stores_at m) log = k in
@@ -300,6 +299,12 @@ module _ (t : ℕ) where
   some_store (Then (Does who a) ∷ log) h = let x = some_store log (omega (arith, h)) in let one : 1 ≤ counted (stores_at x.0) log = x.1 in (x.0, omega (arith, one))
   some_store (Then a ∷ log) h = let x = some_store log (omega (arith, h)) in let one : 1 ≤ counted (stores_at x.0) log = x.1 in (x.0, omega (arith, one))
 
+  abbrev at_one : Options → List Entry → Outcome → ℕ → ℕ
+  at_one o log u i = cond (is_queued u && asks_batch ((view o log).stand (Producer i))) (times_under t (under_way o i log)) 0
+
+  head : {a b c s : ℕ} → a + b + c ≤ s → a ≤ s
+  head {a} {b} {c} {s} p = omega (arith, p)
+
   -- what is queued at another topic producer has none of it
   told_one : (o : Options) (m : ℕ) (log : List Entry) (x : Notice) → IsRun o (Then (Told x) ∷ log) →
       counted stores_by log ≤ counted (stores_at m) log → (w : Who) → x.who ≡ w →
@@ -311,23 +316,17 @@ module _ (t : ℕ) where
     | inl s ↦
         (let same : m ≡ n = sym (eqb-true n m s) in
         let own : is_same (Producer m) (Producer n) ≡ true = ap (is_same (Producer m)) (ap Producer (sym same)) ∙ same_self (Producer m) in
-        rw own (subst (λ i. at i ≤ at m) same (omega arith)))
+        rw own (subst (λ i. at_one o log x.outcome i ≤ at_one o log x.outcome m) same (omega arith)))
     | inr s ↦
         (let bound : queued_with o n log + cond (is_same (Producer n) x.who && (is_queued x.outcome && asks_batch ((view o log).stand (Producer n))))
-        (times_under t (under_way o n log)) 0 ≤ counted (stores_at n) log = left (bound_run o n (Then (Told x) ∷ log) run) in
-        let named : queued_with o n log + at n ≤ counted (stores_at n) log =
+        (times_under t (under_way o n log)) 0 ≤ counted (stores_at n) log + 0 = head (bound_run o n (Then (Told x) ∷ log) run) in
+        let named : queued_with o n log + at_one o log x.outcome n ≤ counted (stores_at n) log + 0 =
         subst (λ b. queued_with o n log + cond (b && (is_queued x.outcome && asks_batch ((view o log).stand (Producer n))))
-        (times_under t (under_way o n log)) 0 ≤ counted (stores_at n) log)
+        (times_under t (under_way o n log)) 0 ≤ counted (stores_at n) log + 0)
         (ap (is_same (Producer n)) e ∙ same_self (Producer n)) bound in
         let two : counted (stores_at n) log + counted (stores_at m) log ≤ counted stores_by log = apart n m s log in
         omega (arith, named, two, h))
   ]
-    where
-      at : ℕ → ℕ
-      at i = cond (is_queued x.outcome && asks_batch ((view o log).stand (Producer i))) (times_under t (under_way o i log)) 0
-
-      left : {a b c s : ℕ} → a + b + c ≤ s + 0 → a ≤ s
-      left {a} {b} {c} {s} p = omega (arith, p)
 
   all_bound : (o : Options) (m : ℕ) (log : List Entry) → IsRun o log → counted stores_by log ≤ counted (stores_at m) log →
       batched_times o t log ≤ queued_with o m log
@@ -441,12 +440,13 @@ module _ (t : ℕ) where
   batched_bound o log m run h =
       let all : batched_times o t log ≤ queued_with o m log = all_bound o m log run h in
       let b : Bound o m log = bound_run o m log run in
-      let one : queued_with o m log ≤ counted (stores_at m) log = first b in
+      let one : queued_with o m log ≤ counted (stores_at m) log = head b in
       let most : counted (stores_at m) log ≤ counted stores_by log = all_most m log in
       omega (arith, all, one, most)
-    where
-      first : {a b c s : ℕ} → a + b + c ≤ s → a ≤ s
-      first {a} {b} {c} {s} p = omega (arith, p)
+
+some_at_least : (n : ℕ) → (n == 0) ≡ false → 1 ≤ n
+some_at_least zero h = absurd cc
+some_at_least (suc n) h = omega arith
 
 pub each_sent_once_lem : EachSentOnce
 each_sent_once_lem o log t run = elim (cases_Bool (counted (stores_by t) log == 0)) [
@@ -458,7 +458,7 @@ each_sent_once_lem o log t run = elim (cases_Bool (counted (stores_by t) log == 
   | inr e ↦
       (let k : Once t o log = here (Once t o) log (once_run t o log run) in
       let few : counted (stores_by t) log ≤ 1 = k.few in
-      let some : 1 ≤ counted (stores_by t) log = grind (arith, nat_tests, e) in
+      let some : 1 ≤ counted (stores_by t) log = some_at_least (counted (stores_by t) log) e in
       let m = some_store t log some in
       let at : 1 ≤ counted (stores_at t m.0) log = m.1 in
       let b : batched_times o t log ≤ counted (stores_by t) log = batched_bound t o log m.0 run (omega (arith, few, at)) in

@@ -388,7 +388,7 @@ neither true b c h = absurd cc
 neither false true c h = absurd cc
 
 below_limit : (n limit : ℕ) (r : Option ℕ) → r ≡ Some limit → reaches n r ≡ false → n < limit
-below_limit n limit r e h = let f : nat_le limit n ≡ false = ap (reaches n) (sym e) ∙ h in grind (arith, nat_tests, f)
+below_limit n limit r e h = let f : nat_le limit n ≡ false = ap (reaches n) (sym e) ∙ h in grind (arith, nat_tests)
 
 pub batches_by_its_options_lem : BatchesByItsOptions
 batches_by_its_options_lem o log n row run h =

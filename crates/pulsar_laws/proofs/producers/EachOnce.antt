@@ -27,7 +27,7 @@ use Rattle.pulsar_laws.proofs.producers.BatchSent.{batch_sent_once_lem}
 use Rattle.pulsar_laws.proofs.producers.Drawing.{Every, drawn_run, here, row_from}
 use Rattle.pulsar_laws.proofs.producers.InTurn.{at_most_none}
 use Rattle.pulsar_laws.proofs.producers.Keepers.{Keeps, NoStore, ends_settled, keeps_more, no_store, none_stored, store_keeps}
-use Rattle.pulsar_laws.proofs.producers.OnceSent.{Few, few_run, sent_once_lem}
+use Rattle.pulsar_laws.proofs.producers.OnceSent.{few_run, left_some, sent_once_lem}
 use Rattle.pulsar_laws.proofs.producers.Topics.{all_after, row_as}
 
 -- HOW OFTEN A TICKET STANDS in what a topic producer stores, and in what it has cut
@@ -177,10 +177,11 @@ module _ (t : ℕ) where
     queued_with (_ ∷ log) = queued_with log
 
     -- it may be queued with the batch under way, or later
+    abbrev waits_with : List Entry → ℕ
+    waits_with log = cond (frames_queued o m log == 0) (times_under t (under_way o m log)) 0
+
     abbrev Bound : List Entry → Type 0
-    Bound log =
-        queued_with log + cond (frames_queued o m log == 0) (times_under t (under_way o m log)) 0 + at_row ((view o log).producers.topics m)
-        ≤ counted (stores_at m) log
+    Bound log = queued_with log + waits_with log + at_row ((view o log).producers.topics m) ≤ counted (stores_at m) log
 
   queued_step : (b : Bool) (f q c r s : ℕ) → cond b (f + 1) f ≤ 1 → q + cond (f == 0) c 0 + r ≤ s →
       q + cond b c 0 + cond (cond b (f + 1) f == 0) c 0 + r ≤ s + 0
@@ -200,7 +201,7 @@ module _ (t : ℕ) where
     v = view o log
 
     abbrev waits : ℕ
-    waits = cond (frames_queued o m log == 0) (times_under t (under_way o m log)) 0
+    waits = waits_with o m log
 
     takes_bound : (who : Who) (n : ℕ) → IsRun o (Then (Does who (TakeBatch n)) ∷ log) → Bound o m (Then (Does who (TakeBatch n)) ∷ log)
     takes_bound who n run = elim (cases_Bool (is_same (Producer m) who)) [
@@ -242,9 +243,14 @@ module _ (t : ℕ) where
   bound_run : (o : Options) (m : ℕ) (log : List Entry) → IsRun o log → Bound o m log
   bound_run o m [] run = omega arith
   bound_run o m (Begins e ∷ log) run =
-      subst (λ r. queued_with o m log + cond (frames_queued o m log == 0) (times_under t (under_way o m log)) 0 + at_row r ≤ counted (stores_at m) log)
+      subst (λ r. queued_with o m log + waits_with o m log + at_row r ≤ counted (stores_at m) log)
       (sym (begun_same (λ v. v.producers.topics m) e (view o log) refl)) (bound_run o m log run.0)
   bound_run o m (Then a ∷ log) run = then_bound o m log (bound_run o m log run.0) a run
+
+  queued_bound : (o : Options) (m : ℕ) (log : List Entry) → IsRun o log → queued_with o m log ≤ counted (stores_at m) log
+  queued_bound o m log run =
+      let b : queued_with o m log + waits_with o m log + at_row ((view o log).producers.topics m) ≤ counted (stores_at m) log = bound_run o m log run in
+      omega (arith, b)
 
   -- AT ALL OF THEM: it is stored at one
 
@@ -302,9 +308,6 @@ module _ (t : ℕ) where
   abbrev at_one : Options → List Entry → Outcome → ℕ → ℕ
   at_one o log u i = cond (is_queued u && asks_batch ((view o log).stand (Producer i))) (times_under t (under_way o i log)) 0
 
-  head : {a b c s : ℕ} → a + b + c ≤ s → a ≤ s
-  head {a} {b} {c} {s} p = omega (arith, p)
-
   -- what is queued at another topic producer has none of it
   told_one : (o : Options) (m : ℕ) (log : List Entry) (x : Notice) → IsRun o (Then (Told x) ∷ log) →
       counted stores_by log ≤ counted (stores_at m) log → (w : Who) → x.who ≡ w →
@@ -319,7 +322,7 @@ module _ (t : ℕ) where
         rw own (subst (λ i. at_one o log x.outcome i ≤ at_one o log x.outcome m) same (omega arith)))
     | inr s ↦
         (let bound : queued_with o n log + cond (is_same (Producer n) x.who && (is_queued x.outcome && asks_batch ((view o log).stand (Producer n))))
-        (times_under t (under_way o n log)) 0 ≤ counted (stores_at n) log + 0 = head (bound_run o n (Then (Told x) ∷ log) run) in
+        (times_under t (under_way o n log)) 0 ≤ counted (stores_at n) log + 0 = queued_bound o n (Then (Told x) ∷ log) run in
         let named : queued_with o n log + at_one o log x.outcome n ≤ counted (stores_at n) log + 0 =
         subst (λ b. queued_with o n log + cond (b && (is_queued x.outcome && asks_batch ((view o log).stand (Producer n))))
         (times_under t (under_way o n log)) 0 ≤ counted (stores_at n) log + 0)
@@ -385,15 +388,12 @@ module _ (t : ℕ) where
       let one : start_of t (Starts (Call t) (procedure.Store n x.0 e)) ≡ 1 = ap (λ b. cond b 1 0) (same_self (Call t)) in
       let unstored : counted stores_by older ≡ 0 =
       at_most_none (counted stores_by older) (λ some. (let b : 1 ≤ counted (start_of t) older = (was.none some).1.began in omega (arith, b, once, one))) in
-      let few : Few o older t = few_run o older t in
-      let unqueued : queued_times o t older ≡ 0 = none_of few once one in (
+      let few : queued_times o t older + left_some ((view o older).stand (Call t)) ≤ counted (start_of t) older = few_run o older t in
+      let unqueued : queued_times o t older ≡ 0 = omega (arith, few, once, one) in (
         ap (counted stores_by) x.2 ∙ (let g : counted stores_by older + 0 ≡ 0 = omega (arith, unstored) in g),
         ap (queued_times o t) x.2 ∙ (let g : queued_times o t older + 0 ≡ 0 = omega (arith, unqueued) in g),
         keeps_more o log (Then (Does (Call t) (Store n e))) t run (store_keeps o log t n e run),
       )
-    where
-      none_of : {q l s c : ℕ} → q + l ≤ s → s + c ≤ 1 → c ≡ 1 → q ≡ 0
-      none_of {q} {l} {s} {c} f g h = omega (arith, f, g, h)
 
   once_then : (o : Options) (log : List Entry) (a : Act) → IsRun o (Then a ∷ log) → Every (Once o) log → Once o (Then a ∷ log)
   once_then o log (Does who (Store n e)) run k = elim (cases_Bool (t == turn_of who)) [
@@ -439,8 +439,7 @@ module _ (t : ℕ) where
       batched_times o t log ≤ counted stores_by log
   batched_bound o log m run h =
       let all : batched_times o t log ≤ queued_with o m log = all_bound o m log run h in
-      let b : Bound o m log = bound_run o m log run in
-      let one : queued_with o m log ≤ counted (stores_at m) log = head b in
+      let one : queued_with o m log ≤ counted (stores_at m) log = queued_bound o m log run in
       let most : counted (stores_at m) log ≤ counted stores_by log = all_most m log in
       omega (arith, all, one, most)
 

@@ -639,8 +639,5 @@ by_begun P p f g = turn_by P (Begun p) (BegunEnd p) (begins p) f g (begins_arcs 
 pub begins_by : (P : Plan → Action → Type 0) (p : Procedure) → ((q : Plan) (a : Action) → Begun p q a → P q a) → StaysSo P (begins p)
 begins_by P p f = by_begun (StaysSo P) p f (λ v k. tt)
 
-pub begun_end : {p : Procedure} {v : Verdict} → begins p ≡ Gives v → BegunEnd p v
-begun_end {p} e = subst (BegunTo p) e (begins_arcs p)
-
 pub begun_arc : {p : Procedure} {q : Plan} {a : Action} → begins p ≡ Stays q a → Begun p q a
 begun_arc {p} e = subst (BegunTo p) e (begins_arcs p)

@@ -17,7 +17,7 @@ use Rattle.pulsar_laws.specs.ProducerLaws.{asks_in, is_queued}
 use Rattle.pulsar_laws.proofs.plans.Batched.{BatchSo, Comes, IsSending, IsSettling, tells_where}
 use Rattle.pulsar_laws.proofs.plans.Granted.{GivenBy, granted_by, grants_given}
 use Rattle.pulsar_laws.proofs.plans.Owned.{starts_own}
-use Rattle.pulsar_laws.proofs.plans.ProducerArcs.{SendArc, queued, send_arc, sent_rests}
+use Rattle.pulsar_producer.proofs.Arcs.{SendArc, queued, send_arc, sent_rests}
 use Rattle.pulsar_laws.proofs.plans.Standing.{moves, run_older, stands_so}
 use Rattle.pulsar_laws.proofs.producers.BatchFailing.{is_told_news, never_told}
 use Rattle.pulsar_laws.proofs.producers.BatchRun.{AtDeed, Batched, PromptSo, batched_run, calm_at, deed_at, is_batch_deed, never_both, self_same, turn_so}

@@ -4,7 +4,7 @@ use Rattle.std.proofs.lemmas.Bool.{cases_Bool, eqb-true}
 use Rattle.std.proofs.lemmas.Bool.Decides.{nat_tests}
 use Rattle.std.specs.Option.{is_some, option_map}
 use Rattle.pulsar_laws.proofs.ActWords.{Act, Action, Alarm, Answers, Asked, Batch, Call, Calls, Comes, Does, Draw, Heard, is_same, lacks_tickets, Makes, Nothing, Outcome, Procedure, Rings, shares, Shut, Starts, Told, Verdict, Who}
-use Rattle.pulsar_laws.proofs.PlanWords.{begins, Built, Order, Plan, Producing, Ways}
+use Rattle.pulsar_laws.proofs.PlanWords.{begins, Built, Gives, Order, Plan, Producing, Ways}
 use Rattle.pulsar_laws.proofs.RunWords.{Begins, begun_same, counted, draws_on, Entry, IsRun, may_call, notice, Options, producers_made, producers_rung, room_of, start_of, started, Then, view, View}
 use Rattle.pulsar_laws.proofs.LinkWords.{rings}
 use Rattle.pulsar_messages.specs.Content.{ProducerMessageValues, ProducerOptionsValues}
@@ -32,7 +32,7 @@ use Rattle.pulsar_laws.specs.BatchLaws.{BatchesByItsOptions}
 use Rattle.pulsar_laws.specs.ProducerLaws.{acts_on, topic_acts}
 use Rattle.pulsar_laws.proofs.calls.Once.{ends_once_lem}
 use Rattle.pulsar_laws.proofs.calls.Same.{same_self}
-use Rattle.pulsar_laws.proofs.plans.Arcs.{Arc, Begun, BegunEnd, End, answers, begins_none, begins_not, begins_numbers, begins_produce_asks, begins_produce_gets, begins_produce_waits, begun_arc, begun_end, builds_on, produced, told_arc, told_end}
+use Rattle.pulsar_plans.proofs.Arcs.{Arc, Begun, BegunEnd, End, answers, begins_none, begins_not, begins_numbers, begins_produce_asks, begins_produce_gets, begins_produce_waits, begun_arc, builds_on, by_begun, produced, told_arc, told_end}
 use Rattle.pulsar_laws.proofs.plans.Standing.{moves, stands_so}
 use Rattle.pulsar_laws.proofs.producers.Drawing.{Drawn, answers_from, drawn_run, here, row_from, who_call}
 use Rattle.pulsar_laws.proofs.producers.Numbering.{IsSound, makes_producer}
@@ -103,6 +103,11 @@ begun_built (begins_none {w} {o}) log t b m =
     record { ways = w; order = o; started_so = self_started log t (procedure.Produce w o); settings = settings_of o [] b m }
 begun_built (begins_not x) log t b m = absurd cc
 
+begun_end : (p : Procedure) (v : Verdict) → begins p ≡ Gives v → BegunEnd p v
+begun_end p v e =
+    by_begun (λ t. (x : Verdict) → t ≡ Gives x → BegunEnd p x) p (λ q a k x h. absurd cc)
+    (λ y k x h. (let f : y ≡ x = cc in subst (BegunEnd p) f k)) v e
+
 built_by : (o : Options) (log : List Entry) (t : ℕ) (verdict : Verdict) (b : Building) → verdict.makes ≡ Producer b →
     IsRun o (Then (Answers (Call t) verdict) ∷ log) → IsBuiltBy log t b
 built_by o log t verdict b m run = elim (answers_from o log (Call t) verdict run) [
@@ -113,7 +118,7 @@ built_by o log t verdict b m run = elim (answers_from o log (Call t) verdict run
       subst (λ l. IsBuiltBy l t b) (sym x.is_there)
       (record { ways = k.ways; order = k.order; started_so = k.started_so; settings = k.settings }))
   | inr y ↦ elim y [
-    | inl x ↦ subst (λ l. IsBuiltBy l t b) (sym x.is_there) (begun_built (begun_end x.leads) x.older t b m)
+    | inl x ↦ subst (λ l. IsBuiltBy l t b) (sym x.is_there) (begun_built (begun_end x.procedure verdict x.leads) x.older t b m)
     | inr e ↦ (let f : Nothing ≡ Producer b = ap (λ (v : Verdict). v.makes) (sym e) ∙ m in absurd cc)
   ]
 ]

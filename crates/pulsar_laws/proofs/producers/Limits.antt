@@ -4,7 +4,7 @@ use Rattle.std.proofs.lemmas.Bool.{cases_Bool, eqb-true}
 use Rattle.std.proofs.lemmas.Bool.Decides.{nat_tests}
 use Rattle.std.specs.Option.{is_some, option_map}
 use Rattle.pulsar_laws.proofs.ActWords.{Act, Action, Alarm, Answers, Asked, Batch, Call, Calls, Comes, Does, Draw, Heard, is_same, lacks_tickets, Makes, Nothing, Outcome, Procedure, Rings, shares, Shut, Starts, Told, Verdict, Who}
-use Rattle.pulsar_laws.proofs.PlanWords.{begins, Built, Gives, Order, Plan, Producing, Ways}
+use Rattle.pulsar_laws.proofs.PlanWords.{begins, Built, Gives, is_answer, Order, Plan, Producing, Ways}
 use Rattle.pulsar_laws.proofs.RunWords.{Begins, begun_same, counted, draws_on, Entry, IsRun, may_call, notice, Options, producers_made, producers_rung, room_of, start_of, started, Then, view, View}
 use Rattle.pulsar_laws.proofs.LinkWords.{rings}
 use Rattle.pulsar_messages.specs.Content.{ProducerMessageValues, ProducerOptionsValues}
@@ -94,7 +94,7 @@ end_built : (Q : ℕ → Type 0) {p : Plan} {u : Outcome} {v : Verdict} → End 
     OrderedSo log t p → IsSound Q p → IsBuiltBy log t b
 end_built Q (produced {w} {o} {parts} built) log t b m k s =
     record { ways = w; order = o; started_so = k; settings = settings_of o parts b m }
-end_built Q (answers {x} {r}) log t b m k s = absurd (plain_reply _ x.makes b s m)
+end_built Q (answers {x} {r}) log t b m k s = absurd (plain_reply (is_answer x.number r.content.body) x.makes b s m)
 end_built Q _ log t b m k s = absurd cc
 
 begun_built : {p : Procedure} {v : Verdict} → BegunEnd p v → (log : List Entry) (t : ℕ) (b : Building) → v.makes ≡ Producer b →

@@ -108,8 +108,8 @@ FailedSo n log items cause =
     (w : Ways) × (e : Errand) × (m : ProducerMessageValues) × (e.producer ≡ n) × (batch_of (entries_in items) ≡ Ok m)
     × FailsSo (procedure.Send w e None m) (told_since n log) cause
 
--- its frame was queued, once, and a receipt came for one that its topic producer asked for; or its send failed, for this cause; or it could not be written; or the client was stopped; or there was no
--- message in it
+-- its frame was queued, once, and a receipt came for one that its topic producer asked for; or its send failed, for this cause; or it could not be
+-- written; or the client was stopped; or there was no message in it
 abbrev pub IsFateOf : Options → (number : ℕ) → List Entry → List Item → Outcome → Fate → Type 0
 IsFateOf o n log items u f =
     ((r : Reply) × (s : ℕ) × (u ≡ outcome.Replied r) × (is_body 7 r.content.body ≡ true) × (r.content.key ≡ Some (key.ProducerSend n s))
@@ -134,8 +134,8 @@ is_granted outcome.Queued = true
 is_granted outcome.InLine = true
 is_granted _ = false
 
--- A batch whose frame was queued waits for what becomes of that: nothing that its topic producer is granted settles it. So its frame is not behind
--- it, as the next batch is taken, before an outcome came.
+-- A batch whose frame was queued waits for what becomes of that: nothing that its topic producer is granted settles it, so that the next one is
+-- taken.
 abbrev pub QueuedIsWaitedFor : Type 0
 QueuedIsWaitedFor = (o : Options) (log : List Entry) (n : ℕ) (ns : List Notice) (u : Outcome) (older : List Entry) →
     IsRun o (Then (Does (Producer n) (TellAll ns)) ∷ log) → log ≡ Then (Told (notice (Producer n) u)) ∷ older → 1 ≤ frames_queued o n older →

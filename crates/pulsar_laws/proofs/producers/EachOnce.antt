@@ -2,7 +2,7 @@
 use Rattle.std.proofs.Common.{◌≡◌, inl, inr, ◌∙◌, sym, ap, subst, ℕ, zero, suc, ◌+◌, ◌≤◌, ◌==◌, arith, List, [], ◌∷◌, ◌++◌, refl, Bool, true, false, ◌&&◌, cond, Option, Some, None, eq-eqb}
 use Rattle.std.proofs.lemmas.Bool.{cases_Bool, eqb-true}
 use Rattle.std.specs.Option.{option_map}
-use Rattle.pulsar_laws.proofs.ActWords.{Act, Call, Consumer, Does, is_same, Notice, Producer, Starts, Store, TakeBatch, TellAll, Told, turn_of, Who}
+use Rattle.pulsar_laws.proofs.ActWords.{Act, Call, Consumer, Does, is_same, Notice, Outcome, Producer, Starts, Store, TakeBatch, TellAll, Told, turn_of, Who}
 use Rattle.pulsar_laws.proofs.PlanWords.{Plan, Stored, Storing}
 use Rattle.pulsar_laws.proofs.RunWords.{Begins, begun_same, counted, Each, Entry, IsRun, Options, start_of, Then, view, View}
 use Rattle.pulsar_frame.specs.Batch.{EntryValues}
@@ -408,7 +408,8 @@ module _ (t : ℕ) where
           none = λ one. (omega (arith, q), subst (λ (w : Who). Keeps o (Then (Does w (Store n e)) ∷ log) t) (sym same) x.2);
         })
     | inr f ↦
-        (let x = kept_on o log (Does who (Store n e)) (cond (t == turn_of who) 1 0) 0 (ap (λ b. cond b 1 0) f) (λ k. refl) run (here (Once o) log k) in
+        (let z : ◌≡◌ {A = ℕ} (cond (t == turn_of who) 1 0) 0 = ap (λ b. cond b 1 0) f in
+        let x = kept_on o log (Does who (Store n e)) (cond (t == turn_of who) 1 0) 0 z (λ h. refl) run (here (Once o) log k) in
         record { few = x.0; none = x.1 })
   ]
   once_then o log (Told n) run k =
@@ -417,7 +418,7 @@ module _ (t : ℕ) where
       (here (Once o) log k) in
       record { few = x.0; none = x.1 }
     where
-      unasked : (a b c : Bool) → c ≡ false → cond (a && (b && c)) 1 0 ≡ 0
+      unasked : (a b c : Bool) → c ≡ false → ◌≡◌ {A = ℕ} (cond (a && (b && c)) 1 0) 0
       unasked true true c h = ap (λ x. cond x 1 0) h
       unasked true false c h = refl
       unasked false b c h = refl

@@ -217,7 +217,7 @@ queued_is_waited_for_lem o log n ns u older run there some = elim (deed_at o log
     at : AtDeed o log n (TellAll ns) → is_granted u ≡ false
     at d =
         let both : Then (Told (notice (Producer n) u)) ∷ older ≡ Then (Told (notice (Producer n) d.outcome)) ∷ d.older = sym there ∙ d.there in
-        let head : Then (Told (notice (Producer n) u)) ≡ Then (Told (notice (Producer n) d.outcome)) = cc in
+        let head : ◌≡◌ {A = Entry} (Then (Told (notice (Producer n) u))) (Then (Told (notice (Producer n) d.outcome))) = cc in
         let rest : older ≡ d.older = cc in
         let same : u ≡ d.outcome = ap (told_in u) head in
         let t = tells_where d.was.ways d.was.errand d.was.state d.outcome d.state ns d.step in

@@ -1,11 +1,14 @@
 pub mod BatchRun
 pub mod BatchFailing
 pub mod BatchFrames
+pub mod BatchQueued
 pub mod BatchTold
 pub mod BatchSent
 pub mod Closed
+pub mod EachOnce
 pub mod Flushing
 pub mod Keepers
+pub mod Limits
 pub mod Numbering
 pub mod Drawing
 pub mod Free

@@ -86,6 +86,16 @@ abbrev pub asks_send : Option Plan → Bool
 asks_send None = false
 asks_send (Some p) = asks_at p
 
+-- the version of the schema that one was told with its newest turn
+abbrev pub version_in : Outcome → Option (Option (List ℕ)) → Option (Option (List ℕ))
+version_in (outcome.Granted (news.HasTurn version)) before = Some version
+version_in _ before = before
+
+abbrev pub version_told : Who → List Entry → Option (Option (List ℕ))
+version_told w [] = None
+version_told w (Then (Told n) ∷ log) = if is_same w n.who then version_in n.outcome (version_told w log) else version_told w log
+version_told w (_ ∷ log) = version_told w log
+
 -- what an act does to the topic producer of a number
 abbrev pub drawn_by : Option Bool → List TopicAct
 drawn_by None = []
@@ -132,14 +142,15 @@ NumbersAreFree = (o : Options) (log : List Entry) (n : ℕ) → o.chosen.first_n
     × ((who : Who) (m : ℕ) → In (Then (Told (notice who (outcome.Granted (news.Numbered m))))) log → m < n)
 
 -- Where a send of a call asks for its frame, it is the call's own message by the name that its topic producer has then, on its link and in its
--- turn. Its number is the one that was drawn last. Where the message has no version of the schema, it has the one that it was told with its turn.
+-- turn. Its number is the one that was drawn last. Where the message has no version of the schema, it has the one that it was told with this turn, its
+-- newest.
 abbrev pub FramesAreOfTheirSends : Type 0
 FramesAreOfTheirSends = (o : Options) (log : List Entry) (t l n s : ℕ) (name : List ℕ) (m : ProducerMessageValues) (block : Bool)
     (w : Ways) (e : Errand) (share : Option Share) (given : ProducerMessageValues) →
     IsRun o (Then (Does (Call t) (Ask l (words.Send n name s m block))) ∷ log) → started (Call t) log ≡ Some (procedure.Send w e share given) →
     (row : Topic) × (version : Option (List ℕ)) × ((view o log).producers.topics n ≡ Some row) × (n ≡ e.producer) × (block ≡ e.block)
     × (row.seen.holder ≡ Some t) × (row.seen.link ≡ l) × (row.seen.given.name ≡ name) × (row.seen.next ≡ s + 1) × (m ≡ with_version version given)
-    × In (Then (Told (notice (Call t) (outcome.Granted (news.HasTurn version))))) log
+    × (version_told (Call t) log ≡ Some version)
 
 -- The frame that is queued for it spells these words, and nothing else does at that place,
 abbrev pub QueuedAsAsked : Type 0

@@ -19,6 +19,7 @@ use Rattle.pulsar_searches.specs.declared.look.Search.{Search}
 use Rattle.pulsar_searches.specs.declared.making.Command.{Command}
 use Rattle.pulsar_searches.specs.declared.making.Making.{Making}
 use Rattle.pulsar_searches.specs.declared.making.Making.TheVariants as make
+use Rattle.pulsar_searches.specs.declared.plan.Procedure.TheVariants as sought
 use Rattle.pulsar_searches.specs.declared.retry.Retrying.TheVariants as retry
 use Rattle.pulsar_searches.specs.declared.turn.Action.{Action as Wish}
 use Rattle.pulsar_searches.specs.declared.turn.Action.TheVariants as wish
@@ -38,6 +39,7 @@ use Rattle.pulsar_calls.specs.declared.act.LinkAct.TheVariants.{Ends}
 use Rattle.pulsar_calls.specs.declared.act.Outcome.TheVariants as outcome
 use Rattle.pulsar_calls.specs.declared.act.Part.TheVariants.{Rings, ToLink}
 use Rattle.pulsar_calls.specs.declared.act.Procedure.{Procedure}
+use Rattle.pulsar_calls.specs.declared.act.Procedure.TheVariants as procedure
 use Rattle.pulsar_calls.specs.declared.act.Who.{Who}
 use Rattle.pulsar_calls.specs.Who.{turn_of as taken_as}
 use Rattle.pulsar_links.specs.Alarms.{is_same_alarm, moment_of, rings}
@@ -49,10 +51,10 @@ use Rattle.pulsar_links.specs.declared.addresses.Series.TheVariants.{Nobody, Run
 use Rattle.pulsar_producer_table.specs.Producers.{is_bare, numbers_at, timeout_at, topic_after}
 use Rattle.pulsar_producer_table.specs.declared.table.Topic.{Topic}
 use Rattle.pulsar_acts.specs.Rules.{notice}
-use Rattle.pulsar_acts.specs.Run.{Entry, Begins, Then, IsRun, view}
+use Rattle.pulsar_acts.specs.Run.{Entry, Begins, Then, IsRun, Rests, view}
 use Rattle.pulsar_acts.specs.View.{Turned, View, builds, turned}
 use Rattle.pulsar_machine.specs.Options.{Chosen, Options}
-use Rattle.pulsar_laws.specs.Laws.{started, ways_in}
+use Rattle.pulsar_laws.specs.Laws.{Acted, Deed, deeds, started, ways_in}
 
 -- WHEN AN ALARM COMES
 
@@ -258,3 +260,19 @@ MakesAgain = (w : Ways) (c : Command) (place : Place) (os : List News) (n l : �
     turn_along (made_told w c) (made_gets 0 place) os ≡ Stays (make.Asked n l) a → search.verdict c.answer o ≡ Err f → is_retryable f ≡ true →
     AgainOrNot w (rests_along rests_making (made_told w c) (made_gets 0 place) os) (make.Retrying retry.Resting n) (OfConnection f)
     (made_told w c (make.Asked n l) o)
+
+-- how often one waited
+abbrev pub waits_in : List Deed → ℕ
+waits_in [] = 0
+waits_in (Acted (Wait delay) ∷ ds) = waits_in ds + 1
+waits_in (d ∷ ds) = waits_in ds
+
+-- Who asks for the number of partitions of a topic, or for its broker, waits so often only as the options allow, in every run: before each wait fewer
+-- retries were made than that.
+abbrev pub IsAllowed : Option ℕ → (waits : ℕ) → Type 0
+IsAllowed most n = (before : ℕ) → n ≡ before + 1 → MayRetry most before
+
+abbrev pub QuestionsAreBounded : Type 0
+QuestionsAreBounded = (o : Options) (log : List Entry) (who : Who) (w : Ways) (t : List ℕ) → IsRun o log → Rests o log →
+    (started who log ≡ Some (procedure.Search w (sought.CountPartitions t))) ⊎ (started who log ≡ Some (procedure.Search w (sought.Look t))) →
+    IsAllowed o.chosen.operation.max_retries (waits_in (deeds who log))

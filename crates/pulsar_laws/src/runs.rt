@@ -6,7 +6,7 @@ ghost use Rattle.pulsar_laws.specs.Laws.{AlarmsAreTicked, AllIsDone, AnswersOnce
 ghost use Rattle.pulsar_laws.specs.CauseLaws.{OutcomesAreCaused};
 ghost use Rattle.pulsar_laws.specs.LinkLaws.{DueLinksEnd, EndedIs, SettledAsTold, SettledOnce};
 ghost use Rattle.pulsar_laws.specs.AddressLaws.{AttemptsFollow, IdleEnds, NoneAfterStop, OneLinkEach, SeriesIsNewest, KeepAlivePings};
-ghost use Rattle.pulsar_laws.specs.RetryLaws.{AttemptsAreSpent, CountsAgain, LooksAgain, MakesAgain, MomentsAreSet, PlansWait, RetriesAreCounted, WaysAreChosen};
+ghost use Rattle.pulsar_laws.specs.RetryLaws.{AttemptsAreSpent, CountsAgain, LooksAgain, MakesAgain, MomentsAreSet, PlansWait, QuestionsAreBounded, RetriesAreCounted, WaysAreChosen};
 ghost use Rattle.pulsar_laws.specs.Traces.{IsGood, LocalIsKnown, attempt_fails, attempt_is_retried, batch_is_sent, client_is_stopped, consumer_is_polled, deadline_comes, line_moves_up, lookup_is_redirected, message_is_sent, reply_comes_early, request_is_answered};
 ghost use Rattle.pulsar_acts.specs.Run.{Good};
 ghost use Rattle.pulsar_calls.specs.Steps.{Step};
@@ -149,6 +149,7 @@ pub fn operations_are_made_again()
     ensures counts { CountsAgain }
     ensures looks { LooksAgain }
     ensures makes { MakesAgain }
+    ensures bounded { QuestionsAreBounded }
 {}
 
 /// From a Stop on no attempt begins.

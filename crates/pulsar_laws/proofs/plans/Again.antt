@@ -1,30 +1,45 @@
 -- A search, and a command, are made again so long as the options allow another retry: what a machine counts is how often it rested.
-use Rattle.std.proofs.Common.{◌≡◌, inl, inr, ◌∙◌, sym, ap, subst, ℕ, ◌+◌, ◌-◌, ◌^◌, ◌<◌, ◌≤◌, min, arith, List, [], ◌∷◌, refl, ◌&&◌, Bool, true, false, cond, Option, Some, None, Result, Ok, Err}
+use Rattle.std.proofs.Common.{◌≡◌, inl, inr, ◌∙◌, sym, ap, subst, ℕ, ◌+◌, ◌-◌, ◌^◌, ◌<◌, ◌≤◌, min, arith, List, [], ◌∷◌, refl, ◌&&◌, ◌||◌, Bool, true, false, cond, Option, Some, None, Result, Ok, Err}
 use Rattle.std.specs.Prelude.{pos}
-use Rattle.std.proofs.lemmas.Bool.{cases_Bool}
+use Rattle.std.proofs.lemmas.Bool.{and_parts, cases_Bool}
 use Rattle.std.proofs.lemmas.Bool.Decides.{nat_tests}
-use Rattle.pulsar_laws.proofs.PlanWords.{Command, Denies, Heard as News, Later, Looking, Making, Says, SearchTurn, Served, Ways, Wish}
+use Rattle.pulsar_laws.proofs.ActWords.{Outcome, Procedure, Rest}
+use Rattle.pulsar_laws.proofs.PlanWords.{begins, Command, Denies, Heard as News, Later, Looking, Making, news_in, Says, SearchTurn, Served, Ways, Wish}
+use Rattle.pulsar_laws.proofs.RunWords.{started}
 use Rattle.pulsar_laws.proofs.LinkWords.{Failure, Fault, OfConnection, Place}
 use Rattle.pulsar_frame.specs.Reply.{Reply as Content, is_body}
 use Rattle.pulsar_addresses.specs.Backoff.{allow_retry, one_more}
 use Rattle.pulsar_searches.specs.Plans as search
 use Rattle.pulsar_searches.specs.Plans.{count_begins, count_told, is_lost, is_retryable, look_begins, look_told, made_gets, made_told}
-use Rattle.pulsar_searches.specs.Replies.{count_in, fails_by, is_choice, place_heard, query}
+use Rattle.pulsar_searches.specs.Replies.{count_in, counted_of, fails_by, is_choice, is_set, place_at, place_heard, pointed_at, query}
 use Rattle.pulsar_searches.specs.declared.count.Counting.{Counting}
 use Rattle.pulsar_searches.specs.declared.count.Counting.TheVariants as count
 use Rattle.pulsar_searches.specs.declared.look.Looking.TheVariants as look
 use Rattle.pulsar_searches.specs.declared.look.Search.{Search as Question}
 use Rattle.pulsar_searches.specs.declared.making.Making.TheVariants as make
+use Rattle.pulsar_searches.specs.declared.plan.Answer.{Answer}
+use Rattle.pulsar_searches.specs.declared.plan.Answer.TheVariants as answer
+use Rattle.pulsar_searches.specs.declared.plan.Plan.{Plan as Search}
+use Rattle.pulsar_searches.specs.declared.plan.Plan.TheVariants as searching
+use Rattle.pulsar_searches.specs.declared.plan.Procedure.TheVariants as sought
 use Rattle.pulsar_searches.specs.declared.replies.Heard.{Heard}
 use Rattle.pulsar_searches.specs.declared.replies.Pointed.{Pointed}
 use Rattle.pulsar_searches.specs.declared.replies.Pointed.TheVariants.{Redirects, Serves}
 use Rattle.pulsar_searches.specs.declared.retry.Retrying.{Retrying}
 use Rattle.pulsar_searches.specs.declared.retry.Retrying.TheVariants as retry
-use Rattle.pulsar_searches.specs.declared.turn.Action.TheVariants.{Wait}
+use Rattle.pulsar_searches.specs.declared.turn.Action.TheVariants.{Ask, Get, Wait}
 use Rattle.pulsar_searches.specs.declared.turn.Outcome.TheVariants as news
 use Rattle.pulsar_searches.specs.declared.turn.Turn.TheVariants.{Stays, Gives}
-use Rattle.pulsar_laws.proofs.Cases.{cond_so}
-use Rattle.pulsar_laws.specs.RetryLaws.{AgainOrNot, CountsAgain, HasRetried, LooksAgain, MakesAgain, MayRetry, one_if, rests_along, rests_counting, rests_looking, rests_making, to_32, turn_along}
+use Rattle.pulsar_calls.specs.declared.act.Outcome.TheVariants as outcome
+use Rattle.pulsar_calls.specs.declared.act.Procedure.TheVariants as procedure
+use Rattle.pulsar_plans.specs.Plan.{goes}
+use Rattle.pulsar_plans.specs.declared.plan.Plan.TheVariants.{Searching}
+use Rattle.pulsar_plans.specs.declared.plan.Turn.TheVariants as plan_turn
+use Rattle.pulsar_laws.proofs.Cases.{cond_so, cond_when}
+use Rattle.pulsar_laws.proofs.plans.Follow.{plans_follow_lem}
+use Rattle.pulsar_laws.proofs.plans.Waiting.{ways_are_chosen_lem}
+use Rattle.pulsar_laws.specs.Laws.{Deed, course, deeds, outcomes, ways_in}
+use Rattle.pulsar_laws.specs.RetryLaws.{AgainOrNot, CountsAgain, HasRetried, IsAllowed, LooksAgain, MakesAgain, MayRetry, QuestionsAreBounded, one_if, rests_along, rests_counting, rests_looking, rests_making, to_32, turn_along, waits_in}
 
 -- ALONG WHAT A MACHINE IS TOLD
 
@@ -64,8 +79,11 @@ rested n k h = (k, refl, h)
 more_to : (most n j k : ℕ) → k ≡ j + 1 → n ≡ min j most → min (n + 1) most ≡ min k most
 more_to most n j k e h = omega (arith, e, h)
 
+now_on : (n k : ℕ) → IsBefore n k → IsNow (one_more n) k
+now_on n k (j, e, h) = more_to (2 ^ 32 - 1) n j k e h
+
 counted_on : (n k : ℕ) → IsBefore n k → IsNow (one_more n) (k + 0)
-counted_on n k (j, e, h) = still (one_more n) k (more_to (2 ^ 32 - 1) n j k e h)
+counted_on n k i = still (one_more n) k (now_on n k i)
 
 -- WHAT THE OPTIONS ALLOW
 
@@ -242,3 +260,141 @@ makes_again_lem w c place os n l a o f h v r =
         ≡ cond x (Stays (make.Retrying retry.Resting n) (Wait w.retry_delay)) (Gives (Err (OfConnection f)))
     begun true = refl
     begun false = refl
+
+-- IN A RUN each wait of a question is one that the options allow
+
+none_waited : (most : Option ℕ) → IsAllowed most 0
+none_waited most j e = absurd (let no : ⊥ = omega (arith, e) in no)
+
+one_waited : (most : Option ℕ) (k : ℕ) → MayRetry most k → IsAllowed most (k + 1)
+one_waited most k h j e = subst (MayRetry most) (let same : k ≡ j = omega (arith, e) in same) h
+
+same_allowed : (most : Option ℕ) (k n : ℕ) → k ≡ n → IsAllowed most k → IsAllowed most n
+same_allowed most k n e a j f = a j (omega (arith, e, f))
+
+module _ (w : Ways) where
+  abbrev Bounded : ℕ → List Deed → Type 0
+  Bounded k ds = IsAllowed w.max_retries (k + waits_in ds)
+
+  over_bounded : (k : ℕ) → IsAllowed w.max_retries k → IsAllowed w.max_retries (k + 0)
+  over_bounded k a = same_allowed w.max_retries k (k + 0) (omega arith) a
+
+  -- a machine waits only where this is allowed, and its states keep how often it did
+  abbrev WaitsSo : {S A : Type 0} → (S → ℕ → Type 0) → ℕ → SearchTurn S (Result A Failure) → Type 0
+  WaitsSo I k (Stays s (Get p)) = I s k
+  WaitsSo I k (Stays s (Ask l request)) = I s k
+  WaitsSo I k (Stays s (Wait delay)) = MayRetry w.max_retries k × I s (k + 1)
+  WaitsSo I k (Gives a) = Unit {0}
+
+  module _ {S A : Type 0} (I : S → ℕ → Type 0) (within : S → Search) (gives : A → SearchTurn Search (Result Answer Failure)) where
+    abbrev Goes : List Outcome → Type 0
+    Goes os = (s : S) (k : ℕ) → I s k → IsAllowed w.max_retries k → Bounded k (course (plan_turn.Stays (Searching w (within s)) Rest) os)
+
+    goes_bounded : ((a : A) → (x : Result Answer Failure) × (gives a ≡ Gives x)) → (x : SearchTurn S (Result A Failure)) (k : ℕ) (os : List Outcome) →
+        WaitsSo I k x → IsAllowed w.max_retries k → Goes os → Bounded k (course (goes w (search.and_then x within gives)) os)
+    goes_bounded ends (Gives (Ok x)) k os i a on =
+        let e = ends x in subst (λ y. Bounded k (course (goes w y) os)) (sym e.1) (over_bounded k a)
+    goes_bounded ends (Gives (Err f)) k os i a on = over_bounded k a
+    goes_bounded ends (Stays s (Get p)) k [] i a on = over_bounded k a
+    goes_bounded ends (Stays s (Get p)) k (o ∷ os) i a on = on s k i a
+    goes_bounded ends (Stays s (Ask l request)) k [] i a on = over_bounded k a
+    goes_bounded ends (Stays s (Ask l request)) k (o ∷ os) i a on = on s k i a
+    goes_bounded ends (Stays s (Wait delay)) k [] i a on = one_waited w.max_retries k i.0
+    goes_bounded ends (Stays s (Wait delay)) k (o ∷ os) i a on =
+        let n : ℕ = waits_in (course (plan_turn.Stays (Searching w (within s)) Rest) (o ∷ os)) in
+        same_allowed w.max_retries (k + 1 + n) (k + (n + 1)) (omega arith) (on s (k + 1) i.1 (one_waited w.max_retries k i.0))
+
+    on_bounded : (told : S → News → SearchTurn S (Result A Failure)) →
+        ((s : S) (o : News) → search.told w (within s) o ≡ search.and_then (told s o) within gives) →
+        ((a : A) → (x : Result Answer Failure) × (gives a ≡ Gives x)) → ((s : S) (o : News) (k : ℕ) → I s k → WaitsSo I k (told s o)) →
+        (os : List Outcome) → Goes os
+    on_bounded told is ends step [] s k i a = over_bounded k a
+    on_bounded told is ends step (outcome.Queued ∷ os) s k i a = on_bounded told is ends step os s k i a
+    on_bounded told is ends step (outcome.InLine ∷ os) s k i a = on_bounded told is ends step os s k i a
+    on_bounded told is ends step (outcome.Cut ∷ os) s k i a = over_bounded k a
+    on_bounded told is ends step (outcome.Stopped ∷ os) s k i a = over_bounded k a
+    on_bounded told is ends step (o ∷ os) s k i a =
+        subst (λ x. Bounded k (course (goes w x) os)) (sym (is s (news_in o)))
+        (goes_bounded ends (told s (news_in o)) k os (step s (news_in o) k i) a (on_bounded told is ends step os))
+
+  module _ (t : List ℕ) where
+    abbrev CountWaits : ℕ → Heard ℕ → (n l : ℕ) → Type 0
+    CountWaits k h n l = WaitsSo (CountSo w t) k (search.count_heard w n l h)
+
+    count_allowed : (n l k : ℕ) → IsNow n k → (r : Content) → CountWaits k (count_in w n r) n l
+    unfolding count_in
+    count_allowed n l k i r =
+        cond_so (λ h. CountWaits k h n l) (is_body 22 r.body) _ _
+        (cond_so (λ h. CountWaits k h n l) (fails_by (pos 1) r.response) _ _
+        (cond_when (λ h. CountWaits k h n l) (is_choice (pos 6) r.error && allow_retry w.max_retries n) Later (Denies (query r.error r.text))
+        (λ h. (may_retry w.max_retries n k i (and_parts (is_choice (pos 6) r.error) (allow_retry w.max_retries n) h).1, rested n k i)) (λ h. tt))
+        (counted r.partitions))
+        tt
+      where
+        counted : (x : Option ℕ) → CountWaits k (counted_of r x) n l
+        counted None = tt
+        counted (Some c) = tt
+
+    count_waits : (c : Counting) (o : News) (k : ℕ) → CountSo w t c k → WaitsSo (CountSo w t) k (count_told w t c o)
+    count_waits (count.Getting again n) (news.GotLink l) k i = i
+    count_waits (count.Getting again n) _ k i = tt
+    count_waits (count.Asked again n l) (news.Replied r) k i = count_allowed n l k i r
+    count_waits (count.Asked again n l) o k i = cond_so (WaitsSo (CountSo w t) k) _ (search.count_gets w false n) (search.fails _) i tt
+    count_waits (count.Resting n l) news.Woken k i = now_on n k i
+    count_waits (count.Resting n l) _ k i = tt
+
+    abbrev LookWaits : ℕ → Heard Pointed → Question → (link : ℕ) → Type 0
+    LookWaits k h s l = WaitsSo (LookSo w t) k (search.look_heard w s l h)
+
+    look_allowed : (s : Question) (l k : ℕ) → IsNow s.retries k → (r : Content) → LookWaits k (place_heard w s.last.proxy s.retries r) s l
+    unfolding place_heard
+    look_allowed s l k i r =
+        cond_so (λ h. LookWaits k h s l) (is_body 24 r.body) _ _
+        (cond_so (λ h. LookWaits k h s l) (fails_by (pos 2) r.response) _ _
+        (cond_when (λ h. LookWaits k h s l) (is_choice (pos 6) r.error && allow_retry w.max_retries s.retries) Later (Denies (query r.error r.text))
+        (λ h. (may_retry w.max_retries s.retries k i (and_parts (is_choice (pos 6) r.error) (allow_retry w.max_retries s.retries) h).1, rested s.retries k i))
+        (λ h. tt))
+        (pointed (place_at w.base (s.last.proxy || is_set r.proxy) r.url)))
+        tt
+      where
+        pointed : (x : Option Place) → LookWaits k (pointed_at r.response r.authority x) s l
+        pointed None = tt
+        pointed (Some place) =
+            cond_so (λ h. LookWaits k h s l) (is_choice (pos 0) r.response) (Says (Redirects place (is_set r.authority))) (Says (Serves place)) i tt
+
+    look_waits : (x : Looking) (o : News) (k : ℕ) → LookSo w t x k → WaitsSo (LookSo w t) k (look_told w t x o)
+    look_waits (look.Getting s) (news.GotLink l) k i = i
+    look_waits (look.Getting s) _ k i = tt
+    look_waits (look.Asked s l) (news.Replied r) k i = look_allowed s l k i r
+    look_waits (look.Asked s l) o k i = cond_so (WaitsSo (LookSo w t) k) _ (search.look_gets (record s { again = false })) (search.fails _) i tt
+    look_waits (look.Resting s l) news.Woken k i = now_on s.retries k i
+    look_waits (look.Resting s l) _ k i = tt
+    look_waits (look.Reaching place) (news.GotLink l) k i = tt
+    look_waits (look.Reaching place) _ k i = tt
+
+    -- so from their beginning
+    counts_bounded : (os : List Outcome) → Bounded 0 (course (begins (procedure.Search w (sought.CountPartitions t))) os)
+    counts_bounded os =
+        let ends : (n : ℕ) → (x : Result Answer Failure) × (Gives (Ok (answer.Count n)) ≡ Gives x) = (λ n. (Ok (answer.Count n), refl)) in
+        goes_bounded (CountSo w t) (searching.Counting t) (λ n. Gives (Ok (answer.Count n))) ends (count_begins w t) 0 os
+        (cond_so (WaitsSo (CountSo w t) 0) (search.is_partition t) (Gives (Ok 0)) (search.count_gets w true 0) tt refl) (none_waited w.max_retries)
+        (on_bounded (CountSo w t) (searching.Counting t) (λ n. Gives (Ok (answer.Count n))) (count_told w t) (λ s o. refl) ends count_waits os)
+
+    looks_bounded : (os : List Outcome) → Bounded 0 (course (begins (procedure.Search w (sought.Look t))) os)
+    looks_bounded os =
+        let ends : (p : Place) → (x : Result Answer Failure) × (Gives (Ok (answer.Address p)) ≡ Gives x) = (λ p. (Ok (answer.Address p), refl)) in
+        goes_bounded (LookSo w t) (searching.Looking t) (λ p. Gives (Ok (answer.Address p))) ends (look_begins w) 0 os refl (none_waited w.max_retries)
+        (on_bounded (LookSo w t) (searching.Looking t) (λ p. Gives (Ok (answer.Address p))) (look_told w t) (λ s o. refl) ends look_waits os)
+
+pub questions_are_bounded_lem : QuestionsAreBounded
+questions_are_bounded_lem o log who w t run rests h = elim h [
+  | inl is ↦ by (procedure.Search w (sought.CountPartitions t)) refl is (counts_bounded w t (outcomes who log))
+  | inr is ↦ by (procedure.Search w (sought.Look t)) refl is (looks_bounded w t (outcomes who log))
+]
+  where
+    by : (p : Procedure) → ways_in p ≡ Some w → started who log ≡ Some p → Bounded w 0 (course (begins p) (outcomes who log)) →
+        IsAllowed o.chosen.operation.max_retries (waits_in (deeds who log))
+    by p e is k =
+        subst (λ m. IsAllowed m (waits_in (deeds who log))) (ways_are_chosen_lem o log who p w run is e).1
+        (subst (λ ds. IsAllowed w.max_retries (waits_in ds)) (sym (plans_follow_lem o log who p run rests is))
+        (same_allowed w.max_retries (0 + waits_in (course (begins p) (outcomes who log))) _ (omega arith) k))

@@ -5,7 +5,8 @@ pub use Rattle.pulsar_acts.specs.Run.{Begins, Entry, IsRun, Then, agenda, rules,
 pub use Rattle.pulsar_acts.specs.View.{Tickets, Turned, View, after, begun, begun_live, consumers_after, consumers_made, dialed, draws_on, is_live, link_got, live_begun, may_call, member_on, producers_made, producers_rung, room_of, setup_of, stays, stays_some, told_some, turned, turned_by, ways_of}
 pub use Rattle.pulsar_agenda.specs.Agenda.{Agenda, first}
 pub use Rattle.pulsar_client.proofs.Acts.{Each, StartsIn, begun_same, chosen_same, each_append, each_either, each_first, each_flat, each_map, each_rest, first_case, is_served, none_now, over_each}
-pub use Rattle.pulsar_laws.specs.Laws.{Answered, Cause, EndsOnce, calls_of, counted, start_of, started}
+pub use Rattle.pulsar_laws.proofs.calls.Causes.{Cause}
+pub use Rattle.pulsar_laws.specs.Laws.{Answered, EndsOnce, calls_of, counted, start_of, started}
 pub use Rattle.pulsar_machine.specs.Options.{Chosen, Options}
 pub use Rattle.pulsar_run.specs.Laws.{Arises, In, InOne, InThisStep}
 pub use Rattle.pulsar_run.specs.Order.{arranged, put_all}

@@ -20,3 +20,5 @@ pub mod Telling
 pub mod Gathering
 pub mod IdleCalls
 pub mod Idlers
+pub mod Causes
+pub mod Tellers

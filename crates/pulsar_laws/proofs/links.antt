@@ -15,3 +15,6 @@ pub mod Early
 pub mod Ready
 pub mod Receipts
 pub mod Queued
+pub mod Ending
+pub mod Late
+pub mod Settling

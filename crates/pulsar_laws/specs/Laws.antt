@@ -1,5 +1,5 @@
 -- What follows from the definition of a good run, in plain words.
-use Rattle.std.specs.Prelude.{◌≡◌, ◌⊎◌, ℕ, ◌+◌, ◌-◌, ◌^◌, ◌≤◌, ◌==◌, ◌&&◌, ◌||◌, not, Bool, true, false, if◌then◌else◌, List, [], ◌∷◌, ◌++◌, Option, Some, None, Result, Ok, Err, pos}
+use Rattle.std.specs.Prelude.{◌≡◌, ◌⊎◌, ℕ, ◌+◌, ◌-◌, ◌^◌, ◌≤◌, ◌==◌, nat_le, nat_lt, ◌&&◌, not, Bool, true, false, if◌then◌else◌, List, [], ◌∷◌, ◌++◌, Option, Some, None, Result, Err, pos}
 use Rattle.std.specs.List.{flat_map, list_any}
 use Rattle.std.specs.Option.{is_some, option_to_list}
 use Rattle.pulsar_run.specs.Laws.{Arises, In, InThisStep}
@@ -10,15 +10,15 @@ use Rattle.pulsar_frame.specs.Frame.{cut}
 use Rattle.pulsar_frame.specs.Message.{MessageValues}
 use Rattle.pulsar_messages.specs.Words as words
 use Rattle.pulsar_messages.specs.Words.{Words}
-use Rattle.pulsar_requests.specs.Waits.{later_of}
+use Rattle.pulsar_requests.specs.Waits.{Pending, Waits, is_listed, later_of, request_at}
 use Rattle.pulsar_session.specs.declared.states.Asked.{Asked as Placed}
-use Rattle.pulsar_wire.specs.Failures.{ProducerClosed, OfProducer, ConsumerClosed, OfConsumer, DiscoveryConnection, DiscoveryCanceled, DiscoveryFault, DiscoveryNotFound, DiscoveryShutdown, DnsLookup, Dummy, Exhausted, Failure, Fault, OfConnection, OfDiscovery, OfPartialSend, Query, fault, Disconnected}
+use Rattle.pulsar_wire.specs.Failures.{ProducerClosed, OfProducer, ConsumerClosed, OfConsumer, DiscoveryConnection, DiscoveryCanceled, DiscoveryFault, DiscoveryNotFound, DiscoveryShutdown, DnsLookup, Dummy, Exhausted, Failure, Fault, OfConnection, OfDiscovery, OfPartialSend, Query, Disconnected}
 use Rattle.pulsar_session.specs.Laws.{bytes_fed, messages_taken}
-use Rattle.pulsar_session.specs.Link.{Act as Act', Asks, Feeds, Setup, came, due, ends}
+use Rattle.pulsar_session.specs.Link.{Act as Act', Asks, Feeds, Seen, Setup, came, due, ends}
 use Rattle.pulsar_messages.specs.Claims.{is_spent}
 use Rattle.pulsar_exchange.specs.Messages.{Reply, read}
 use Rattle.pulsar_exchange.specs.Request.{closed_consumer, request_number}
-use Rattle.pulsar_addresses.specs.Address.{Place, address_key, is_reachable}
+use Rattle.pulsar_addresses.specs.Address.{Place, address_key}
 use Rattle.pulsar_searches.specs.Replies.{query, unexpected, fails_by, is_choice, place_at, count_in}
 use Rattle.pulsar_addresses.specs.Address.{in_discovery}
 use Rattle.pulsar_outgoing.specs.Errors.{in_producer}
@@ -33,9 +33,9 @@ use Rattle.pulsar_calls.specs.declared.act.Action.{Action}
 use Rattle.pulsar_calls.specs.declared.act.Action.TheVariants.{Get, Ask, TakeTurn, PassTurn, Draw, Recall, Remake, Number, Find, Shut, Store, Flush, TakeBatch, TakeNumber, FindConsumer, TakeFlow, RecallConsumer, Revive, FailConsumer, Tell, TellAll, StopAll, Rest}
 use Rattle.pulsar_calls.specs.declared.act.Alarm.{Alarm}
 use Rattle.pulsar_calls.specs.declared.act.Alarm.TheVariants.{Retry, Wake, Batch, KeepAlive, CheckIdle}
-use Rattle.pulsar_calls.specs.declared.act.Arrival.TheVariants.{Readied, Settles, Gives}
+use Rattle.pulsar_calls.specs.declared.act.Arrival.TheVariants.{Readied}
 use Rattle.pulsar_calls.specs.declared.act.End.{End}
-use Rattle.pulsar_calls.specs.declared.act.End.TheVariants.{Overdue}
+use Rattle.pulsar_calls.specs.declared.act.End.TheVariants.{Overdue, Stops}
 use Rattle.pulsar_calls.specs.declared.act.LinkAct.{LinkAct}
 use Rattle.pulsar_calls.specs.declared.act.LinkAct.TheVariants.{Reads, Drains, Ends}
 use Rattle.pulsar_calls.specs.declared.act.Makes.{Makes}
@@ -54,7 +54,7 @@ use Rattle.pulsar_calls.specs.declared.act.Who.TheVariants.{Call, Consumer, Prod
 use Rattle.pulsar_calls.specs.declared.act.Word.{Word}
 use Rattle.pulsar_calls.specs.declared.act.Word.TheVariants as word
 use Rattle.pulsar_calls.specs.declared.content.Joining.{Joining}
-use Rattle.pulsar_links.specs.declared.addresses.Series.TheVariants.{Runs, Serves}
+use Rattle.pulsar_links.specs.declared.addresses.Series.TheVariants.{Runs}
 use Rattle.pulsar_plans.specs.declared.plan.Plan.{Plan}
 use Rattle.pulsar_plans.specs.declared.plan.Turn.{Turn}
 use Rattle.pulsar_calls.specs.Content.{Asked, Bytes, Ticked, Said, Shown, Queued, Write, Failed, lacks_tickets, shares}
@@ -66,7 +66,7 @@ use Rattle.pulsar_producer_table.specs.Producers.{advice, turn_passed, drawn, is
 use Rattle.pulsar_producer.specs.Topic as topic
 use Rattle.pulsar_plans.specs.Plan.{begins, failure_of, fails, fault_of, reply_says, told}
 use Rattle.pulsar_acts.specs.Rules.{call_part, notice, starts, stopped_with, brings}
-use Rattle.pulsar_links.specs.LinkRules.{dropped, fails_so, lost}
+use Rattle.pulsar_links.specs.LinkRules.{dropped, fails_so}
 use Rattle.pulsar_calls.specs.Order.{below}
 use Rattle.pulsar_acts.specs.Run.{Entry, Begins, Then, Good, IsRun, Rests, agenda, rules, steps, tickets_in, view}
 use Rattle.pulsar_calls.specs.Steps.{Step}
@@ -82,7 +82,6 @@ use Rattle.pulsar_machine.specs.Options.{Options}
 use Rattle.pulsar_links.specs.Seats.{Base, Seat, answer_at, arrival_at, closing, is_asked, url_at}
 use Rattle.pulsar_calls.specs.Who.{in_turn, is_same, rank, ticket_of, turn_of as taken_as}
 use Rattle.pulsar_run.specs.Laws as run
-use Rattle.pulsar_session.specs.declared.states.Asked.TheVariants as placed
 use Rattle.pulsar_session.specs.Link as session
 use Rattle.pulsar_outgoing.specs.declared.news.News.TheVariants as news
 use Rattle.pulsar_calls.specs.declared.act.Outcome.TheVariants as outcome
@@ -265,10 +264,26 @@ AttemptEnds o who u e older =
     × (pause_of o.chosen end seat.address (Runs starter retries link) ≡ None) × In who (base_of v seat.address).waiting
     × (u ≡ fails_so end (is_same who starter))) e older
 
+-- The moment of a request has come, and it is no create request that was named as one whose producer is not ready.
+abbrev pub has_come : (now : ℕ) → Waits → Option Pending → Bool
+has_come now w None = false
+has_come now w (Some r) = nat_le r.deadline now && not (r.creates && is_listed w.excused r.awaits)
+
+-- It is late where its link ends by the deadline of a tick, and its frame was queued before that tick.
+abbrev pub is_late : End → (now : ℕ) → Seen → (place : ℕ) → Bool
+is_late (Overdue queued) now v place = nat_lt place queued && has_come now v.waits (request_at place v.waits.waiting)
+is_late _ now v place = false
+
+-- what one is told whose request ends with its link: the client was stopped, it timed out where it is late, and else it is lost
+abbrev pub ended_as : End → (is_late : Bool) → Outcome
+ended_as Stops is_late = outcome.Cut
+ended_as end is_late = if is_late then outcome.TimedOut else outcome.Disconnected
+
 -- a request that this one asked for ends with its link, and this is told
 abbrev pub RequestEnds : Options → Who → Outcome → Entry → List Entry → Type 0
 RequestEnds o who u e older =
-    EndsSo o (λ end v seat. (place : ℕ) × In place (ends seat.seen) × (seat.askers place ≡ Some who) × (u ≡ lost end v.now seat.seen place)) e older
+    EndsSo o (λ end v seat. (place : ℕ) × In place (ends seat.seen) × (seat.askers place ≡ Some who)
+    × (u ≡ ended_as end (is_late end v.now seat.seen place))) e older
 
 -- and a frame of it that stands in the line
 abbrev pub LineEnds : Options → Who → Outcome → Entry → List Entry → Type 0
@@ -430,59 +445,12 @@ IsReady o who n e older =
     (number : ℕ) × (act : topic.Act) × (who ≡ Producer number) × (n ≡ news.Ready)
     × (is_woken act ((view o older).producers.topics number) ≡ true) × CutsSo o number act e older
 
--- another tells it this, alone or with others
-abbrev pub IsToldBy : Who → Outcome → Entry → List Entry → Type 0
-IsToldBy who u e older =
-    (other : Who)
-    × ((e ≡ Then (Does other (Tell (notice who u)))) ⊎ ((ns : List Notice) × (e ≡ Then (Does other (TellAll ns))) × In (notice who u) ns))
-
 -- its message is stored at a producer that is closed
 abbrev pub IsDropped : Options → Who → Outcome → Entry → List Entry → Type 0
 IsDropped o who u e older =
     (other : Who) × (producer number ticket : ℕ) × (e ≡ Then (Does other (Shut producer))) × (who ≡ Call ticket)
     × In number (numbers_at ((view o older).producers.built producer)) × In ticket (stored_at ((view o older).producers.topics number))
     × (u ≡ outcome.Settled (Err (OfProducer ProducerClosed)))
-
--- GotLink: it got a link of an address, which serves, or that became ready while it waited; or it found that of a topic producer, or of a
--- consumer. NotFound:
--- the address cannot be reached. Failed, Canceled: the last attempt that it waited for ended, of a series that it or another started. Queued:
--- it asked, and its frame was queued at once or moved up. InLine, Refused: it asked, and the link said so; Refused also: it drew a number, and
--- there was none. Replied: its request was answered. Woken: its moment came. TimedOut, Disconnected, Cut, Stopped: its request, its frame in the
--- line or the attempt that it waited for ended so; Disconnected also: there is no such topic producer; Stopped also: the client was stopped, or a
--- part of it, or its batch, says so. Granted: it asked for a turn, for a number or the like, or its turn came; a batch was cut, or its flush is
--- settled. Parted: a part of it says so. Settled: its batch says so, or its producer is closed. Word: it asked of consumers, and this is said at
--- once; or it happened to its own consumer, or to the one whose link it waits for.
-abbrev pub Cause : Options → Who → Outcome → Entry → List Entry → Type 0
-Cause o who (outcome.GotLink link) e older =
-    Gets o who (λ p v. (is_reachable p ≡ true) × ((base_of v p).series ≡ Serves link)) e older
-    ⊎ (BecomesReady o who link e older ⊎ Acts o who (Finds link) e older)
-Cause o who (outcome.Granted n) e older =
-    Acts o who (GrantsSo n) e older
-    ⊎ (GetsTurn o who n e older ⊎ (IsReady o who n e older ⊎ IsToldBy who (outcome.Granted n) e older))
-Cause o who (outcome.Settled f) e older = IsToldBy who (outcome.Settled f) e older ⊎ IsDropped o who (outcome.Settled f) e older
-Cause o who (outcome.Parted ticket f) e older = IsToldBy who (outcome.Parted ticket f) e older
-Cause o who (outcome.Word w) e older = WordComes o who w e older
-Cause o who outcome.NotFound e older = Gets o who (λ p v. is_reachable p ≡ false) e older
-Cause o who (outcome.Failed kind) e older = AttemptEnds o who (outcome.Failed kind) e older
-Cause o who outcome.Canceled e older = AttemptEnds o who outcome.Canceled e older
-Cause o who outcome.Queued e older = AsksSo o who (λ a. (place : ℕ) × (a ≡ Ok (placed.Queued place))) e older ⊎ MovesUp o who e older
-Cause o who outcome.InLine e older = AsksSo o who (λ a. (place : ℕ) × (a ≡ Ok (placed.Waiting place))) e older
-Cause o who (outcome.Refused cause) e older =
-    AsksSo o who (λ a. (x : ConnectionError) × (a ≡ Err x) × (fault x ≡ cause)) e older ⊎ Acts o who (DrawsNone cause) e older
-Cause o who (outcome.Replied r) e older = IsReplied o who r e older
-Cause o who outcome.TimedOut e older = RequestEnds o who outcome.TimedOut e older
-Cause o who outcome.Disconnected e older =
-    RequestEnds o who outcome.Disconnected e older ⊎ (LineEnds o who outcome.Disconnected e older ⊎ Acts o who (IsUnknown who) e older)
-Cause o who outcome.Woken e older = IsWoken o who e older
-Cause o who outcome.Cut e older = RequestEnds o who outcome.Cut e older
-Cause o who outcome.Stopped e older =
-    IsStopped o who e older
-    ⊎ (LineEnds o who outcome.Stopped e older ⊎ (AttemptEnds o who outcome.Stopped e older ⊎ IsToldBy who outcome.Stopped e older))
-
--- whatever one is told has its cause before, in the same step
-abbrev pub OutcomesAreCaused : Type 0
-OutcomesAreCaused = (o : Options) (log : List Entry) (who : Who) (u : Outcome) →
-    IsRun o (Then (Told (record { who = who; outcome = u })) ∷ log) → InThisStep (Cause o who u) log
 
 -- the number of the body of a procedure's request
 abbrev pub number_in : Procedure → Option ℕ

@@ -3,6 +3,8 @@ pub mod AddressLaws
 pub mod ProducerLaws
 pub mod BatchLaws
 pub mod ConsumerLaws
+pub mod CauseLaws
+pub mod LinkLaws
 pub mod Traces
 pub mod RetryLaws
 pub mod PartLaws

@@ -15,7 +15,9 @@ use Rattle.pulsar_exchange.specs.Messages.{read}
 use Rattle.pulsar_calls.specs.declared.act.Arrival.TheVariants.{Readied}
 use Rattle.pulsar_calls.specs.declared.act.End.TheVariants.{Unopened, Lost, Broken}
 use Rattle.pulsar_laws.proofs.Lists.{in_append, in_each, in_map}
-use Rattle.pulsar_laws.specs.Laws.{AttemptEnds, CutsSo, OutcomesAreCaused, LineEnds, RequestEnds, base_of, IsToldBy, GrantsSo, BuiltDue, PolledDue, RevivedDue, SaysSo}
+use Rattle.pulsar_laws.proofs.calls.Causes.{IsToldBy, OutcomesAreCaused}
+use Rattle.pulsar_laws.proofs.links.Late.{lost_same}
+use Rattle.pulsar_laws.specs.Laws.{AttemptEnds, CutsSo, LineEnds, RequestEnds, base_of, GrantsSo, BuiltDue, PolledDue, RevivedDue, SaysSo}
 use Rattle.pulsar_links.specs.Links.{arrival, change_at, change_in, line_places, new_places, times_out}
 use Rattle.pulsar_acts.specs.Rules.{caused, failed_by, failed_on, gets_from, served_on, stopped_with, waiters_of, woken, draw_outcome, draw_said, finds, grants, number_said, recalls, stopped_one, takes_turn}
 use Rattle.pulsar_links.specs.LinkRules.{answered_by, answered_on, dropped, ended_by, ended_on, failed, failed_over, failed_so, fails_so, lost, lost_so, lost_with, moved_on, served_by, stopped_at}
@@ -606,7 +608,7 @@ module _ (o : Options) (who : Who) (u : Outcome) (older : List Entry) where
       module _ (cause : Fault) (seat : Seat) (a : v.links.live l ≡ Some seat) (c : closed_by end v.now seat.seen ≡ Some cause) where
         -- a request ends
         request_ends : (y : Outcome) → IsAsker (lost end v.now seat.seen) seat.askers (ends seat.seen) it → u ≡ y → RequestEnds o who y ends_there older
-        request_ends y k is = (l, end, cause, seat, refl, a, c, (k.place, k.listed, k.asker, sym is ∙ k.told))
+        request_ends y k is = (l, end, cause, seat, refl, a, c, (k.place, k.listed, k.asker, sym is ∙ k.told ∙ lost_same end v.now seat.seen k.place))
 
         request_caused : IsAsker (lost end v.now seat.seen) seat.askers (ends seat.seen) it → Cause o who u ends_there older
         request_caused k = elim (loss_with end (times_out end v.now seat.seen k.place)) [

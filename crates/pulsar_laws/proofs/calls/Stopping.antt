@@ -50,7 +50,7 @@ use Rattle.pulsar_messages.specs.Words as words
 
 -- LISTS
 
-in_numbers : (n start l : ℕ) → start ≤ l → nat_lt l (start + n) ≡ true → In l (numbers_from start n)
+pub in_numbers : (n start l : ℕ) → start ≤ l → nat_lt l (start + n) ≡ true → In l (numbers_from start n)
 in_numbers zero start l h k = absurd (grind (arith, nat_tests))
 in_numbers (suc n) start l h k = elim (cases_Bool (l == start)) [
   | inl e ↦ inl (eqb-true l start e)

@@ -79,7 +79,7 @@ none_tied test x alike (y ∷ ys) = elim (cases_Bool (test y)) [
   | inr e ↦ rw e (none_tied test x alike ys)
 ]
 
-tied_order : (test : Shown → Bool) → ((x y : Shown) → test x ≡ true → test y ≡ true → effect_below y x ≡ false) → (xs : List Shown) →
+pub tied_order : (test : Shown → Bool) → ((x y : Shown) → test x ≡ true → test y ≡ true → effect_below y x ≡ false) → (xs : List Shown) →
     InOrder effect_below (filter test xs)
 tied_order test alike [] = tt
 tied_order test alike (x ∷ xs) = elim (cases_Bool (test x)) [
@@ -179,9 +179,9 @@ are_more l m n [] le k = tt
 are_more l m n (s ∷ ss) le k =
     (record { order = k.0.order; placed = placed_more l m n (filter (is_queue l) s.effects) le k.0.placed }, are_more l m n ss le k.1)
 
--- the bytes of the effects in their order are those of the effects as they were done
-step_same : (f : Shown → List ℕ) (test : Shown → Bool) → ((x : Shown) → test x ≡ false → f x ≡ []) → (s : Step) → InOrder effect_below (filter test s.effects) →
-    flat_map f (in_order effect_below s).effects ≡ flat_map f s.effects
+-- the effects in their order give what those give as they were done
+pub step_same : {B : Type 0} (f : Shown → List B) (test : Shown → Bool) → ((x : Shown) → test x ≡ false → f x ≡ []) → (s : Step) →
+    InOrder effect_below (filter test s.effects) → flat_map f (in_order effect_below s).effects ≡ flat_map f s.effects
 step_same f test none s k =
     sym (only_tested f test none (in_order effect_below s).effects)
     ∙ ap (flat_map f) (kinds_in_order_lem Shown effect_below test s.effects effect_order k)

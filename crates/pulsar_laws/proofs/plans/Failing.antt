@@ -4,7 +4,8 @@ use Rattle.std.specs.List.{list_any}
 use Rattle.std.specs.Option.{is_some}
 use Rattle.pulsar_laws.proofs.ActWords.{Action, Checks, Flushes, Link, Makes, Nothing, numbers_from, Outcome, Procedure, Rest, Said, Share, Verdict}
 use Rattle.pulsar_laws.proofs.PlanWords.{Asking, Awaiting, Batches, Batching, begins, Building as Build, Built, Command, Says as CountIs, Errand, fails, Gives, is_answer, Leaving, Making, Naming, Heard as News, news_in, news_of, Order, overrides, Plan, Producing, Reporting, SearchTurn, Sending as Send, Served, Serving, Stays, Stored, Storing, Subscribing, told, Turn, verdict, Visiting, Ways, Deed as Wish}
-use Rattle.pulsar_laws.proofs.RunWords.{Answered, In}
+use Rattle.pulsar_laws.proofs.RunWords.{Answered, In, stays}
+use Rattle.pulsar_laws.proofs.plans.Follow.{along}
 use Rattle.pulsar_laws.proofs.LinkWords.{Failure, Named, OfConnection, Reply}
 use Rattle.pulsar_wire.specs.Failures.{DiscoveryFault, OfDiscovery, OfPartialSend, ConsumerClosed, OfConsumer}
 use Rattle.pulsar_frame.specs.Reply.{Reply as Content}
@@ -570,6 +571,15 @@ module _ (p : Procedure) (all : List Outcome) where
   course_fails (Stays plan action) (u ∷ os) m f k each h =
       let is = each u (inl refl) in
       course_fails (told plan u) os m f (told_holds plan u k is.0 is.1) (λ x i. each x (inr i)) (not_acted m f action (course (told plan u) os) h)
+
+  -- where it leaves with a failure, it would fail so
+  pub leaves_so : (turn : Turn Plan Verdict) (os : List Outcome) (f : Failure) → TurnHolds turn →
+      ((u : Outcome) → In u os → In u all × (is_proper u ≡ true)) → stays (along turn os) ≡ Some (Leaving f) → FailsSo p all f
+  leaves_so (Gives verdict) os f k each h = absurd cc
+  leaves_so (Stays plan action) [] f k each h = subst Holds (let e : plan ≡ Leaving f = cc in e) k
+  leaves_so (Stays plan action) (u ∷ os) f k each h =
+      let is = each u (inl refl) in
+      leaves_so (told plan u) os f (told_holds plan u k is.0 is.1) (λ x i. each x (inr i)) h
 
 -- PROCEDURES
 

@@ -22,7 +22,8 @@ use Rattle.pulsar_calls.specs.declared.act.Says.TheVariants as says
 use Rattle.pulsar_calls.specs.Content as content
 use Rattle.pulsar_laws.proofs.Lists.{in_append, in_each}
 use Rattle.pulsar_laws.proofs.Cases.{cond_so}
-use Rattle.pulsar_laws.specs.Laws.{FailuresAreTold, IsToldBy, OutcomesAreCaused, outcomes, ways_in}
+use Rattle.pulsar_laws.proofs.calls.Causes.{IsToldBy, OutcomesAreCaused}
+use Rattle.pulsar_laws.specs.Laws.{FailuresAreTold, outcomes, ways_in}
 use Rattle.pulsar_outgoing.specs.Batch.{entry_of}
 use Rattle.pulsar_producer_table.specs.Producers.{Producers, batches_in, errand_of, numbers_at, routed, why_not}
 use Rattle.pulsar_acts.specs.Reading.{acknowledges, leaves, subscribes, subscribes_by}
@@ -267,7 +268,7 @@ module _ (o : Options) (caused : OutcomesAreCaused) where
     | inr (inr none) ↦ absurd none
   ]
 
-  outcomes_proper : (w : Who) (log : List Entry) → IsRun o log → (u : Outcome) → In u (outcomes w log) → is_proper u ≡ true
+  pub outcomes_proper : (w : Who) (log : List Entry) → IsRun o log → (u : Outcome) → In u (outcomes w log) → is_proper u ≡ true
   outcomes_proper w [] run u i = absurd i
   outcomes_proper w (Begins e ∷ log) run u i = outcomes_proper w log run.0 u i
   outcomes_proper w (Then (Starts who p) ∷ log) run u i = elim (cases_Bool (is_same w who)) [

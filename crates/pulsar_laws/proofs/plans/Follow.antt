@@ -107,7 +107,7 @@ course_nil : (t : Turn Plan Verdict) → course t [] ≡ first_deed t
 course_nil (Stays plan action) = refl
 course_nil (Gives verdict) = refl
 
-abbrev along : Turn Plan Verdict → List Outcome → Turn Plan Verdict
+abbrev pub along : Turn Plan Verdict → List Outcome → Turn Plan Verdict
 along (Gives verdict) os = Gives verdict
 along (Stays plan action) [] = Stays plan action
 along (Stays plan action) (o ∷ os) = along (told plan o) os
@@ -163,7 +163,7 @@ some_here w who (Stays plan action) o h = follows_due w who (told plan o) ∙ ap
 pub record Follows (o : Options) (log : List Entry) : Type 0 where
   head : Each NoDeed (drop 1 (agenda o log).now)
   each : (w : Who) (p : Procedure) → Began w → started w log ≡ Some p → deeds w log ++ due_deeds w (agenda o log).now ≡ course (begins p) (outcomes w log)
-  stands : (w : Who) (p : Procedure) → started w log ≡ Some p → (view o log).stand w ≡ stays (along (begins p) (outcomes w log))
+  pub stands : (w : Who) (p : Procedure) → started w log ≡ Some p → (view o log).stand w ≡ stays (along (begins p) (outcomes w log))
 
 module _ (o : Options) (log : List Entry) (a : Act) (k : Follows o log) (fits : first (agenda o log) ≡ Some a) where
   abbrev left : List Act

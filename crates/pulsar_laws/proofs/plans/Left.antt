@@ -17,7 +17,7 @@ parts_each : (P : Act → Type 0) (w : Ways) (block : Bool) (bs : List Built) �
 parts_each P w block [] h = tt
 parts_each P w block (b ∷ bs) h = (h (record { producer = b.number; block = block }), parts_each P w block bs h)
 
-from_each : (P : Act → Type 0) (ways : Option Ways) (b : Building) →
+pub from_each : (P : Act → Type 0) (ways : Option Ways) (b : Building) →
     ((w : Ways) (e : Errand) → ways ≡ Some w → P (Starts (who.Producer e.producer) (procedure.Batch w e))) → Each P (batches_from ways b)
 from_each P None b h = tt
 from_each P (Some w) b h = parts_each P w b.settings.block_queue_if_full b.parts (λ e. h w e refl)

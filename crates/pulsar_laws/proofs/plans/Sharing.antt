@@ -3,9 +3,9 @@ use Rattle.std.proofs.Common.{◌≡◌, refl, Bool, true, false, Option, Some, 
 use Rattle.pulsar_laws.proofs.ActWords.{Action, Call, Outcome, Procedure, Share, Tell}
 use Rattle.pulsar_laws.proofs.PlanWords.{action_of, Batches, Batching, begins, Building as Build, Deed, Errand, News, Order, Plan, Producing, Sending as Send, Storing, told, Ways}
 use Rattle.pulsar_calls.specs.declared.act.Outcome.TheVariants as outcome
-use Rattle.pulsar_calls.specs.declared.act.Procedure.TheVariants as procedure
 use Rattle.pulsar_plans.specs.declared.plan.Plan.TheVariants.{Sending}
 use Rattle.pulsar_laws.proofs.Cases.{none_some}
+pub use Rattle.pulsar_laws.specs.CauseLaws.{share_in}
 use Rattle.pulsar_plans.proofs.Arcs.{Arc, BatchArc, Begun, StaysSo, batch_sends, batches_go, begins_by, begins_leaving, begins_send, begins_storing, builds_on, part_fails, part_halts, part_sends, part_stores, part_tells, sends, stays_by}
 use Rattle.pulsar_producer.proofs.Arcs.{BuildArc, SendArc, draws, naming_rests}
 
@@ -66,13 +66,6 @@ arc_shares _ = record { keeps = λ x h. absurd (none_some h); tells = tt }
 
 pub told_shares : (p : Plan) (u : Outcome) → StaysSo (SharesSo (shares_of p)) (told p u)
 told_shares p u = stays_by (SharesSo (shares_of p)) p u (λ q a k. arc_shares k)
-
--- and of which a procedure is
-abbrev pub share_in : Procedure → Option Share
-share_in (procedure.Send w e share m) = share
-share_in (procedure.Store n share e) = share
-share_in (procedure.FailShare s r) = Some s
-share_in _ = None
 
 begun_shares : {p : Procedure} {q : Plan} {a : Action} → Begun p q a → SharesSo (share_in p) q a
 begun_shares begins_send = record { keeps = λ x h. h; tells = tt }

@@ -1,0 +1,201 @@
+-- A link has ended exactly where an end of it stands in the log, and a tick ends each link that is due.
+use Rattle.std.proofs.Common.{◌≡◌, ◌∙◌, sym, ap, ℕ, ◌+◌, ◌≤◌, ◌==◌, ◌&&◌, ◌||◌, List, [], ◌∷◌, refl, arith, map, Bool, true, false, cond, nat_le, nat_lt, Option, Some, None, inl, inr}
+use Rattle.std.proofs.lemmas.Bool.{cases_Bool}
+use Rattle.std.proofs.lemmas.Bool.Decides.{nat_tests}
+use Rattle.std.specs.Option.{is_none, is_some, option_map}
+use Rattle.pulsar_laws.proofs.ActWords.{Ask, Bytes, Comes, Dials, Does, Ends, Get, Heard, LinkAct, numbers_from, Overdue, Part, Rings, ToLink}
+use Rattle.pulsar_laws.proofs.RunWords.{Begins, begun_same, dialed, Entry, In, is_live, link_got, live_begun, Options, parts, Then, View, view}
+use Rattle.pulsar_laws.proofs.LinkWords.{closed_by, Fault, got_at, over_links, Seat, seat_asked, seat_fed, seat_got, took_end, took_some}
+use Rattle.pulsar_session.specs.Link.{due}
+use Rattle.pulsar_calls.specs.Content.{Ticked}
+use Rattle.pulsar_links.specs.Alarms.{ringing}
+use Rattle.pulsar_links.specs.LinkRules.{due_part, on_link}
+use Rattle.pulsar_links.specs.Seats.{Links, has_ended}
+use Rattle.pulsar_laws.specs.Laws.{dialed_with}
+use Rattle.pulsar_laws.specs.LinkLaws.{DueLinksEnd, EndedIs, end_in, is_end}
+use Rattle.pulsar_laws.proofs.Cases.{none_some}
+use Rattle.pulsar_laws.proofs.Lists.{in_left, into_flat}
+use Rattle.pulsar_laws.proofs.calls.Done.{all_is_done_lem}
+use Rattle.pulsar_laws.proofs.calls.Stopping.{in_numbers}
+use Rattle.pulsar_laws.proofs.links.Alone.{alone}
+
+-- A LINK THAT WAS NOT STARTED
+
+before_next : (l n : ℕ) → nat_lt l (n + 1) ≡ false → nat_lt l n ≡ false
+before_next l n h = grind (arith, nat_tests)
+
+not_next : (l n : ℕ) → nat_lt l (n + 1) ≡ false → (l == n) ≡ false
+not_next l n h = grind (arith, nat_tests)
+
+-- it was not dialed
+pub undialed : (o : Options) (log : List Entry) (l : ℕ) → nat_lt l (view o log).links.started ≡ false → dialed_with o l log ≡ None
+undialed o [] l h = refl
+undialed o (Begins e ∷ log) l h = undialed o log l (ap (nat_lt l) (sym (begun_same (λ v. v.links.started) e (view o log) refl)) ∙ h)
+undialed o (Then (Dials p starter retries) ∷ log) l h =
+    let n : ℕ = (view o log).links.started in
+    let other : (l == n) ≡ false = not_next l n h in
+    rw other (undialed o log l (before_next l n h))
+undialed o (Then a ∷ log) l h = undialed o log l h
+
+-- and there is none
+unborn : (o : Options) (log : List Entry) (l : ℕ) (row : Option Seat) → nat_lt l (view o log).links.started ≡ false → (view o log).links.live l ≡ row →
+    row ≡ None
+unborn o log l None h e = refl
+unborn o log l (Some seat) h e = absurd (none_some (sym (undialed o log l h) ∙ (alone o log l seat e).dialed))
+
+-- WHAT LEAVES A LINK THERE
+
+none_map : (f : Seat → Seat) (row : Option Seat) → is_none (option_map f row) ≡ is_none row
+none_map f None = refl
+none_map f (Some r) = refl
+
+none_either : (b : Bool) (f : Seat → Seat) (row : Option Seat) → is_none (cond b (option_map f row) row) ≡ is_none row
+none_either true f row = none_map f row
+none_either false f row = refl
+
+none_begun : (e : Heard) (l : ℕ) (row : Option Seat) → is_none (live_begun e l row) ≡ is_none row
+none_begun (Bytes k piece) l row = none_either (l == k) (seat_fed piece) row
+none_begun e l row = refl
+
+none_got : (link : Option ℕ) (now l : ℕ) (row : Option Seat) → is_none (got_at link now l row) ≡ is_none row
+none_got None now l row = refl
+none_got (Some k) now l row = none_either (l == k) (seat_got now) row
+
+-- WHAT ENDS IT
+
+none_end : (cause : Option Fault) (seat : Seat) → is_none (took_end cause seat) ≡ is_some cause
+none_end None seat = refl
+none_end (Some cause) seat = refl
+
+none_took : (x : LinkAct) (now : ℕ) (row : Option Seat) → is_none (took_some x now row) ≡ (is_end x now row || is_none row)
+none_took (Ends end) now None = refl
+none_took (Ends end) now (Some seat) = none_end (closed_by end now seat.seen) seat ∙ sym (or_none (is_some (closed_by end now seat.seen)))
+  where
+    or_none : (b : Bool) → (b || false) ≡ b
+    or_none true = refl
+    or_none false = refl
+none_took x now None = refl
+none_took x now (Some seat) = refl
+
+-- of a link that was started
+started_so : (b e n : Bool) → (b ≡ false → e ≡ false) → (b && (e || n)) ≡ (e || (b && n))
+started_so true e n h = refl
+started_so false e n h = sym (ap (λ x. x || false) (h refl))
+
+no_end : (x : LinkAct) (now : ℕ) → is_end x now None ≡ false
+no_end (Ends end) now = refl
+no_end x now = refl
+
+fresh_ended : (l n : ℕ) → (l == n) ≡ true → (nat_lt l (n + 1) && false) ≡ (nat_lt l n && false)
+fresh_ended l n e = either (nat_lt l (n + 1)) (nat_lt l n)
+  where
+    either : (a b : Bool) → (a && false) ≡ (b && false)
+    either true true = refl
+    either true false = refl
+    either false true = refl
+    either false false = refl
+
+unstarted : (l n : ℕ) (b : Bool) → (l == n) ≡ true → (nat_lt l n && b) ≡ false
+unstarted l n b e = ap (λ x. x && b) (late l n e)
+  where
+    late : (l n : ℕ) → (l == n) ≡ true → nat_lt l n ≡ false
+    late l n e = grind (arith, nat_tests)
+
+up : (l n : ℕ) → nat_lt l n ≡ true → nat_lt l (n + 1) ≡ true
+up l n h = grind (arith, nat_tests)
+
+down : (l n : ℕ) → (l == n) ≡ false → nat_lt l n ≡ false → nat_lt l (n + 1) ≡ false
+down l n e h = grind (arith, nat_tests)
+
+next_started : (l n : ℕ) → (l == n) ≡ false → nat_lt l (n + 1) ≡ nat_lt l n
+next_started l n e = elim (cases_Bool (nat_lt l n)) [ inl t ↦ up l n t ∙ sym t | inr f ↦ down l n e f ∙ sym f ]
+
+none_before : (l : ℕ) → nat_lt l 0 ≡ false
+none_before l = grind (arith, nat_tests)
+
+-- ALONG A LOG
+
+module _ (o : Options) (l : ℕ) where
+  abbrev n : List Entry → ℕ
+  n log = (view o log).links.started
+
+  abbrev row : List Entry → Option Seat
+  row log = (view o log).links.live l
+
+  abbrev So : List Entry → Type 0
+  So log = has_ended l (view o log).links ≡ end_in o l log
+
+  to_link : (log : List Entry) (k : ℕ) (x : LinkAct) → So log → So (Then (Comes (ToLink k x)) ∷ log)
+  to_link log k x so =
+      let now : ℕ = (view o log).now in
+      let end : Bool = is_end x now (row log) in
+      elim (cases_Bool (l == k)) [
+        | inl e ↦
+            rw e (ap (λ b. nat_lt l (n log) && b) (none_took x now (row log))
+            ∙ started_so (nat_lt l (n log)) end (is_none (row log)) (λ h. ap (is_end x now) (unborn o log l (row log) h refl) ∙ no_end x now)
+            ∙ ap (λ b. end || b) so)
+        | inr e ↦ rw e so
+      ]
+
+  dials : (log : List Entry) (new : Seat) → So log → (nat_lt l (n log + 1) && is_none (cond (l == n log) (Some new) (row log))) ≡ end_in o l log
+  dials log new so = elim (cases_Bool (l == n log)) [
+    | inl e ↦
+        ap (λ b. nat_lt l (n log + 1) && is_none (cond b (Some new) (row log))) e
+        ∙ fresh_ended l (n log) e
+        ∙ unstarted l (n log) false e
+        ∙ sym (unstarted l (n log) (is_none (row log)) e)
+        ∙ so
+    | inr e ↦
+        ap (λ b. nat_lt l (n log + 1) && is_none (cond b (Some new) (row log))) e
+        ∙ ap (λ b. b && is_none (row log)) (next_started l (n log) e)
+        ∙ so
+  ]
+
+  pub ended_so : (log : List Entry) → So log
+  ended_so [] = ap (λ b. b && true) (none_before l)
+  ended_so (Begins e ∷ log) =
+      begun_same (λ v. has_ended l v.links) e (view o log) (ap (λ b. nat_lt l (n log) && b) (none_begun e l (row log))) ∙ ended_so log
+  ended_so (Then (Comes (ToLink k x)) ∷ log) = to_link log k x (ended_so log)
+  ended_so (Then (Does who (Ask k request)) ∷ log) =
+      ap (λ b. nat_lt l (n log) && b) (none_either (l == k) (seat_asked who (view o log).now request) (row log)) ∙ ended_so log
+  ended_so (Then (Does who (Get p)) ∷ log) =
+      ap (λ b. nat_lt l (n log) && b) (none_got (link_got (view o log).addresses (Does who (Get p))) (view o log).now l (row log)) ∙ ended_so log
+  ended_so (Then (Dials p starter retries) ∷ log) = dials log (dialed (view o log).chosen (view o log).links.started (view o log).now p) (ended_so log)
+  ended_so (Then a ∷ log) = ended_so log
+
+pub ended_is_lem : EndedIs
+ended_is_lem o log l = ended_so o l log
+
+-- A DEADLINE
+
+into_map : {A B : Type 0} (f : A → B) (x : A) (xs : List A) → In x xs → In (f x) (map f xs)
+into_map f x [] i = i
+into_map f x (y ∷ xs) (inl e) = inl (ap f e)
+into_map f x (y ∷ xs) (inr i) = inr (into_map f x xs i)
+
+in_due : (ls : Links) (now l : ℕ) (seat : Seat) → ls.live l ≡ Some seat → nat_lt l ls.started ≡ true → due now seat.seen ≡ true →
+    In (ToLink l (Ends (Overdue seat.seen.waits.queued))) (over_links (due_part now) ls)
+in_due ls now l seat h lt d =
+    let part : Part = ToLink l (Ends (Overdue seat.seen.waits.queued)) in
+    let own : In part (on_link (due_part now) ls.live l) = rw (h, d) (inl refl) in
+    let below_all : nat_lt l (0 + ls.started) ≡ true = grind (arith, nat_tests) in
+    into_flat (on_link (due_part now) ls.live) l part (numbers_from 0 ls.started) (in_numbers ls.started 0 l (omega arith) below_all) own
+
+started : (o : Options) (log : List Entry) (l : ℕ) (seat : Seat) → (view o log).links.live l ≡ Some seat → nat_lt l (view o log).links.started ≡ true
+started o log l seat h = elim (cases_Bool (nat_lt l (view o log).links.started)) [
+  | inl e ↦ e
+  | inr e ↦ absurd (none_some (sym (unborn o log l ((view o log).links.live l) e refl) ∙ h))
+]
+
+not_before : (a b : ℕ) → a ≤ b → nat_le a b ≡ true
+not_before a b h = grind (arith, nat_tests)
+
+pub due_links_end_lem : DueLinksEnd
+due_links_end_lem o newer older now l seat run rests acts le h d =
+    let v : View = view o older in
+    let part : Part = ToLink l (Ends (Overdue seat.seen.waits.queued)) in
+    let live : is_live v (Ticked now) ≡ true = not_before v.now now le in
+    let due_now : In part (over_links (due_part now) v.links) = in_due v.links now l seat h (started o older l seat h) d in
+    let i : In part (parts o v (Ticked now)) =
+    rw live (in_left part (over_links (due_part now) v.links) (map Rings (ringing now v.alarms)) due_now) in
+    all_is_done_lem o newer older (Begins (Ticked now)) (Comes part) run rests acts (into_map Comes part (parts o v (Ticked now)) i)

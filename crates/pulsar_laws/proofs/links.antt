@@ -16,3 +16,6 @@ pub mod Queued
 pub mod Ending
 pub mod Late
 pub mod Settling
+pub mod Ahead
+pub mod Clocked
+pub mod Cutting

@@ -278,10 +278,10 @@ module _ (o : Options) (l : ℕ) (a b : List ℕ) (older : List Entry) where
   record Second (acts : List Entry) : Type 0 where
     before : List Entry
     since : List Entry
-    run : IsRun o (since ++ Begins (Bytes l b) ∷ before ++ two)
-    sees : view o (acts ++ one) ≡ view o (since ++ Begins (Bytes l b) ∷ before ++ two)
-    left : agenda o (acts ++ one) ≡ agenda o (since ++ Begins (Bytes l b) ∷ before ++ two)
-    done : done_on o acts one ≡ done_on o before two ++ done_on o since (Begins (Bytes l b) ∷ before ++ two)
+    run : IsRun o (since ++ (Begins (Bytes l b) ∷ (before ++ two)))
+    sees : view o (acts ++ one) ≡ view o (since ++ (Begins (Bytes l b) ∷ (before ++ two)))
+    left : agenda o (acts ++ one) ≡ agenda o (since ++ (Begins (Bytes l b) ∷ (before ++ two)))
+    done : done_on o acts one ≡ done_on o before two ++ done_on o since (Begins (Bytes l b) ∷ (before ++ two))
     are_before : AreActs before
     are_since : AreActs since
 
@@ -595,6 +595,11 @@ module _ (o : Options) (l : ℕ) (a b : List ℕ) (older : List Entry) where
       (own_row l (took_some (Ends (Broken r.cause)) v.now (v.links.live l)) (v.links.live l)
       ∙ ap (took_some (Ends (Broken r.cause)) v.now) r.row) r.bytes (ap (after y) r.sees ∙ after_same l r.bytes v y refl)))
 
+  more_done : (acts before since : List Entry) (x : Act) (p : List Entry) → done_on o acts one ≡ done_on o before two ++ done_on o since p →
+      view o (acts ++ one) ≡ view o (since ++ p) → done_on o (Then x ∷ acts) one ≡ done_on o before two ++ done_on o (Then x ∷ since) p
+  more_done acts before since x p d s =
+      (λ i. d i ++ effects (s i) x) ∙ append_assoc (done_on o before two) (done_on o since p) (effects (view o (since ++ p)) x)
+
   next : (x : Act) (acts : List Entry) → first (agenda o (acts ++ one)) ≡ Some x → Phase acts → Phase (Then x ∷ acts)
   next x acts h (reading k r) = next_reading x acts k r h
   next x acts h (breaking k r) = next_breaking x acts k r h
@@ -606,7 +611,6 @@ module _ (o : Options) (l : ℕ) (a b : List ℕ) (older : List Entry) where
       ap (λ xs. first (agenda o (xs ++ one))) r.none ∙ ap (λ c. first (only (cond c (P l ∷ []) []))) r.shut in
       absurd (none_some (sym none ∙ h)))
   next x acts h (second r) =
-      let log = r.since ++ Begins (Bytes l b) ∷ r.before ++ two in
       second (record {
         before = r.before;
         since = Then x ∷ r.since;
@@ -618,9 +622,7 @@ module _ (o : Options) (l : ℕ) (a b : List ℕ) (older : List Entry) where
           behind = (rest (r.left i)).behind ++ map (arranged below) (ruled (r.sees i) x).caused;
           parts = further (r.sees i) x ++ (rest (r.left i)).parts;
         };
-        done =
-            (λ i. r.done i ++ effects (r.sees i) x)
-            ∙ append_assoc (done_on o r.before two) (done_on o r.since (Begins (Bytes l b) ∷ r.before ++ two)) (effects (view o log) x);
+        done = more_done acts r.before r.since x (Begins (Bytes l b) ∷ (r.before ++ two)) r.done r.sees;
         are_before = r.are_before;
         are_since = r.are_since;
       })
@@ -703,10 +705,10 @@ module _ (o : Options) (l : ℕ) (a b : List ℕ) (older : List Entry) where
     pub since : List Entry
     pub are_before : AreActs before
     pub are_since : AreActs since
-    pub run : IsRun o (since ++ Begins (Bytes l b) ∷ before ++ two)
-    pub rests : Rests o (since ++ Begins (Bytes l b) ∷ before ++ two)
-    pub sees : view o (acts ++ one) ≡ view o (since ++ Begins (Bytes l b) ∷ before ++ two)
-    pub done : done_on o acts one ≡ done_on o before two ++ done_on o since (Begins (Bytes l b) ∷ before ++ two)
+    pub run : IsRun o (since ++ (Begins (Bytes l b) ∷ (before ++ two)))
+    pub rests : Rests o (since ++ (Begins (Bytes l b) ∷ (before ++ two)))
+    pub sees : view o (acts ++ one) ≡ view o (since ++ (Begins (Bytes l b) ∷ (before ++ two)))
+    pub done : done_on o acts one ≡ done_on o before two ++ done_on o since (Begins (Bytes l b) ∷ (before ++ two))
 
   -- the second piece brings nothing
   idle : (acts : List Entry) → Both acts → Rests o (acts ++ one) → view o (acts ++ one) ≡ view o (acts ++ two) →

@@ -19,3 +19,4 @@ pub mod Settling
 pub mod Ahead
 pub mod Clocked
 pub mod Cutting
+pub mod Onward

@@ -101,8 +101,9 @@ EndedIs = (o : Options) (log : List Entry) (l : ℕ) → has_ended l (view o log
 abbrev pub fed : (link : ℕ) (piece : List ℕ) → List Shown → Step
 fed l piece effects = record { event = Bytes l piece; effects = effects }
 
--- A piece may come cut in two. Then the same is done, in two steps; and the client is left the same, so that all that follows is the same.
+-- A piece may come cut in two. Then the same is done, in two steps, and all other steps are the same.
 abbrev pub PiecesDontMatter : Type 0
-PiecesDontMatter = (o : Options) (older : List Step) (l : ℕ) (a b : List ℕ) (effects : List Shown) (whole : Good o (fed l (a ++ b) effects ∷ older)) →
+PiecesDontMatter = (o : Options) (newer older : List Step) (l : ℕ) (a b : List ℕ) (effects : List Shown) →
+    Good o (newer ++ fed l (a ++ b) effects ∷ older) →
     (first second : List Shown) × (effects ≡ arranged effect_below (first ++ second))
-    × (cut : Good o (fed l b (arranged effect_below second) ∷ fed l a (arranged effect_below first) ∷ older)) × (view o cut.log ≡ view o whole.log)
+    × Good o (newer ++ fed l b (arranged effect_below second) ∷ fed l a (arranged effect_below first) ∷ older)

@@ -170,8 +170,7 @@ pub fn ended_is()
     ensures { EndedIs }
 {}
 
-/// Bytes that come in two pieces do what they do as one: no effect changes, but for the step in which it stands, and the client is left
-/// the same.
+/// Bytes that come in two pieces do what they do as one: no effect changes, but for the step in which it stands.
 pub fn pieces_dont_matter()
     ensures { PiecesDontMatter }
 {}

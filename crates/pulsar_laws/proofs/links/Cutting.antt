@@ -34,6 +34,7 @@ use Rattle.pulsar_laws.proofs.links.Ahead.{after_by, after_same, came_same, fits
 use Rattle.pulsar_laws.proofs.links.Ahead as ahead
 use Rattle.pulsar_laws.proofs.links.Clocked.{again_after, again_ruled, clocked, moved, none_after, none_ruled, own_row, turned_as}
 use Rattle.pulsar_laws.proofs.links.Ending.{ended_so, started, up}
+use Rattle.pulsar_laws.proofs.links.Onward.{Follows, Upto, acts_done, done_on, follows, rests_below, rests_on, steps_on, upon, upto}
 use Rattle.pulsar_laws.proofs.links.Unread.{came_short, drawn_stage, moved_stage, none_parts, nothing_came, short_taken}
 
 -- READING COMES BY PARTS ALONE
@@ -209,13 +210,7 @@ none_there l bytes v e = λ i. record v { links = record { started = v.links.sta
       | inr h ↦ ap (λ c. cond c (option_map (holding bytes) (v.links.live k)) (v.links.live k)) h
     ]
 
--- WHAT IS DONE UPON A LOG
-
--- the effects of acts upon a log
-abbrev done_on : Options → List Entry → List Entry → List Shown
-done_on o [] p = []
-done_on o (Begins e ∷ xs) p = done_on o xs p
-done_on o (Then x ∷ xs) p = done_on o xs p ++ effects (view o (xs ++ p)) x
+-- ALONG A RUN
 
 module _ (o : Options) (l : ℕ) (a b : List ℕ) (older : List Entry) where
   abbrev one : List Entry
@@ -772,65 +767,7 @@ module _ (o : Options) (l : ℕ) (a b : List ℕ) (older : List Entry) where
   pub cut_so : (acts : List Entry) → AreActs acts → IsRun o (acts ++ one) → IsRun o one → Rests o (acts ++ one) → Cut acts
   cut_so acts k r first_run h = ends_so acts h (along first_run acts k r)
 
--- HISTORIES
-
-cons_head : {A : Type 0} {x y : A} {xs ys : List A} → x ∷ xs ≡ y ∷ ys → x ≡ y
-cons_head h = cc
-
-cons_tail : {A : Type 0} {x y : A} {xs ys : List A} → x ∷ xs ≡ y ∷ ys → xs ≡ ys
-cons_tail h = cc
-
--- the step of an event and the acts upon it
-acts_done : (o : Options) (xs : List Entry) (e : Heard) (old : List Entry) → AreActs xs →
-    steps_done rules o (xs ++ Begins e ∷ old) ≡ record { event = e; effects = done_on o xs (Begins e ∷ old) } ∷ steps_done rules o old
-acts_done o [] e old k = refl
-acts_done o (Begins d ∷ xs) e old k = absurd k
-acts_done o (Then x ∷ xs) e old k = ap (with_effects (effects (view o (xs ++ Begins e ∷ old)) x)) (acts_done o xs e old k)
-
-twice_with : (xs ys : List Shown) (ss : List Step) → with_effects ys (with_effects xs ss) ≡ with_effects (xs ++ ys) ss
-twice_with xs ys [] = refl
-twice_with xs ys (s ∷ ss) = ap (λ es. record { event = s.event; effects = es } ∷ ss) (append_assoc s.effects xs ys)
-
-none_with : (ss : List Step) → with_effects [] ss ≡ ss
-none_with [] = refl
-none_with (s ∷ ss) = ap (λ es. record { event = s.event; effects = es } ∷ ss) (append-nil s.effects)
-
--- the newest step of a log, which has further effects
-record Newest (o : Options) (s : Step) (past : List Step) (log : List Entry) (more : List Shown) : Type 0 where
-  acts : List Entry
-  old : List Entry
-  is : log ≡ acts ++ Begins s.event ∷ old
-  are : AreActs acts
-  done : s.effects ≡ arranged effect_below (done_on o acts (Begins s.event ∷ old) ++ more)
-  past_is : past ≡ steps o old
-
-newest : (o : Options) (s : Step) (past : List Step) (log : List Entry) (more : List Shown) →
-    s ∷ past ≡ map (in_order effect_below) (with_effects more (steps_done rules o log)) → Newest o s past log more
-newest o s past [] more h = absurd cc
-newest o s past (Begins e ∷ log) more h = record {
-  acts = [];
-  old = log;
-  is = ap (λ (t : Step). Begins t.event ∷ log) (sym (cons_head h));
-  are = tt;
-  done = ap (λ (t : Step). t.effects) (cons_head h);
-  past_is = cons_tail h;
-}
-newest o s past (Then x ∷ log) more h =
-    let es : List Shown = effects (view o log) x in
-    let k : Newest o s past log (es ++ more) =
-    newest o s past log (es ++ more) (h ∙ ap (map (in_order effect_below)) (twice_with es more (steps_done rules o log))) in
-    let p : List Entry = Begins s.event ∷ k.old in
-    record {
-      acts = Then x ∷ k.acts;
-      old = k.old;
-      is = ap (λ xs. Then x ∷ xs) k.is;
-      are = k.are;
-      done =
-          k.done
-          ∙ ap (λ (xs : List Entry). arranged effect_below (done_on o k.acts p ++ (effects (view o xs) x ++ more))) k.is
-          ∙ ap (arranged effect_below) (sym (append_assoc (done_on o k.acts p) (effects (view o (k.acts ++ p)) x) more));
-      past_is = k.past_is;
-    }
+-- ALL
 
 older_run : (o : Options) (xs log : List Entry) → IsRun o (xs ++ log) → IsRun o log
 older_run o [] log r = r
@@ -838,29 +775,34 @@ older_run o (Begins e ∷ xs) log r = older_run o xs log r.0
 older_run o (Then x ∷ xs) log r = older_run o xs log r.0
 
 pub pieces_dont_matter_lem : PiecesDontMatter
-pieces_dont_matter_lem o older l a b es whole =
-    let n : Newest o (fed l (a ++ b) es) older whole.log [] =
-    newest o (fed l (a ++ b) es) older whole.log []
-    (whole.same ∙ ap (map (in_order effect_below)) (sym (none_with (steps_done rules o whole.log)))) in
-    let p : List Entry = Begins (Bytes l (a ++ b)) ∷ n.old in
-    let run : IsRun o (n.acts ++ p) = subst (IsRun o) n.is whole.run in
-    let k = cut_so o l a b n.old n.acts n.are run (older_run o n.acts p run) (subst (Rests o) n.is whole.rests) in
-    let first : List Shown = done_on o k.before (Begins (Bytes l a) ∷ n.old) in
+pieces_dont_matter_lem o newer older l a b es whole =
+    let n : Upto o newer (fed l (a ++ b) es) older whole.log = upto o newer (fed l (a ++ b) es) older whole.log whole.same in
+    let one : List Entry = Begins (Bytes l (a ++ b)) ∷ n.old in
+    let run : IsRun o (n.xs ++ (n.acts ++ one)) = subst (IsRun o) n.is whole.run in
+    let rests : Rests o (n.xs ++ (n.acts ++ one)) = subst (Rests o) n.is whole.rests in
+    let ran : IsRun o (n.acts ++ one) = older_run o n.xs (n.acts ++ one) run in
+    let rested : Rests o (n.acts ++ one) = rests_below o n.xs (n.acts ++ one) n.fresh run rests in
+    let k = cut_so o l a b n.old n.acts n.are ran (older_run o n.acts one ran) rested in
     let log : List Entry = k.before ++ Begins (Bytes l a) ∷ n.old in
-    let second : List Shown = done_on o k.since (Begins (Bytes l b) ∷ log) in (
+    let first : List Shown = done_on o k.before (Begins (Bytes l a) ∷ n.old) in
+    let second : List Shown = done_on o k.since (Begins (Bytes l b) ∷ log) in
+    let q : List Entry = k.since ++ Begins (Bytes l b) ∷ log in
+    let f : Follows o n.xs (n.acts ++ one) q = follows o n.xs (n.acts ++ one) q k.sees rested k.rests k.run run in
+    let two : steps o q ≡ fed l b (arranged effect_below second) ∷ fed l a (arranged effect_below first) ∷ steps o n.old =
+    ap (map (in_order effect_below))
+    (acts_done o k.since (Bytes l b) log k.are_since
+    ∙ ap (λ ss. record { event = Bytes l b; effects = second } ∷ ss) (acts_done o k.before (Bytes l a) n.old k.are_before)) in (
       first,
       second,
-      n.done ∙ ap (arranged effect_below) (append-nil (done_on o n.acts p) ∙ k.done),
+      n.done ∙ ap (arranged effect_below) k.done,
       record {
-        log = k.since ++ Begins (Bytes l b) ∷ log;
-        run = k.run;
-        rests = k.rests;
+        log = n.xs ++ q;
+        run = f.run;
+        rests = rests_on o n.xs (n.acts ++ one) q f rests;
         same =
-            (λ i. fed l b (arranged effect_below second) ∷ fed l a (arranged effect_below first) ∷ n.past_is i)
-            ∙ sym
-            (ap (map (in_order effect_below))
-            (acts_done o k.since (Bytes l b) log k.are_since
-            ∙ ap (λ ss. record { event = Bytes l b; effects = second } ∷ ss) (acts_done o k.before (Bytes l a) n.old k.are_before)));
+            (λ i. (n.newest_is ∙ ap (map (in_order effect_below)) f.upon_same) i
+            ++ fed l b (arranged effect_below second) ∷ fed l a (arranged effect_below first) ∷ n.past_is i)
+            ∙ ap (λ ss. map (in_order effect_below) (upon o n.xs q) ++ ss) (sym two)
+            ∙ sym (steps_on o n.xs q n.fresh);
       },
-      sym k.sees ∙ ap (view o) (sym n.is),
     )

@@ -29,6 +29,13 @@ use Rattle.pulsar_laws.proofs.links.Ahead.{Ruled, only, ruled}
 abbrev pub clocked : ℕ → Seat → Seat
 clocked now seat = record seat { seen = ticked now seat.seen }
 
+-- a row, where it is that of the link
+abbrev pub on : (Seat → Seat) → Bool → Option Seat → Option Seat
+on f b row = cond b (option_map f row) row
+
+abbrev pub read_on : (now : ℕ) → Bool → Option Seat → Option Seat
+read_on now b row = cond b (took_some Reads now row) row
+
 -- one link of a view
 abbrev pub moved : ℕ → (Seat → Seat) → View → View
 moved l f v =
@@ -93,13 +100,11 @@ module _ (l : ℕ) where
   R = Comes (ToLink l Reads)
 
   -- the row of the link itself, and the others
-  pub at_rows : {A : Type 0} (live : ℕ → Option Seat) (row : Option Seat) (f g : Option Seat → A) → live l ≡ row → f row ≡ g row → (k : ℕ) (none : Option Seat → A) →
-      cond (k == l) (f (live k)) (none (live k)) ≡ cond (k == l) (g (live k)) (none (live k))
-  at_rows live row f g e same k none = elim (cases_Bool (k == l)) [
-    | inl h ↦
-        (let here : live k ≡ row = ap live (eqb-true k l h) ∙ e in
-        ap (λ b. cond b (f (live k)) (none (live k))) h ∙ ap f here ∙ same ∙ sym (ap g here) ∙ sym (ap (λ b. cond b (g (live k)) (none (live k))) h))
-    | inr h ↦ ap (λ b. cond b (f (live k)) (none (live k))) h ∙ sym (ap (λ b. cond b (g (live k)) (none (live k))) h)
+  pub rows_with : (live : ℕ → Option Seat) (row : Option Seat) (f g : Bool → Option Seat → Option Seat) → live l ≡ row → f true row ≡ g true row →
+      ((r : Option Seat) → f false r ≡ g false r) → (k : ℕ) → f (k == l) (live k) ≡ g (k == l) (live k)
+  rows_with live row f g e same apart k = elim (cases_Bool (k == l)) [
+    | inl h ↦ (let here : live k ≡ row = ap live (eqb-true k l h) ∙ e in (λ i. f (h i) (here i)) ∙ same ∙ sym (λ i. g (h i) (here i)))
+    | inr h ↦ ap (λ c. f c (live k)) h ∙ apart (live k) ∙ sym (ap (λ c. g c (live k)) h)
   ]
 
   pub own_row : {A : Type 0} (f : A) (g : A) → cond (l == l) f g ≡ f
@@ -130,16 +135,9 @@ module _ (l : ℕ) where
     arrival_same = ap arrival_at told_row ∙ ap arrives (came_clocked v.now seat.seen) ∙ sym (ap arrival_at live)
 
     rows_same : (k : ℕ) → (after R told).links.live k ≡ (after R v).links.live k
-    rows_same k = elim (cases_Bool (k == l)) [
-      | inl h ↦
-          (let here : v.links.live k ≡ Some seat = ap v.links.live (eqb-true k l h) ∙ live in
-          ap (λ b. cond b (took_some Reads v.now (cond b (option_map (clocked v.now) (v.links.live k)) (v.links.live k))) (cond b (option_map (clocked v.now) (v.links.live k)) (v.links.live k))) h
-          ∙ ap (λ r. took_some Reads v.now (option_map (clocked v.now) r)) here ∙ ap Some (read_clocked v.now seat)
-          ∙ sym (ap (took_some Reads v.now) here) ∙ sym (ap (λ b. cond b (took_some Reads v.now (v.links.live k)) (v.links.live k)) h))
-      | inr h ↦
-          ap (λ b. cond b (took_some Reads v.now (cond b (option_map (clocked v.now) (v.links.live k)) (v.links.live k))) (cond b (option_map (clocked v.now) (v.links.live k)) (v.links.live k))) h
-          ∙ sym (ap (λ b. cond b (took_some Reads v.now (v.links.live k)) (v.links.live k)) h)
-    ]
+    rows_same k =
+        rows_with v.links.live (Some seat) (λ c r. read_on v.now c (on (clocked v.now) c r)) (read_on v.now) live (ap Some (read_clocked v.now seat))
+        (λ r. refl) k
 
     pub again_after : after R told ≡ after R v
     again_after = λ i. record {
@@ -201,7 +199,7 @@ module _ (l : ℕ) where
         links =
             record {
               started = v.links.started;
-              live = λ k. at_rows v.links.live (Some seat) (took_some Reads v.now) (option_map (clocked v.now)) live read_same k (λ r. r) i;
+              live = λ k. rows_with v.links.live (Some seat) (read_on v.now) (on (clocked v.now)) live read_same (λ r. refl) k i;
             };
         addresses = record { base = λ key. base_same key i; pause = λ m. pause_same m i };
         alarms = ap (λ t. alarms_on v.chosen v.now t v.alarms) turned_none i;

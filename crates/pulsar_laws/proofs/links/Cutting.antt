@@ -1,10 +1,10 @@
 -- A piece of a link's bytes that comes cut in two does what it does whole.
-use Rattle.std.proofs.Common.{◌≡◌, ◌⊎◌, inl, inr, ◌∙◌, sym, ap, subst, ℕ, ◌+◌, ◌==◌, ◌&&◌, ◌||◌, List, [], ◌∷◌, ◌++◌, refl, arith, drop, map, not, Bool, true, false, cond, nat_lt, Option, Some, None, Result, Ok, Err, append-nil, append_assoc}
-use Rattle.std.proofs.lemmas.Bool.{cases_Bool, eq-eqb, eqb-true}
+use Rattle.std.proofs.Common.{◌≡◌, ◌⊎◌, inl, inr, ◌∙◌, sym, ap, subst, ℕ, ◌==◌, ◌&&◌, ◌||◌, List, [], ◌∷◌, ◌++◌, refl, arith, drop, map, not, Bool, true, false, cond, nat_lt, Option, Some, None, Result, Ok, Err, append-nil, append_assoc}
+use Rattle.std.proofs.lemmas.Bool.{cases_Bool}
 use Rattle.std.proofs.lemmas.Bool.Decides.{nat_tests}
 use Rattle.std.specs.Option.{is_none, option_map}
-use Rattle.pulsar_laws.proofs.ActWords.{Act, Answers, Ask, below, Bytes, Comes, Dials, Does, Drains, Ends, Get, Heard, LinkAct, Notice, Opens, Part, Pings, Reads, Shown, Told, ToLink, Who}
-use Rattle.pulsar_laws.proofs.RunWords.{after, agenda, arranged, at_once, Begins, begun, begun_live, Chosen, Each, each_append, each_map, Entry, first, first_of, further, is_live, IsRun, live_begun, link_got, Options, parts, put_all, rest, rest_of, rules, Then, turned, turned_by, view, View}
+use Rattle.pulsar_laws.proofs.ActWords.{Act, Ask, below, Bytes, Comes, Dials, Does, Drains, Ends, Get, LinkAct, Notice, Opens, Part, Pings, Reads, Shown, Told, ToLink}
+use Rattle.pulsar_laws.proofs.RunWords.{after, agenda, arranged, at_once, Begins, begun_live, Chosen, Each, each_append, each_map, Entry, first, first_of, further, is_live, IsRun, live_begun, link_got, Options, put_all, rest, rest_of, rules, Then, turned, turned_by, view, View}
 use Rattle.pulsar_laws.proofs.LinkWords.{arrival_at, ConnectionError, Fault, got_at, is_numbered, Seat, seat_asked, seat_fed, seat_got, SendPing, took_end, took_some, Words}
 use Rattle.pulsar_frame.specs.Frame.{Front, Short, Refused, Whole, front}
 use Rattle.pulsar_session.specs.declared.states.Stage.{Stage}
@@ -17,22 +17,21 @@ use Rattle.pulsar_calls.specs.declared.act.Arrival.{Arrival}
 use Rattle.pulsar_calls.specs.declared.act.Arrival.TheVariants as arrivals
 use Rattle.pulsar_calls.specs.declared.act.End.TheVariants.{Broken}
 use Rattle.pulsar_calls.specs.Order.{effect_below}
-use Rattle.pulsar_calls.specs.Steps.{Step}
 use Rattle.pulsar_links.specs.Links.{arrives}
 use Rattle.pulsar_links.specs.Seats.{Addresses, seat_read}
 use Rattle.pulsar_consumer_table.specs.Consumers as consumer
 use Rattle.pulsar_acts.specs.Effects.{effects}
 use Rattle.pulsar_acts.specs.Rules.{breaks_at, reads_on}
-use Rattle.pulsar_acts.specs.Run.{Good, Rests, steps}
+use Rattle.pulsar_acts.specs.Run.{Rests, steps}
 use Rattle.pulsar_acts.specs.View.{alarms_on, base_on, is_at, live_after, pause_on}
 use Rattle.pulsar_client.proofs.Raising.{IsRaised, raises}
-use Rattle.pulsar_run.specs.Run.{in_order, only, steps_done, with_effects}
+use Rattle.pulsar_run.specs.Run.{in_order, only}
 use Rattle.pulsar_laws.specs.Laws.{AreActs}
 use Rattle.pulsar_laws.specs.LinkLaws.{PiecesDontMatter, end_in, fed, is_end}
 use Rattle.pulsar_laws.proofs.Cases.{none_some, some_is}
 use Rattle.pulsar_laws.proofs.links.Ahead.{after_by, after_same, came_same, fits, holding, is_read, other, read_ruled, ruled, Ruled, ruled_same, seat_read_same, taken_open}
 use Rattle.pulsar_laws.proofs.links.Ahead as ahead
-use Rattle.pulsar_laws.proofs.links.Clocked.{again_after, again_ruled, clocked, moved, none_after, none_ruled, own_row, turned_as}
+use Rattle.pulsar_laws.proofs.links.Clocked.{again_after, again_ruled, clocked, moved, none_after, none_ruled, on, own_row, read_on, rows_with, turned_as}
 use Rattle.pulsar_laws.proofs.links.Ending.{ended_so, started, up}
 use Rattle.pulsar_laws.proofs.links.Onward.{Follows, Upto, acts_done, done_on, follows, rests_below, rests_on, steps_on, upon, upto}
 use Rattle.pulsar_laws.proofs.links.Unread.{came_short, drawn_stage, moved_stage, none_parts, nothing_came, short_taken}
@@ -190,25 +189,14 @@ end_more o l x log h = h
 own_bytes : (l : ℕ) (v : View) (seat : Seat) → v.links.live l ≡ Some seat → other l seat.seen.unread v ≡ v
 own_bytes l v seat e = λ i. record v { links = record { started = v.links.started; live = λ k. by k i } }
   where
-    by : (k : ℕ) → cond (k == l) (option_map (holding seat.seen.unread) (v.links.live k)) (v.links.live k) ≡ v.links.live k
-    by k = elim (cases_Bool (k == l)) [
-      | inl h ↦
-          (let here : v.links.live k ≡ Some seat = ap v.links.live (eqb-true k l h) ∙ e in
-          ap (λ c. cond c (option_map (holding seat.seen.unread) (v.links.live k)) (v.links.live k)) h
-          ∙ ap (option_map (holding seat.seen.unread)) here ∙ sym here)
-      | inr h ↦ ap (λ c. cond c (option_map (holding seat.seen.unread) (v.links.live k)) (v.links.live k)) h
-    ]
+    by : (k : ℕ) → on (holding seat.seen.unread) (k == l) (v.links.live k) ≡ v.links.live k
+    by k = rows_with l v.links.live (Some seat) (on (holding seat.seen.unread)) (λ c r. r) e refl (λ r. refl) k
 
 none_there : (l : ℕ) (bytes : List ℕ) (v : View) → v.links.live l ≡ None → other l bytes v ≡ v
 none_there l bytes v e = λ i. record v { links = record { started = v.links.started; live = λ k. by k i } }
   where
-    by : (k : ℕ) → cond (k == l) (option_map (holding bytes) (v.links.live k)) (v.links.live k) ≡ v.links.live k
-    by k = elim (cases_Bool (k == l)) [
-      | inl h ↦
-          (let here : v.links.live k ≡ None = ap v.links.live (eqb-true k l h) ∙ e in
-          ap (λ c. cond c (option_map (holding bytes) (v.links.live k)) (v.links.live k)) h ∙ ap (option_map (holding bytes)) here ∙ sym here)
-      | inr h ↦ ap (λ c. cond c (option_map (holding bytes) (v.links.live k)) (v.links.live k)) h
-    ]
+    by : (k : ℕ) → on (holding bytes) (k == l) (v.links.live k) ≡ v.links.live k
+    by k = rows_with l v.links.live None (on (holding bytes)) (λ c r. r) e refl (λ r. refl) k
 
 -- ALONG A RUN
 
@@ -387,28 +375,9 @@ module _ (o : Options) (l : ℕ) (a b : List ℕ) (older : List Entry) where
       arrival_same = ap arrival_at there_row ∙ ap arrives (came_same b v' l r.seat r.opened is_here) ∙ sym (ap arrival_at r.row)
 
       row_read : (j : ℕ) → (after (R l) (other l all v')).links.live j ≡ (other l left_over (after (R l) v')).links.live j
-      row_read j = elim (cases_Bool (j == l)) [
-        | inl e ↦
-            (let here : v'.links.live j ≡ Some r.seat = ap v'.links.live (eqb-true j l e) ∙ r.row in
-            ap
-            (λ c. cond c (took_some Reads v'.now (cond c (option_map (holding all) (v'.links.live j)) (v'.links.live j)))
-            (cond c (option_map (holding all) (v'.links.live j)) (v'.links.live j))) e
-            ∙ ap (λ row. took_some Reads v'.now (option_map (holding all) row)) here
-            ∙ ap Some (seat_read_same b v' l r.seat r.opened is_here)
-            ∙ sym (ap (λ row. option_map (holding left_over) (took_some Reads v'.now row)) here)
-            ∙ sym
-            (ap
-            (λ c. cond c (option_map (holding left_over) (cond c (took_some Reads v'.now (v'.links.live j)) (v'.links.live j)))
-            (cond c (took_some Reads v'.now (v'.links.live j)) (v'.links.live j))) e))
-        | inr e ↦
-            ap
-            (λ c. cond c (took_some Reads v'.now (cond c (option_map (holding all) (v'.links.live j)) (v'.links.live j)))
-            (cond c (option_map (holding all) (v'.links.live j)) (v'.links.live j))) e
-            ∙ sym
-            (ap
-            (λ c. cond c (option_map (holding left_over) (cond c (took_some Reads v'.now (v'.links.live j)) (v'.links.live j)))
-            (cond c (took_some Reads v'.now (v'.links.live j)) (v'.links.live j))) e)
-      ]
+      row_read j =
+          rows_with l v'.links.live (Some r.seat) (λ c row. read_on v'.now c (on (holding all) c row))
+          (λ c row. on (holding left_over) c (read_on v'.now c row)) r.row (ap Some (seat_read_same b v' l r.seat r.opened is_here)) (λ row. refl) j
 
       seen_read : view o (Then (R l) ∷ acts ++ one) ≡ other l left_over (after (R l) v')
       seen_read =
@@ -504,27 +473,9 @@ module _ (o : Options) (l : ℕ) (a b : List ℕ) (older : List Entry) where
           }) r.opened
 
       fed_row : (j : ℕ) → live_begun (Bytes l b) j ((moved l (clocked v'.now) v').links.live j) ≡ (moved l (clocked v'.now) w).links.live j
-      fed_row j = elim (cases_Bool (j == l)) [
-        | inl e ↦
-            (let here : v'.links.live j ≡ Some r.seat = ap v'.links.live (eqb-true j l e) ∙ r.row in
-            ap
-            (λ c. cond c (option_map (seat_fed b) (cond c (option_map (clocked v'.now) (v'.links.live j)) (v'.links.live j)))
-            (cond c (option_map (clocked v'.now) (v'.links.live j)) (v'.links.live j))) e
-            ∙ ap (λ row. option_map (seat_fed b) (option_map (clocked v'.now) row)) here ∙ ap Some fed_seat
-            ∙ sym (ap (λ row. option_map (clocked v'.now) (option_map (holding all) row)) here)
-            ∙ sym
-            (ap
-            (λ c. cond c (option_map (clocked v'.now) (cond c (option_map (holding all) (v'.links.live j)) (v'.links.live j)))
-            (cond c (option_map (holding all) (v'.links.live j)) (v'.links.live j))) e))
-        | inr e ↦
-            ap
-            (λ c. cond c (option_map (seat_fed b) (cond c (option_map (clocked v'.now) (v'.links.live j)) (v'.links.live j)))
-            (cond c (option_map (clocked v'.now) (v'.links.live j)) (v'.links.live j))) e
-            ∙ sym
-            (ap
-            (λ c. cond c (option_map (clocked v'.now) (cond c (option_map (holding all) (v'.links.live j)) (v'.links.live j)))
-            (cond c (option_map (holding all) (v'.links.live j)) (v'.links.live j))) e)
-      ]
+      fed_row j =
+          rows_with l v'.links.live (Some r.seat) (λ c row. on (seat_fed b) c (on (clocked v'.now) c row))
+          (λ c row. on (clocked v'.now) c (on (holding all) c row)) r.row (ap Some fed_seat) (λ row. refl) j
 
       then_seen : view o then_log ≡ moved l (clocked v'.now) w
       then_seen =
@@ -662,23 +613,9 @@ module _ (o : Options) (l : ℕ) (a b : List ℕ) (older : List Entry) where
         bytes' = (seat_fed a seat).seen.unread ++ b
 
         rows : (k : ℕ) → live_begun (Bytes l (a ++ b)) k (v0.links.live k) ≡ (other l bytes' (begun_live (Bytes l a) v0)).links.live k
-        rows k = elim (cases_Bool (k == l)) [
-          | inl h ↦
-              (let here : v0.links.live k ≡ Some seat = ap v0.links.live (eqb-true k l h) ∙ e in
-              ap (λ c. cond c (option_map (seat_fed (a ++ b)) (v0.links.live k)) (v0.links.live k)) h
-              ∙ ap (option_map (seat_fed (a ++ b))) here ∙ ap Some fed_both
-              ∙ sym (ap (λ row. option_map (holding bytes') (option_map (seat_fed a) row)) here)
-              ∙ sym
-              (ap
-              (λ c. cond c (option_map (holding bytes') (cond c (option_map (seat_fed a) (v0.links.live k)) (v0.links.live k)))
-              (cond c (option_map (seat_fed a) (v0.links.live k)) (v0.links.live k))) h))
-          | inr h ↦
-              ap (λ c. cond c (option_map (seat_fed (a ++ b)) (v0.links.live k)) (v0.links.live k)) h
-              ∙ sym
-              (ap
-              (λ c. cond c (option_map (holding bytes') (cond c (option_map (seat_fed a) (v0.links.live k)) (v0.links.live k)))
-              (cond c (option_map (seat_fed a) (v0.links.live k)) (v0.links.live k))) h)
-        ]
+        rows k =
+            rows_with l v0.links.live (Some seat) (on (seat_fed (a ++ b))) (λ c row. on (holding bytes') c (on (seat_fed a) c row)) e (ap Some fed_both)
+            (λ row. refl) k
 
     begin_at : (row : Option Seat) → v0.links.live l ≡ row → Phase []
     begin_at None e = shut both_begin (record { none = refl; shut = ap (is_at is_open) e })

@@ -1,7 +1,7 @@
 -- A log and its history: what follows on two logs after which the same is seen, and the log of each part of a history.
-use Rattle.std.proofs.Common.{◌≡◌, ◌⊎◌, inl, inr, ◌∙◌, sym, ap, List, [], ◌∷◌, ◌++◌, refl, map, Option, Some, None, append-nil, append_assoc}
-use Rattle.pulsar_laws.proofs.ActWords.{Act, Heard, Shown}
-use Rattle.pulsar_laws.proofs.RunWords.{after, agenda, arranged, at_once, Begins, begun, causes, Entry, first, further, IsRun, joins, Options, parts, put_all, rest, rules, Then, view}
+use Rattle.std.proofs.Common.{◌≡◌, ◌⊎◌, inl, inr, ◌∙◌, sym, ap, List, [], ◌∷◌, ◌++◌, refl, map, append-nil, append_assoc}
+use Rattle.pulsar_laws.proofs.ActWords.{Heard, Shown}
+use Rattle.pulsar_laws.proofs.RunWords.{after, agenda, arranged, Begins, begun, Entry, first, IsRun, Options, parts, rest, rules, Then, view}
 use Rattle.pulsar_calls.specs.Order.{effect_below}
 use Rattle.pulsar_calls.specs.Steps.{Step}
 use Rattle.pulsar_acts.specs.Effects.{effects}

@@ -17,6 +17,7 @@ use Rattle.pulsar_calls.specs.declared.act.Arrival.{Arrival}
 use Rattle.pulsar_calls.specs.declared.act.Arrival.TheVariants as arrivals
 use Rattle.pulsar_calls.specs.declared.act.End.TheVariants.{Broken}
 use Rattle.pulsar_calls.specs.Order.{effect_below}
+use Rattle.pulsar_calls.specs.Steps.{Step}
 use Rattle.pulsar_links.specs.Links.{arrives}
 use Rattle.pulsar_links.specs.Seats.{Addresses, seat_read}
 use Rattle.pulsar_consumer_table.specs.Consumers as consumer
@@ -29,6 +30,7 @@ use Rattle.pulsar_run.specs.Run.{in_order, only}
 use Rattle.pulsar_laws.specs.Laws.{AreActs}
 use Rattle.pulsar_laws.specs.LinkLaws.{PiecesDontMatter, end_in, fed, is_end}
 use Rattle.pulsar_laws.proofs.Cases.{none_some, some_is}
+use Rattle.pulsar_laws.proofs.calls.Ticketed.{older_run}
 use Rattle.pulsar_laws.proofs.links.Ahead.{after_by, after_same, came_same, fits, holding, is_read, other, read_ruled, ruled, Ruled, ruled_same, seat_read_same, taken_open}
 use Rattle.pulsar_laws.proofs.links.Ahead as ahead
 use Rattle.pulsar_laws.proofs.links.Clocked.{again_after, again_ruled, clocked, moved, none_after, none_ruled, on, own_row, read_on, rows_with, turned_as}
@@ -706,11 +708,6 @@ module _ (o : Options) (l : ℕ) (a b : List ℕ) (older : List Entry) where
 
 -- ALL
 
-older_run : (o : Options) (xs log : List Entry) → IsRun o (xs ++ log) → IsRun o log
-older_run o [] log r = r
-older_run o (Begins e ∷ xs) log r = older_run o xs log r.0
-older_run o (Then x ∷ xs) log r = older_run o xs log r.0
-
 pub pieces_dont_matter_lem : PiecesDontMatter
 pieces_dont_matter_lem o newer older l a b es whole =
     let n : Upto o newer (fed l (a ++ b) es) older whole.log = upto o newer (fed l (a ++ b) es) older whole.log whole.same in
@@ -725,21 +722,17 @@ pieces_dont_matter_lem o newer older l a b es whole =
     let second : List Shown = done_on o k.since (Begins (Bytes l b) ∷ log) in
     let q : List Entry = k.since ++ Begins (Bytes l b) ∷ log in
     let f : Follows o n.xs (n.acts ++ one) q = follows o n.xs (n.acts ++ one) q k.sees rested k.rests k.run run in
-    let two : steps o q ≡ fed l b (arranged effect_below second) ∷ fed l a (arranged effect_below first) ∷ steps o n.old =
+    let cut : List Step → List Step = λ past. fed l b (arranged effect_below second) ∷ fed l a (arranged effect_below first) ∷ past in
+    let two : steps o q ≡ cut (steps o n.old) =
     ap (map (in_order effect_below))
     (acts_done o k.since (Bytes l b) log k.are_since
-    ∙ ap (λ ss. record { event = Bytes l b; effects = second } ∷ ss) (acts_done o k.before (Bytes l a) n.old k.are_before)) in (
+    ∙ ap (λ ss. record { event = Bytes l b; effects = second } ∷ ss) (acts_done o k.before (Bytes l a) n.old k.are_before)) in
+    let since : List Step = map (in_order effect_below) (upon o n.xs q) in
+    let since_is : newer ≡ since = n.newest_is ∙ ap (map (in_order effect_below)) f.upon_same in
+    let all : steps o (n.xs ++ q) ≡ since ++ cut (steps o n.old) = steps_on o n.xs q n.fresh ∙ ap (λ ss. since ++ ss) two in
+    let whole_is : newer ++ cut older ≡ since ++ cut (steps o n.old) = λ i. since_is i ++ cut (n.past_is i) in (
       first,
       second,
       n.done ∙ ap (arranged effect_below) k.done,
-      record {
-        log = n.xs ++ q;
-        run = f.run;
-        rests = rests_on o n.xs (n.acts ++ one) q f rests;
-        same =
-            (λ i. (n.newest_is ∙ ap (map (in_order effect_below)) f.upon_same) i
-            ++ fed l b (arranged effect_below second) ∷ fed l a (arranged effect_below first) ∷ n.past_is i)
-            ∙ ap (λ ss. map (in_order effect_below) (upon o n.xs q) ++ ss) (sym two)
-            ∙ sym (steps_on o n.xs q n.fresh);
-      },
+      record { log = n.xs ++ q; run = f.run; rests = rests_on o n.xs (n.acts ++ one) q f rests; same = whole_is ∙ sym all },
     )

@@ -15,6 +15,7 @@ pub mod Once
 pub mod CausedLists
 pub mod Caused
 pub mod Gathered
+pub mod Reported
 pub mod Telling
 pub mod Gathering
 pub mod IdleCalls

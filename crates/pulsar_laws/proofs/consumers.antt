@@ -10,3 +10,8 @@ pub mod Placed
 pub mod Queueing
 pub mod Covered
 pub mod Taken
+pub mod Answered
+pub mod Finished
+pub mod Due
+pub mod Rested
+pub mod Tended

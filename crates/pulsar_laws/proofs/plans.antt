@@ -30,3 +30,5 @@ pub mod Framing
 pub mod Parted
 pub mod Unbatched
 pub mod Sharing
+pub mod Waiting
+pub mod Again

@@ -1,11 +1,14 @@
 pub mod BatchRun
 pub mod BatchFailing
 pub mod BatchFrames
+pub mod BatchQueued
 pub mod BatchTold
 pub mod BatchSent
 pub mod Closed
+pub mod EachOnce
 pub mod Flushing
 pub mod Keepers
+pub mod Limits
 pub mod Numbering
 pub mod Drawing
 pub mod Free
@@ -18,3 +21,7 @@ pub mod Rise
 pub mod TurnActs
 pub mod TurnRun
 pub mod Users
+pub mod Reread
+pub mod Texts
+pub mod TextReplies
+pub mod Named

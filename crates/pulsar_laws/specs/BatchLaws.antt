@@ -1,9 +1,10 @@
 -- What follows of the batches of producers, in plain words.
-use Rattle.std.specs.Prelude.{◌≡◌, ◌⊎◌, ℕ, ◌+◌, ◌≤◌, ◌&&◌, Bool, true, false, if◌then◌else◌, List, [], ◌∷◌, ◌++◌, length, map, Option, Some, None, Result, Ok, Err}
+use Rattle.std.specs.Prelude.{◌≡◌, ◌⊎◌, ℕ, ◌+◌, ◌≤◌, ◌<◌, ◌==◌, ◌&&◌, Bool, true, false, if◌then◌else◌, List, [], ◌∷◌, ◌++◌, length, map, Option, Some, None, Result, Ok, Err}
 use Rattle.pulsar_run.specs.Laws.{In, InThisStep}
 use Rattle.pulsar_frame.specs.Batch.{EntryValues}
 use Rattle.pulsar_wire.specs.Row.{Values, spelling}
 use Rattle.pulsar_wire.specs.Rows.{send_receipt}
+use Rattle.pulsar_wire.specs.Sink.{capped}
 use Rattle.pulsar_wire.specs.declared.key.RequestKey.TheVariants as key
 use Rattle.pulsar_messages.specs.Content.{ProducerMessageValues}
 use Rattle.pulsar_messages.specs.Words as words
@@ -14,13 +15,15 @@ use Rattle.pulsar_exchange.specs.Messages.{Reply, is_body}
 use Rattle.pulsar_outgoing.specs.Batch.{batch_of, cut_report, entries_in, entry_of, failed, member_of, not_written, receipt_fate, reports}
 use Rattle.pulsar_producer.specs.BatchLaws.{items_of, joined, taken_of}
 use Rattle.pulsar_messages.specs.Message.{with_version}
-use Rattle.pulsar_outgoing.specs.Storage.{Item, Flush}
+use Rattle.pulsar_outgoing.specs.Storage.{Item, SingleMessage, Flush, bytes_of, is_nothing}
+use Rattle.pulsar_producer.specs.Producer as producer
 use Rattle.pulsar_producer.specs.Topic.{Setup, seen}
 use Rattle.pulsar_outgoing.specs.declared.batch.Fate.{Fate}
 use Rattle.pulsar_outgoing.specs.declared.batch.Fate.TheVariants as fate
 use Rattle.pulsar_producer.specs.declared.batching.Batching.TheVariants as batching
 use Rattle.pulsar_outgoing.specs.declared.news.News.TheVariants as news
 use Rattle.pulsar_outgoing.specs.declared.orders.Errand.{Errand}
+use Rattle.pulsar_outgoing.specs.declared.orders.Order.{Order}
 use Rattle.pulsar_calls.specs.declared.act.Act.TheVariants.{Answers, Comes, Starts, Told, Does}
 use Rattle.pulsar_calls.specs.declared.act.Action.TheVariants.{Ask, Shut, Store, TakeBatch, TellAll}
 use Rattle.pulsar_calls.specs.declared.act.Makes.TheVariants.{Nothing}
@@ -38,8 +41,8 @@ use Rattle.pulsar_producer_table.specs.declared.table.Topic.{Topic}
 use Rattle.pulsar_calls.specs.Content.{Asked, Failed, Receipt, sent_by}
 use Rattle.pulsar_laws.specs.Laws.{AreActs, FailsSo, IsDropped, started}
 use Rattle.pulsar_plans.specs.Plan.{closed_notice, fails, overrides, told_to, verdict}
-use Rattle.pulsar_laws.specs.ProducerLaws.{acts_on, asks_in, is_queued}
-use Rattle.pulsar_producer_table.specs.Producers.{is_bare, next_batch_at, numbers_at, stored_at}
+use Rattle.pulsar_laws.specs.ProducerLaws.{acts_on, asks_in, is_queued, queued_times, version_told}
+use Rattle.pulsar_producer_table.specs.Producers.{is_bare, next_batch_at, numbers_at, stored_at, timeout_at}
 use Rattle.pulsar_acts.specs.Rules.{call_part, notice, ready_notice}
 use Rattle.pulsar_acts.specs.Run.{Entry, Then, IsRun, Rests, view}
 use Rattle.pulsar_machine.specs.Options.{Options}
@@ -71,6 +74,19 @@ BatchesOneByOne = (o : Options) (log : List Entry) (n m : ℕ) → IsRun o (Then
 
 -- WHAT BECOMES OF A BATCH
 
+-- how often a frame was queued for the batch that was taken last
+abbrev pub asks_batch : Option Plan → Bool
+asks_batch (Some (plan.Batching w e (batching.Sending ms count s))) = asks_in s
+asks_batch _ = false
+
+abbrev pub frames_queued : Options → (number : ℕ) → List Entry → ℕ
+frames_queued o n [] = 0
+frames_queued o n (Then (Told x) ∷ log) =
+    if is_same (Producer n) x.who && (is_queued x.outcome && asks_batch ((view o log).stand (Producer n)))
+    then frames_queued o n log + 1 else frames_queued o n log
+frames_queued o n (Then (Does who (TakeBatch m)) ∷ log) = if is_same (Producer n) who then 0 else frames_queued o n log
+frames_queued o n (_ ∷ log) = frames_queued o n log
+
 -- the one who is told what becomes of a batch asked for a frame that bears this number
 abbrev pub AskedAs : (number sequence : ℕ) → List Entry → Type 0
 AskedAs n s log =
@@ -91,12 +107,12 @@ FailedSo n log items cause =
     (w : Ways) × (e : Errand) × (m : ProducerMessageValues) × (e.producer ≡ n) × (batch_of (entries_in items) ≡ Ok m)
     × FailsSo (procedure.Send w e None m) (told_since n log) cause
 
--- a receipt of its frame came; or its send failed, for this cause; or it could not be written; or the client was stopped; or there was no
--- message in it
-abbrev pub IsFateOf : (number : ℕ) → List Entry → List Item → Outcome → Fate → Type 0
-IsFateOf n log items u f =
+-- its frame was queued, once, and a receipt came for one that its topic producer asked for; or its send failed, for this cause; or it could not be
+-- written; or the client was stopped; or there was no message in it
+abbrev pub IsFateOf : Options → (number : ℕ) → List Entry → List Item → Outcome → Fate → Type 0
+IsFateOf o n log items u f =
     ((r : Reply) × (s : ℕ) × (u ≡ outcome.Replied r) × (is_body 7 r.content.body ≡ true) × (r.content.key ≡ Some (key.ProducerSend n s))
-    × AskedAs n s log × (f ≡ receipt_fate r.content))
+    × AskedAs n s log × (frames_queued o n log ≡ 1) × (f ≡ receipt_fate r.content))
     ⊎ ((cause : Failure) × FailedSo n log items cause × (f ≡ failed cause))
     ⊎ ((r : Reason) × (batch_of (entries_in items) ≡ Err r) × (f ≡ not_written r))
     ⊎ ((overrides u ≡ true) × (f ≡ fate.Halted))
@@ -107,40 +123,94 @@ IsFateOf n log items u f =
 abbrev pub TellsBatch : Options → (number : ℕ) → List Notice → List Entry → Type 0
 TellsBatch o n ns log =
     (items : List Item) × (u : Outcome) × (older : List Entry) × (under_way o n log ≡ Some items) × (log ≡ Then (Told (notice (Producer n) u)) ∷ older)
-    × (((f : Fate) × IsFateOf n log items u f × (ns ≡ map told_to (reports (length (entries_in items)) f (map member_of items))))
+    × (((f : Fate) × IsFateOf o n log items u f × (ns ≡ map told_to (reports (length (entries_in items)) f (map member_of items))))
     ⊎ ((overrides u ≡ true) × (ns ≡ map told_to (map cut_report (map member_of items)))))
 
 abbrev pub MembersAreTold : Type 0
 MembersAreTold = (o : Options) (log : List Entry) (n : ℕ) (ns : List Notice) → IsRun o (Then (Does (Producer n) (TellAll ns)) ∷ log) → TellsBatch o n ns log
 
+-- what a topic producer is told of what it does itself, or of the place of its frame
+abbrev pub is_granted : Outcome → Bool
+is_granted (outcome.Granted n) = true
+is_granted outcome.Queued = true
+is_granted outcome.InLine = true
+is_granted _ = false
+
+-- A batch whose frame was queued waits for what becomes of that: nothing that its topic producer is granted settles it, so that the next one is
+-- taken.
+abbrev pub QueuedIsWaitedFor : Type 0
+QueuedIsWaitedFor = (o : Options) (log : List Entry) (n : ℕ) (ns : List Notice) (u : Outcome) (older : List Entry) →
+    IsRun o (Then (Does (Producer n) (TellAll ns)) ∷ log) → log ≡ Then (Told (notice (Producer n) u)) ∷ older → 1 ≤ frames_queued o n older →
+    is_granted u ≡ false
+
 -- THE FRAME OF A BATCH
 
--- The message of a frame that a topic producer asks for is that of the batch under way, with the version of the schema that it was told with its
--- turn; it has its turn. The frame goes to its link, bears its name, and the number that was drawn last.
+-- The message of a frame that a topic producer asks for is that of the batch under way, with the version of the schema that it was told with this
+-- turn, its newest; it has its turn. The frame goes to its link, bears its name, and the number that was drawn last.
 abbrev pub FramesOfBatches : Type 0
 FramesOfBatches = (o : Options) (log : List Entry) (n l k s : ℕ) (name : List ℕ) (m : ProducerMessageValues) (block : Bool) →
     IsRun o (Then (Does (Producer n) (Ask l (words.Send k name s m block))) ∷ log) →
     (items : List Item) × (whole : ProducerMessageValues) × (version : Option (List ℕ)) × (row : Topic) × (under_way o n log ≡ Some items)
     × (batch_of (entries_in items) ≡ Ok whole) × (m ≡ with_version version whole) × (k ≡ n) × ((view o log).producers.topics n ≡ Some row)
     × (row.seen.holder ≡ Some behind_all) × (row.seen.link ≡ l) × (row.seen.given.name ≡ name) × (row.seen.next ≡ s + 1)
-    × In (Then (Told (notice (Producer n) (outcome.Granted (news.HasTurn version))))) log
+    × (version_told (Producer n) log ≡ Some version)
 
--- how often a frame was queued for the batch that was taken last
-abbrev pub asks_batch : Option Plan → Bool
-asks_batch (Some (plan.Batching w e (batching.Sending ms count s))) = asks_in s
-asks_batch _ = false
+-- an entry asks for a frame of a topic producer by this number: that of the send of a call, or that of a batch
+abbrev pub AsksFrame : (number sequence : ℕ) → Entry → List Entry → Type 0
+AsksFrame n s e older =
+    (l : ℕ) × (name : List ℕ) × (m : ProducerMessageValues) × (block : Bool)
+    × (((t : ℕ) × (w : Ways) × (f : Errand) × (share : Option Share) × (given : ProducerMessageValues)
+    × (e ≡ Then (Does (Call t) (Ask l (words.Send n name s m block)))) × (started (Call t) older ≡ Some (procedure.Send w f share given)))
+    ⊎ ((k : ℕ) × (e ≡ Then (Does (Producer k) (Ask l (words.Send n name s m block))))))
 
-abbrev pub frames_queued : Options → (number : ℕ) → List Entry → ℕ
-frames_queued o n [] = 0
-frames_queued o n (Then (Told x) ∷ log) =
-    if is_same (Producer n) x.who && (is_queued x.outcome && asks_batch ((view o log).stand (Producer n)))
-    then frames_queued o n log + 1 else frames_queued o n log
-frames_queued o n (Then (Does who (TakeBatch m)) ∷ log) = if is_same (Producer n) who then 0 else frames_queued o n log
-frames_queued o n (_ ∷ log) = frames_queued o n log
+-- The numbers of the frames that are asked for by a topic producer rise, those of batches too.
+abbrev pub NumbersOfAllFramesRise : Type 0
+NumbersOfAllFramesRise = (o : Options) (newer older : List Entry) (x y : Entry) (n r s : ℕ) → IsRun o (y ∷ (newer ++ x ∷ older)) →
+    AsksFrame n r x older → AsksFrame n s y (newer ++ x ∷ older) → r < s
 
 -- The frame of a batch is queued at most once, over all links.
 abbrev pub BatchSentOnce : Type 0
 BatchSentOnce = (o : Options) (log : List Entry) (n : ℕ) → IsRun o log → frames_queued o n log ≤ 1
+
+-- SENT ONCE
+
+-- how often the message of a ticket stands among these
+abbrev pub times_in : (ticket : ℕ) → List Item → ℕ
+times_in t [] = 0
+times_in t (SingleMessage u x ∷ items) = (if t == u then 1 else 0) + times_in t items
+times_in t (Flush u ∷ items) = times_in t items
+
+abbrev pub times_under : (ticket : ℕ) → Option (List Item) → ℕ
+times_under t None = 0
+times_under t (Some items) = times_in t items
+
+-- how often it is queued as a message of a batch, at all topic producers together
+abbrev pub batched_at : Options → (ticket : ℕ) → List Entry → Who → Outcome → ℕ
+batched_at o t log (Producer n) u = if is_queued u && asks_batch ((view o log).stand (Producer n)) then times_under t (under_way o n log) else 0
+batched_at o t log _ u = 0
+
+abbrev pub batched_times : Options → (ticket : ℕ) → List Entry → ℕ
+batched_times o t [] = 0
+batched_times o t (Then (Told x) ∷ log) = batched_times o t log + batched_at o t log x.who x.outcome
+batched_times o t (_ ∷ log) = batched_times o t log
+
+-- The send of a ticket is queued at most once, over all links: in a frame of its own, or as a message of one batch.
+abbrev pub EachSentOnce : Type 0
+EachSentOnce = (o : Options) (log : List Entry) (t : ℕ) → IsRun o log → queued_times o t log + batched_times o t log ≤ 1
+
+-- HOW MUCH A BATCH HAS
+
+-- A topic producer makes batches by the options of the call that built it: what it stores is cut by these limits, and waits so long. What is stored
+-- reaches none of them.
+abbrev pub BatchesByItsOptions : Type 0
+BatchesByItsOptions = (o : Options) (log : List Entry) (n : ℕ) (row : Topic) → IsRun o log → (view o log).producers.topics n ≡ Some row →
+    (w : Ways) × (order : Order) × (started (Call row.owner) log ≡ Some (procedure.Produce w order))
+    × (row.seen.storage.limits.max_size ≡ order.options.batch_size) × (row.seen.storage.limits.max_byte_size ≡ order.options.batch_byte_size)
+    × ((p : producer.Seen) → (view o log).producers.built row.owner ≡ Some p →
+    timeout_at (view o log).producers (Some row) ≡ order.options.batch_timeout)
+    × (is_nothing row.seen.storage.items ≡ false →
+    ((limit : ℕ) → order.options.batch_size ≡ Some limit → length row.seen.storage.items < limit)
+    × ((limit : ℕ) → order.options.batch_byte_size ≡ Some limit → capped (bytes_of row.seen.storage.items) < limit))
 
 -- WHERE ITS PRODUCER IS CLOSED
 

@@ -1,7 +1,7 @@
 -- What follows of consumers, in plain words.
-use Rattle.std.specs.Prelude.{◌≡◌, ℕ, ◌+◌, ◌-◌, ◌≤◌, nat_lt, ◌==◌, ◌&&◌, ◌||◌, Bool, true, false, if◌then◌else◌, List, [], ◌∷◌, ◌++◌, length, Option, Some, None, Ok}
-use Rattle.std.specs.List.{flat_map, list_any, sum, sum_by}
-use Rattle.std.specs.Option.{is_some, option_or}
+use Rattle.std.specs.Prelude.{◌≡◌, ℕ, ◌+◌, ◌-◌, ◌≤◌, nat_lt, ◌==◌, ◌&&◌, ◌||◌, Bool, true, false, if◌then◌else◌, List, [], ◌∷◌, ◌++◌, length, map, Option, Some, None, Ok}
+use Rattle.std.specs.List.{filter, flat_map, list_any, sum, sum_by}
+use Rattle.std.specs.Option.{is_some, option_map, option_or, option_to_list}
 use Rattle.url.specs.Parts.{Parts}
 use Rattle.pulsar_messages.specs.Words as words
 use Rattle.pulsar_messages.specs.Words.{Words}
@@ -34,8 +34,11 @@ use Rattle.pulsar_calls.specs.declared.act.Outcome.TheVariants as outcome
 use Rattle.pulsar_calls.specs.declared.act.Word.TheVariants as word
 use Rattle.pulsar_calls.specs.declared.act.Who.TheVariants.{Call, Consumer}
 use Rattle.pulsar_calls.specs.Content as content
-use Rattle.pulsar_calls.specs.Content.{Asked, Poll, Shown, Hands, Faults}
+use Rattle.pulsar_calls.specs.Content.{Asked, Heard, Poll, Shown, Hands, Faults, FindsNothing, FindsEnd}
 use Rattle.pulsar_calls.specs.Who.{is_same, ticket_of}
+use Rattle.pulsar_plans.specs.declared.plan.Plan.{Plan}
+use Rattle.pulsar_plans.specs.declared.plan.Plan.TheVariants as plan
+use Rattle.pulsar_plans.specs.declared.service.Service.TheVariants as service
 use Rattle.pulsar_consumer_table.specs.Consumers as consumer
 use Rattle.pulsar_consumer_table.specs.Consumers.{Member, is_closed_by}
 use Rattle.pulsar_links.specs.Links.{line_places}
@@ -156,6 +159,36 @@ PollsAreAnswered = (o : Options) (log : List Entry) (t : ℕ) → IsRun o (Then 
     (older : List Entry) × (m : Member) × (log ≡ Begins (Poll t) ∷ older) × ((view o older).consumers.rows t ≡ Some m)
     × (steps o (Then (Comes (Polls t)) ∷ log) ≡ record { event = Poll t; effects = consumer.polled t m ∷ [] } ∷ steps o older)
 
+-- A poll of a consumer that is there, be it ended or not, is the first act of its step.
+abbrev pub PollsComeFirst : Type 0
+PollsComeFirst = (o : Options) (log : List Entry) (t : ℕ) (m : Member) → IsRun o (Begins (Poll t) ∷ log) → (view o log).consumers.rows t ≡ Some m →
+    first (agenda o (Begins (Poll t) ∷ log)) ≡ Some (Comes (Polls t))
+
+-- the effects that answer a poll: an item, that there is none now, or none any longer
+abbrev pub answers_poll : Shown → Bool
+answers_poll (Hands ticket topic id size metadata payload) = true
+answers_poll (Faults ticket fault) = true
+answers_poll (FindsNothing ticket) = true
+answers_poll (FindsEnd ticket) = true
+answers_poll _ = false
+
+-- the answers that are due to an event: one to a poll of a consumer that is there, and none to all else
+abbrev pub answers_to : View → Heard → List Shown
+answers_to v (Poll t) = option_to_list (option_map (consumer.polled t) (v.consumers.rows t))
+answers_to v _ = []
+
+-- those of all events, newest first
+abbrev pub answered_in : Options → List Entry → List (List Shown)
+answered_in o [] = []
+answered_in o (Begins e ∷ log) = answers_to (view o log) e ∷ answered_in o log
+answered_in o (Then a ∷ log) = answered_in o log
+
+-- So each step of a history has just the answers that are due to its event: a poll of a consumer that is there gets one, which is the item that it
+-- finds, that there is none now, or the end; and no other step answers a poll.
+abbrev pub EachPollIsAnswered : Type 0
+EachPollIsAnswered = (o : Options) (log : List Entry) → IsRun o log → Rests o log →
+    map (λ s. filter answers_poll s.effects) (steps o log) ≡ answered_in o log
+
 -- ENDS
 
 -- A consumer ends at an act: by a frame for it, on the link of its live subscription, that ends its topic; where its close is asked for there; where
@@ -207,14 +240,15 @@ ConsumersRemain = (o : Options) (later older : List Entry) (t : ℕ) (m : Member
 
 -- PERMITS
 
--- What remains of the permits of a live subscription is at most the batch size, and at least half of it, rounded up, where each arrival is finished.
+-- What remains of the permits of a live subscription is at most the batch size; where each arrival is finished, half of it, rounded up, and what
+-- is spent is at most what was granted.
 -- It is the sum of its flows, those that were asked for since it was made and those that are due, less what the frames weigh that were begun
 -- since then, of whichever subscription they came.
 abbrev pub PermitsAreKept : Type 0
 PermitsAreKept = (o : Options) (log : List Entry) (t : ℕ) (m : Member) (l : Live) → IsRun o log → (view o log).consumers.rows t ≡ Some m →
     m.seen.is_raw ≡ false → m.seen.engine.live ≡ Some l →
     (s : Setup) × (made_with t log ≡ Some s) × (l.level - l.weight ≤ batch_size m.seen.config)
-    × (IsFinished s (done_to o t log) → half (batch_size m.seen.config) ≤ l.level - l.weight)
+    × (IsFinished s (done_to o t log) → half (batch_size m.seen.config) + l.weight ≤ l.level)
     × (l.level + weights (begun s (done_to o t log))
     ≡ l.weight + (asked_since s (done_to o t log) + sum l.due) + weighed_before s (done_to o t log))
 
@@ -296,6 +330,29 @@ FlowsAreCounted = (o : Options) (log : List Entry) (t l : ℕ) (m : Member) (s :
     link_of m.seen ≡ Some l → made_with t log ≡ Some s →
     (permits_of (flows_since o t log) ≤ asked_since s (done_to o t log))
     × (Rests o log → permits_of (flows_since o t log) ≡ asked_since s (done_to o t log))
+
+-- the plan of a consumer rests: its subscription is made, and nothing is under way
+abbrev pub is_resting : Plan → Bool
+is_resting (plan.Serving w n service.Resting) = true
+is_resting _ = false
+
+-- At the end of a step no flow is due at a consumer whose plan rests: each one that fell due was taken and asked for (FlowsAreAsked).
+abbrev pub NoFlowIsDue : Type 0
+NoFlowIsDue = (o : Options) (log : List Entry) (t : ℕ) (m : Member) (p : Plan) (l : Live) → IsRun o log → Rests o log →
+    (view o log).consumers.rows t ≡ Some m → (view o log).stand (consumer.who_of t m) ≡ Some p → is_resting p ≡ true → m.seen.engine.live ≡ Some l →
+    l.due ≡ []
+
+-- So what remains of its permits is then the sum of the flows that were asked for since its subscription was made, less what the frames weigh that were
+-- begun since then. It is at most the batch size; and where each arrival is finished, half of the batch size, rounded up, and all that was spent
+-- is at most all that was granted.
+abbrev pub PermitsAreGranted : Type 0
+PermitsAreGranted = (o : Options) (log : List Entry) (t : ℕ) (m : Member) (p : Plan) (l : Live) → IsRun o log → Rests o log →
+    (view o log).consumers.rows t ≡ Some m → (view o log).stand (consumer.who_of t m) ≡ Some p → is_resting p ≡ true → m.seen.is_raw ≡ false →
+    m.seen.engine.live ≡ Some l →
+    (s : Setup) × (made_with t log ≡ Some s)
+    × (permits_of (flows_since o t log) + weighed_before s (done_to o t log) ≤ batch_size m.seen.config + weights (begun s (done_to o t log)))
+    × (IsFinished s (done_to o t log) → half (batch_size m.seen.config) + weights (begun s (done_to o t log))
+    ≤ permits_of (flows_since o t log) + weighed_before s (done_to o t log))
 
 -- ACKNOWLEDGEMENTS
 

@@ -6,3 +6,5 @@ pub mod ConsumerLaws
 pub mod CauseLaws
 pub mod LinkLaws
 pub mod Traces
+pub mod RetryLaws
+pub mod PartLaws

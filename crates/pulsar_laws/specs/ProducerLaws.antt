@@ -8,15 +8,18 @@ use Rattle.std.specs.Option.{is_some, option_map}
 use Rattle.pulsar_run.specs.Laws.{In}
 use Rattle.pulsar_wire.specs.declared.error.ConnectionError.TheVariants as error
 use Rattle.pulsar_wire.specs.declared.key.RequestKey.TheVariants as key
-use Rattle.pulsar_wire.specs.Fits.{CommandInRange}
-use Rattle.pulsar_frame.specs.Frame.{FitsFrame, Whole, frame_bytes, front}
+use Rattle.pulsar_wire.specs.Fits.{InRange}
+use Rattle.pulsar_wire.specs.Rows.{message_metadata}
+use Rattle.pulsar_frame.specs.Checksum.{AreBytes}
+use Rattle.pulsar_frame.specs.Frame.{Whole, frame_bytes, front}
 use Rattle.pulsar_frame.specs.Message.{MessageValues}
-use Rattle.pulsar_frame.specs.Payload.{PayloadInRange}
+use Rattle.pulsar_frame.specs.Payload.{covered_bytes}
 use Rattle.pulsar_messages.specs.Content.{ProducerMessageValues}
 use Rattle.pulsar_messages.specs.Messages.{metadata_of}
 use Rattle.pulsar_messages.specs.Words as words
 use Rattle.pulsar_messages.specs.Words.{Words}
 use Rattle.pulsar_wire.specs.Failures.{Failure, OfConnection, Shutdown}
+use Rattle.pulsar_session.specs.declared.states.Asked.{Asked}
 use Rattle.pulsar_session.specs.declared.states.Asked.TheVariants as placed
 use Rattle.pulsar_session.specs.Link as session
 use Rattle.pulsar_session.specs.Link.{Asks, frame_at, frame_for, message_of, ticked}
@@ -83,6 +86,16 @@ abbrev pub asks_send : Option Plan → Bool
 asks_send None = false
 asks_send (Some p) = asks_at p
 
+-- the version of the schema that one was told with its newest turn
+abbrev pub version_in : Outcome → Option (Option (List ℕ)) → Option (Option (List ℕ))
+version_in (outcome.Granted (news.HasTurn version)) before = Some version
+version_in _ before = before
+
+abbrev pub version_told : Who → List Entry → Option (Option (List ℕ))
+version_told w [] = None
+version_told w (Then (Told n) ∷ log) = if is_same w n.who then version_in n.outcome (version_told w log) else version_told w log
+version_told w (_ ∷ log) = version_told w log
+
 -- what an act does to the topic producer of a number
 abbrev pub drawn_by : Option Bool → List TopicAct
 drawn_by None = []
@@ -129,14 +142,15 @@ NumbersAreFree = (o : Options) (log : List Entry) (n : ℕ) → o.chosen.first_n
     × ((who : Who) (m : ℕ) → In (Then (Told (notice who (outcome.Granted (news.Numbered m))))) log → m < n)
 
 -- Where a send of a call asks for its frame, it is the call's own message by the name that its topic producer has then, on its link and in its
--- turn. Its number is the one that was drawn last. Where the message has no version of the schema, it has the one that it was told with its turn.
+-- turn. Its number is the one that was drawn last. Where the message has no version of the schema, it has the one that it was told with this turn, its
+-- newest.
 abbrev pub FramesAreOfTheirSends : Type 0
 FramesAreOfTheirSends = (o : Options) (log : List Entry) (t l n s : ℕ) (name : List ℕ) (m : ProducerMessageValues) (block : Bool)
     (w : Ways) (e : Errand) (share : Option Share) (given : ProducerMessageValues) →
     IsRun o (Then (Does (Call t) (Ask l (words.Send n name s m block))) ∷ log) → started (Call t) log ≡ Some (procedure.Send w e share given) →
     (row : Topic) × (version : Option (List ℕ)) × ((view o log).producers.topics n ≡ Some row) × (n ≡ e.producer) × (block ≡ e.block)
     × (row.seen.holder ≡ Some t) × (row.seen.link ≡ l) × (row.seen.given.name ≡ name) × (row.seen.next ≡ s + 1) × (m ≡ with_version version given)
-    × In (Then (Told (notice (Call t) (outcome.Granted (news.HasTurn version))))) log
+    × (version_told (Call t) log ≡ Some version)
 
 -- The frame that is queued for it spells these words, and nothing else does at that place,
 abbrev pub QueuedAsAsked : Type 0
@@ -145,13 +159,23 @@ QueuedAsAsked = (o : Options) (log : List Entry) (l place : ℕ) (seat : Seat) (
     (id : ℕ) × (frame : List ℕ) × (frame_for (message_of id (view o log).now request) ≡ Some frame)
     × (frame_at place (session.after (Asks (view o log).now request) seat.seen) ≡ Some frame)
 
--- and whoever decodes it reads the message: its payload, and what it says of that, under the producer's name and the number.
+-- What the types of a client's values say of a message: its numbers and texts are in range, the moment has 64 bits, and what is written is bytes.
+abbrev pub IsTyped : (now sequence : ℕ) → (name : List ℕ) → ProducerMessageValues → Type 0
+IsTyped now s name m =
+    (now < 2 ^ 64) × InRange message_metadata (metadata_of 0 [] 0 m)
+    × AreBytes (covered_bytes (record { metadata = metadata_of now name s m; bytes = m.payload }))
+
+-- And whoever decodes it reads the message: its payload, and what it says of that, under the producer's name and the number. Its sizes fit, since it
+-- was queued, or stands in the line; so do the numbers of the producer and of the message, of which none is drawn beyond 64 bits; and the name is a
+-- text, since a reply of the broker said it.
 abbrev pub FramesAreReadAgain : Type 0
-FramesAreReadAgain = (id now n s : ℕ) (name : List ℕ) (m : ProducerMessageValues) (block : Bool) (behind : List ℕ) →
-    FitsFrame (message_of id now (words.Send n name s m block)) → CommandInRange (message_of id now (words.Send n name s m block)).command →
-    PayloadInRange (message_of id now (words.Send n name s m block)).payload →
-    (read : MessageValues) × (front (frame_bytes (message_of id now (words.Send n name s m block)) ++ behind) ≡ Whole read behind)
-    × (read.payload ≡ Some (record { metadata = metadata_of now name s m; bytes = m.payload }))
+FramesAreReadAgain = (o : Options) (log : List Entry) (id l n s : ℕ) (name : List ℕ) (m : ProducerMessageValues) (block : Bool) (place : Asked)
+    (row : Topic) (behind : List ℕ) →
+    o.chosen.first_number < 2 ^ 64 → IsRun o log → (view o log).producers.topics n ≡ Some row → row.seen.next ≡ s + 1 → row.seen.given.name ≡ name →
+    answer_at (view o log).now (words.Send n name s m block) ((view o log).links.live l) ≡ Ok place → IsTyped (view o log).now s name m →
+    (read : MessageValues)
+    × (front (frame_bytes (message_of id (view o log).now (words.Send n name s m block)) ++ behind) ≡ Whole read behind)
+    × (read.payload ≡ Some (record { metadata = metadata_of (view o log).now name s m; bytes = m.payload }))
 
 -- how often the frame of a send is queued: at once, or as it moves up from the line
 abbrev pub queues_at : Options → (ticket : ℕ) → List Entry → Act → ℕ

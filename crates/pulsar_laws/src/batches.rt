@@ -1,6 +1,6 @@
 //! What follows of the batches of producers from the definition of a good run: each contract is a law, and its body is empty.
 
-ghost use Rattle.pulsar_laws.specs.BatchLaws.{BatchSentOnce, BatchesOneByOne, ClosedWithTheProducer, FlushesWait, FramesOfBatches, MembersAreTold, StoredAtOnce, StoredEndsByItsBatch};
+ghost use Rattle.pulsar_laws.specs.BatchLaws.{BatchSentOnce, BatchesByItsOptions, BatchesOneByOne, ClosedWithTheProducer, EachSentOnce, FlushesWait, FramesOfBatches, MembersAreTold, NumbersOfAllFramesRise, QueuedIsWaitedFor, StoredAtOnce, StoredEndsByItsBatch};
 
 /// A topic producer takes its next batch once all of the one before were told, so that one is under way at a time.
 pub fn batches_one_by_one()
@@ -12,14 +12,34 @@ pub fn members_are_told()
     ensures { MembersAreTold }
 {}
 
+/// A batch whose frame was queued is settled by what becomes of that, and by nothing that its topic producer is granted.
+pub fn queued_is_waited_for()
+    ensures { QueuedIsWaitedFor }
+{}
+
 /// The frame that a topic producer asks for is that of the batch that it took last.
 pub fn frames_of_batches()
     ensures { FramesOfBatches }
 {}
 
+/// The numbers of the frames of a topic producer rise, those of batches too.
+pub fn numbers_of_batches_rise()
+    ensures { NumbersOfAllFramesRise }
+{}
+
 /// The frame of a batch is queued at most once, over all links.
 pub fn batch_sent_once()
     ensures { BatchSentOnce }
+{}
+
+/// The send of a ticket is queued at most once, in a frame of its own or as a message of one batch.
+pub fn each_sent_once()
+    ensures { EachSentOnce }
+{}
+
+/// A topic producer makes batches by the options of the call that built it.
+pub fn batches_by_its_options()
+    ensures { BatchesByItsOptions }
 {}
 
 /// What a producer stores is settled as it is closed.

@@ -1,5 +1,6 @@
 //! What follows of producers from the definition of a good run: each contract is a law, and its body is empty.
 
+ghost use Rattle.pulsar_laws.specs.PartLaws.{PartsAreReported};
 ghost use Rattle.pulsar_laws.specs.ProducerLaws.{FramesAreOfTheirSends, FramesAreReadAgain, NumbersAreFree, NumbersOfFramesRise, PartsAreGathered, PassedInTurn, QueuedAsAsked, QueuedInTurn, ReceiptsAreOwn, SentOnce, SlowDownLeavesAll, ToldInTurn, TopicsAlone};
 
 /// A topic producer is what the acts on it made of it since it was built, and nothing else.
@@ -47,4 +48,9 @@ pub fn slow_down_leaves_all()
 /// A call with parts ends once each of them was queued, or failed before, with what became of each.
 pub fn parts_are_gathered()
     ensures { PartsAreGathered }
+{}
+
+/// A call with parts answers what became of each: it went, or its send failed before, with this.
+pub fn parts_are_reported()
+    ensures { PartsAreReported }
 {}

@@ -6,6 +6,7 @@ ghost use Rattle.pulsar_laws.specs.Laws.{AlarmsAreTicked, AllIsDone, AnswersOnce
 ghost use Rattle.pulsar_laws.specs.CauseLaws.{OutcomesAreCaused};
 ghost use Rattle.pulsar_laws.specs.LinkLaws.{DueLinksEnd, EndedIs, PiecesDontMatter, SettledAsTold, SettledOnce};
 ghost use Rattle.pulsar_laws.specs.AddressLaws.{AttemptsFollow, IdleEnds, NoneAfterStop, OneLinkEach, SeriesIsNewest, KeepAlivePings};
+ghost use Rattle.pulsar_laws.specs.RetryLaws.{AttemptsAreSpent, CountsAgain, LooksAgain, MakesAgain, MomentsAreSet, PlansWait, QuestionsAreBounded, RetriesAreCounted, WaysAreChosen};
 ghost use Rattle.pulsar_laws.specs.Traces.{IsGood, LocalIsKnown, attempt_fails, attempt_is_retried, batch_is_sent, client_is_stopped, consumer_is_polled, deadline_comes, line_moves_up, lookup_is_redirected, message_is_sent, reply_comes_early, request_is_answered};
 ghost use Rattle.pulsar_acts.specs.Run.{Good};
 ghost use Rattle.pulsar_calls.specs.Steps.{Step};
@@ -110,6 +111,14 @@ pub fn alarms_are_ticked()
     ensures { AlarmsAreTicked }
 {}
 
+/// An alarm is set to the moment at which it was set last, later by what the options say: the delay of a retry, the wait of a plan, the
+/// timeout of a batch, the period of the keep-alive pings, and that of the idle check.
+pub fn moments_are_set()
+    ensures set { MomentsAreSet }
+    ensures waits { PlansWait }
+    ensures ways { WaysAreChosen }
+{}
+
 /// What a tick brings comes in order: deadlines, attempts, those who have waited, batches, keep-alive pings, the idle
 /// check.
 pub fn ticks_in_order()
@@ -125,6 +134,22 @@ pub fn series_is_newest()
 /// at most so often as the options allow.
 pub fn attempts_follow()
     ensures { AttemptsFollow }
+{}
+
+/// The retries of an attempt are those that its series has made; and an attempt that might go well another time is given up only behind as
+/// many as the options allow.
+pub fn retries_are_counted()
+    ensures counted { RetriesAreCounted }
+    ensures spent { AttemptsAreSpent }
+{}
+
+/// A search, and a command that makes a producer or a subscription, are made again so long as the options allow another retry, behind a
+/// wait; and given up once as many were made.
+pub fn operations_are_made_again()
+    ensures counts { CountsAgain }
+    ensures looks { LooksAgain }
+    ensures makes { MakesAgain }
+    ensures bounded { QuestionsAreBounded }
 {}
 
 /// From a Stop on no attempt begins.

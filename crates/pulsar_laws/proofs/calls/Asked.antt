@@ -117,7 +117,7 @@ called_so v advice asked = by (lacks_tickets v.calls.drawn (shares asked))
 
 -- nor is what a verdict leaves behind
 left_no_stop : (ways : Option Ways) (maker : Who) (m : Makes) → Each NoStop (left_with ways maker m)
-left_no_stop ways maker m = left_each NoStop ways maker m (λ w e. refl) (λ w n t. refl)
+left_no_stop ways maker m = left_each NoStop ways maker m (λ w e s. refl) (λ w n t s. refl)
 
 -- nothing at all is left but parts
 pub record IsClear (g : Agenda) : Type 0 where

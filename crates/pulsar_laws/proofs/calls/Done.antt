@@ -53,11 +53,11 @@ module _ (a : Act) where
   one_arranged (ns ∷ causes) (inr h) = inr (one_arranged causes h)
 
   -- it is left to do: at once, as what one is told, or as a part
-  abbrev IsLeft : List Act → List Notice → List (List Notice) → List Part → Type 0
+  abbrev pub IsLeft : List Act → List Notice → List (List Notice) → List Part → Type 0
   IsLeft now here behind ps = In a now ⊎ (In a (map Told here) ⊎ (InOne a (map (map Told) behind) ⊎ In a (map Comes ps)))
 
   -- what is first is done, and all else stays
-  first_done : (now : List Act) (here : List Notice) (behind : List (List Notice)) (ps : List Part) (b : Act) → first_of rules now here behind ps ≡ Some b →
+  pub first_done : (now : List Act) (here : List Notice) (behind : List (List Notice)) (ps : List Part) (b : Act) → first_of rules now here behind ps ≡ Some b →
       IsLeft now here behind ps →
       (a ≡ b) ⊎ IsLeft (rest_of now here behind ps).now (rest_of now here behind ps).here (rest_of now here behind ps).behind (rest_of now here behind ps).parts
   first_done (x ∷ now) here behind ps b f (inl (inl e)) = inl (e ∙ (let d : x ≡ b = cc in d))
@@ -79,7 +79,7 @@ module _ (a : Act) where
   first_done [] [] [] (p ∷ ps) b f (inr (inr (inr (inr i)))) = inr (inr (inr (inr i)))
   first_done [] [] [] [] b f k = absurd cc
 
-  none_left : (now : List Act) (here : List Notice) (behind : List (List Notice)) (ps : List Part) → first_of rules now here behind ps ≡ None →
+  pub none_left : (now : List Act) (here : List Notice) (behind : List (List Notice)) (ps : List Part) → first_of rules now here behind ps ≡ None →
       IsLeft now here behind ps → ⊥
   none_left (x ∷ now) here behind ps f k = absurd cc
   none_left [] (n ∷ here) behind ps f k = absurd cc
@@ -95,11 +95,11 @@ module _ (a : Act) where
   none_left [] [] [] [] f (inr (inr (inr i))) = i
 
   module _ (o : Options) where
-    abbrev IsLeftIn : List Entry → Type 0
+    abbrev pub IsLeftIn : List Entry → Type 0
     IsLeftIn log = IsLeft (agenda o log).now (agenda o log).here (agenda o log).behind (agenda o log).parts
 
     -- what arises is left to do
-    arises : (e : Entry) (older : List Entry) → Arises rules o a e older → IsLeftIn (e ∷ older)
+    pub arises : (e : Entry) (older : List Entry) → Arises rules o a e older → IsLeftIn (e ∷ older)
     arises (Begins e) older h = inr (inr (inr h))
     arises (Then b) older (inl i) = inl (in_left a (at_once (view o older) b) (rest (agenda o older)).now i)
     arises (Then b) older (inr (inl i)) = inr (inl (all_put (joins (view o older) b) (rest (agenda o older)).here i))
@@ -108,7 +108,7 @@ module _ (a : Act) where
     arises (Then b) older (inr (inr (inr i))) = inr (inr (inr (comes_left (further (view o older) b) (rest (agenda o older)).parts i)))
 
     -- what is left stays behind what arises
-    stays : (b : Act) (log : List Entry) →
+    pub stays : (b : Act) (log : List Entry) →
         IsLeft (rest (agenda o log)).now (rest (agenda o log)).here (rest (agenda o log)).behind (rest (agenda o log)).parts → IsLeftIn (Then b ∷ log)
     stays b log (inl i) = inl (in_right a (at_once (view o log) b) (rest (agenda o log)).now i)
     stays b log (inr (inl i)) = inr (inl (all_others (joins (view o log) b) (rest (agenda o log)).here i))

@@ -56,7 +56,7 @@ left_due : (f : Act → ℕ) (ways : Option Ways) (maker : Who) (makes : Makes) 
     ((w : Ways) (n t : ℕ) → f (Starts (Consumer n t) (Serve w n)) ≡ 0) →
     due f (left_with ways maker makes) ≡ 0
 left_due f ways maker makes none idle =
-    none_in f (left_with ways maker makes) (λ a. f a ≡ 0) (λ a h. h) (left_each (λ a. f a ≡ 0) ways maker makes none idle)
+    none_in f (left_with ways maker makes) (λ a. f a ≡ 0) (λ a h. h) (left_each (λ a. f a ≡ 0) ways maker makes (λ w e s. none w e) (λ w n t s. idle w n t))
 
 none_due : (f : Act → ℕ) (xs : List Act) → ((a : Act) → IsQuiet a → f a ≡ 0) → Each IsQuiet xs → due f xs ≡ 0
 none_due f xs none k = none_in f xs IsQuiet none k

@@ -172,7 +172,7 @@ leaving_fails : (o : Options) (log : List Entry) (w : Who) (p : Procedure) (f : 
     (view o log).stand w ≡ Some (Leaving f) → FailsSo p (outcomes w log) f
 leaving_fails o log w p f run is stood =
     let os : List Outcome = outcomes w log in
-    leaves_so p os (begins p) os f (begins_holds p os (started_made o log w p run is))
+    leaves_so p os (begins p) os f (begins_holds p os (started_made o log w p run is).0)
     (λ u j. (j, outcomes_proper o outcomes_are_caused_lem w log run u j)) (sym ((follows_run o log run).stands w p is) ∙ stood)
 
 module _ (o : Options) (who : Who) (u : Outcome) (older : List Entry) where

@@ -268,7 +268,7 @@ raised_so a _ other h = tt
 once_so : (v : View) (a : Act) → Each IsBegun (at_once v a)
 once_so v (Comes (Calls asked advised)) =
     each_either IsBegun (lacks_tickets v.calls.drawn (shares asked)) _ (starts v advised asked) (tt, tt) (starts_so v advised asked)
-once_so v (Answers who verdict) = left_each IsBegun (ways_of v.chosen) who verdict.makes (λ w e. tt) (λ w n t. tt)
+once_so v (Answers who verdict) = left_each IsBegun (ways_of v.chosen) who verdict.makes (λ w e s. tt) (λ w n t s. tt)
 once_so v a = each_map (IsRaised a) IsBegun (at_once v a) (λ b. raised_so a b refl) (raises v a)
 
 -- of commands one is told such

@@ -21,6 +21,7 @@ use Rattle.pulsar_consumer_table.specs.Consumers.{Member, is_closed_by, subscrib
 use Rattle.pulsar_laws.proofs.Cases.{none_some, some_is}
 use Rattle.pulsar_laws.proofs.calls.Ticketed.{consumer_ticket, older_ticket}
 use Rattle.pulsar_laws.specs.ConsumerLaws.{ConsumersEnd, ConsumersRemain, PermitsAreKept, arrival_does, arrival_ends, does_to, done_to, ends_at, ends_by, frame_does, frame_ends, has_ended, loss_does, made_with, subscription_does}
+use Rattle.pulsar_laws.proofs.consumers.Finished.{half_is_left}
 use Rattle.pulsar_laws.proofs.consumers.Lone.{IsKept, IsMade, IsNone, RowFrom, applied, begun_rows, consumers_alone_lem, row_from}
 
 or_false : (b : Bool) → b ≡ (b || false)
@@ -281,6 +282,6 @@ permits_are_kept_lem once o log t m l run e raw live =
       k.0,
       k.1,
       subst (λ c. l.level - l.weight ≤ batch_size c) (sym config) (less l.level l.weight (batch_size k.0.config) b.0),
-      λ done. subst (λ c. half (batch_size c) ≤ l.level - l.weight) (sym config) (b.1 done),
+      λ done. subst (λ c. half (batch_size c) + l.weight ≤ l.level) (sym config) (half_is_left k.0 h l plain there done),
       permits_are_counted k.0 h l plain there,
     )

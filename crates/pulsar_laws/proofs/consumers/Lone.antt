@@ -49,7 +49,7 @@ frame_done l r m =
     (either_done (lives_on l s) (member_after (Over TopicEnded) m) m (Over TopicEnded ∷ []) [] s refl refl)
     (either_done (is_body 16 r.content.body) (member_after (Loses l) m) m (Loses l ∷ []) [] s refl refl))
 
-arrival_done : (l : ℕ) (a : Arrival) (m : Member) → IsDone (hears l a m) (arrival_does l a m.seen) m.seen
+pub arrival_done : (l : ℕ) (a : Arrival) (m : Member) → IsDone (hears l a m) (arrival_does l a m.seen) m.seen
 arrival_done l (arrivals.Gives n r) m = either_done (m.seen.number == n) (hears_frame l r m) m (frame_does l r m.seen) [] m.seen (frame_done l r m) refl
 arrival_done l arrivals.Nothing m = refl
 arrival_done l arrivals.Readied m = refl
@@ -219,7 +219,7 @@ pub data RowFrom (o : Options) (log : List Entry) (a : Act) (t : ℕ) : Type 0 w
   IsKept : (m : Member) → (view o log).consumers.rows t ≡ Some m → RowAfter (view o log) a t m → made_with t (Then a ∷ log) ≡ made_with t log →
       done_to o t (Then a ∷ log) ≡ does_to (view o log) t m a ++ done_to o t log → RowFrom o log a t
 
-joins_here : (who : Who) (m : Member) (cs : Consumers) (t : ℕ) → is_same (Call t) who ≡ true → (joins_as who m cs).rows t ≡ Some m
+pub joins_here : (who : Who) (m : Member) (cs : Consumers) (t : ℕ) → is_same (Call t) who ≡ true → (joins_as who m cs).rows t ≡ Some m
 joins_here (Call u) m cs t h = let e : (t == u) ≡ true = (and_parts (t == u) (t == u) h).0 in rw e refl
 joins_here (Consumer n u) m cs t h = absurd cc
 joins_here (Producer n) m cs t h = absurd cc

@@ -90,7 +90,7 @@ not_on link (Some l) none = absurd cc
 
 -- what an act makes of one of which none is live, where that needs one
 
-lost_gone : (v : Seen) → (reader_loses v).engine.live ≡ None
+pub lost_gone : (v : Seen) → (reader_loses v).engine.live ≡ None
 lost_gone v = elim v.is_raw as (λ b. (cond b (reader_ends LinkLost v) (record v { engine = record v.engine { live = None } })).engine.live ≡ None)
     [ true ↦ refl | false ↦ refl ]
 
@@ -143,7 +143,7 @@ no_due P t (Some m) k =
 
 -- ITS NUMBER stays
 
-either_number : (b : Bool) (v w : Seen) (n : ℕ) → v.number ≡ n → w.number ≡ n → (cond b v w).number ≡ n
+pub either_number : (b : Bool) (v w : Seen) (n : ℕ) → v.number ≡ n → w.number ≡ n → (cond b v w).number ≡ n
 either_number true v w n p q = p
 either_number false v w n p q = q
 

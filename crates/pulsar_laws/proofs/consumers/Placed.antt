@@ -94,7 +94,7 @@ flow_placed now n p v h =
 
 -- A PLAN TAKES A FLOW: it is told of that right behind, and waits for nothing else meanwhile
 
-abbrev is_taking : Plan → Bool
+abbrev pub is_taking : Plan → Bool
 is_taking (Serving w n service.Taking) = true
 is_taking _ = false
 
@@ -130,15 +130,15 @@ server_asks b l p q k r is h = absurd cc
 
 -- ALONG A LOG
 
-abbrev Takes : Options → List Entry → (n t : ℕ) → Type 0
+abbrev pub Takes : Options → List Entry → (n t : ℕ) → Type 0
 Takes o log n t =
     (first (agenda o log) ≡ Some (Does (Consumer n t) TakeFlow)) ⊎ ((older : List Entry) × (log ≡ Then (Does (Consumer n t) TakeFlow) ∷ older))
 
-abbrev TakesAt : Options → List Entry → (n t : ℕ) → Type 0
+abbrev pub TakesAt : Options → List Entry → (n t : ℕ) → Type 0
 TakesAt o log n t = (p : Plan) → (view o log).stand (Consumer n t) ≡ Some p → is_taking p ≡ true → Takes o log n t
 
 -- behind that it is told what flow is due
-told_flow : (o : Options) (older : List Entry) (n t : ℕ) →
+pub told_flow : (o : Options) (older : List Entry) (n t : ℕ) →
     first (agenda o (Then (Does (Consumer n t) TakeFlow) ∷ older))
     ≡ Some (Told (notice (Consumer n t) (outcome.Word (flow_said (flow_at ((view o older).consumers.rows t))))))
 told_flow o older n t =
@@ -228,7 +228,7 @@ told_run o log n t m run was = λ p stood h. elim (cases_Bool (is_same (Consumer
           absurd cc)
     ]
 
-takes_run : (o : Options) (log : List Entry) (n t : ℕ) → IsRun o log → TakesAt o log n t
+pub takes_run : (o : Options) (log : List Entry) (n t : ℕ) → IsRun o log → TakesAt o log n t
 takes_run o [] n t run = λ p stood h. absurd (none_some stood)
 takes_run o (Begins e ∷ log) n t run = λ p stood h.
     (let s = begun_same (λ v. v.stand) e (view o log) refl in

@@ -229,7 +229,7 @@ subscription_mute : (l : ℕ) (url : Option Parts) → Each IsMute (subscription
 subscription_mute l None = tt
 subscription_mute l (Some url) = (tt, tt)
 
-abbrev is_poll : Act → Bool
+abbrev pub is_poll : Act → Bool
 is_poll (Comes (Polls t)) = true
 is_poll _ = false
 

@@ -132,7 +132,7 @@ not_step : (o : Options) (log : List Entry) (t : ℕ) (a : Act) → is_step a �
 not_step o log t a h (inl k) = let e : is_step a ≡ true = ap is_step k.6 in let f : true ≡ false = sym e ∙ h in cc
 not_step o log t a h (inr k) = let e : is_step a ≡ true = ap is_step k.3 in let f : true ≡ false = sym e ∙ h in cc
 
-flow_none : (m : Member) → flow_at (Some m) ≡ None → first_due m.seen.engine.live ≡ None
+pub flow_none : (m : Member) → flow_at (Some m) ≡ None → first_due m.seen.engine.live ≡ None
 flow_none m h = by m.seen.engine.live h
   where
     by : (x : Option Live) → flow_on x ≡ None → first_due x ≡ None

@@ -16,13 +16,13 @@ use Rattle.pulsar_links.specs.Links.{arrival, change_at, change_by, change_in}
 use Rattle.pulsar_acts.specs.View.{base_on, is_to_follow, pause_for, pause_on, pause_rung, waits_for, waits_on}
 use Rattle.pulsar_links.specs.Seats.{base_turned, is_for, may_retry, nobody, pause_put, pause_with}
 
-abbrev series_at : View → List ℕ → Series
+abbrev pub series_at : View → List ℕ → Series
 series_at v key = (v.addresses.base key).series
 
-same_key : (a b : List ℕ) → bytes_eq a b ≡ true → a ≡ b
+pub same_key : (a b : List ℕ) → bytes_eq a b ≡ true → a ≡ b
 same_key a b h = (bytes_eq-Decides a b).0 h
 
-own_key : (a : List ℕ) → bytes_eq a a ≡ true
+pub own_key : (a : List ℕ) → bytes_eq a a ≡ true
 own_key a = (bytes_eq-Decides a a).1 refl
 
 own_link : (l : ℕ) → (l == l) ≡ true
@@ -40,15 +40,15 @@ none_paused {X} k l s h e = let f : false ≡ true = sym (ap (names_link k) e) �
 
 -- WHAT HOLDS IN EVERY VIEW
 
-record Is (v : View) : Type 0 where
-  pauses : (l : ℕ) (p : Pause) → v.addresses.pause l ≡ Some p → series_at v (address_key p.address) ≡ Pauses l
-  links : (l : ℕ) (seat : Seat) → v.links.live l ≡ Some seat → names_link l (series_at v (address_key seat.address)) ≡ true
+pub record Is (v : View) : Type 0 where
+  pub pauses : (l : ℕ) (p : Pause) → v.addresses.pause l ≡ Some p → series_at v (address_key p.address) ≡ Pauses l
+  pub links : (l : ℕ) (seat : Seat) → v.links.live l ≡ Some seat → names_link l (series_at v (address_key seat.address)) ≡ true
 
 -- an act that turns no address, begins no link and sets no attempt
-record Same (v w : View) : Type 0 where
-  series : (key : List ℕ) → series_at w key ≡ series_at v key
-  pause : (l : ℕ) (p : Pause) → w.addresses.pause l ≡ Some p → v.addresses.pause l ≡ Some p
-  live : (l : ℕ) (seat : Seat) → w.links.live l ≡ Some seat → (old : Seat) × (v.links.live l ≡ Some old) × (old.address ≡ seat.address)
+pub record Same (v w : View) : Type 0 where
+  pub series : (key : List ℕ) → series_at w key ≡ series_at v key
+  pub pause : (l : ℕ) (p : Pause) → w.addresses.pause l ≡ Some p → v.addresses.pause l ≡ Some p
+  pub live : (l : ℕ) (seat : Seat) → w.links.live l ≡ Some seat → (old : Seat) × (v.links.live l ≡ Some old) × (old.address ≡ seat.address)
 
 still : (v w : View) → Same v w → Is v → Is w
 still v w s k = record {
@@ -144,13 +144,13 @@ took_named k (Ends end) now seat later pause b h n = ended_named k (closed_by en
 took_named k x now seat later pause b h n = (sym (ap (λ (s : Seat). s.address) (some_is h)), n)
 
 module _ (v : View) (k : ℕ) (x : LinkAct) where
-  abbrev act : Act
+  abbrev pub act : Act
   act = Comes (ToLink k x)
 
-  abbrev w : View
+  abbrev pub w : View
   w = after act v
 
-  none_turned : v.links.live k ≡ None → Same v w
+  pub none_turned : v.links.live k ≡ None → Same v w
   none_turned e = record {
     series = λ key. ap (λ t. (base_on t key (v.addresses.base key)).series) no_turn;
     pause = λ l p h. sym (ap (λ t. pause_on t l (v.addresses.pause l)) no_turn) ∙ h;
@@ -166,13 +166,13 @@ module _ (v : View) (k : ℕ) (x : LinkAct) where
       no_turn = ap (option_map (turned_by v.chosen v.addresses v.now k x)) e
 
   module _ (seat : Seat) (e : v.links.live k ≡ Some seat) where
-    abbrev t : Turned
+    abbrev pub t : Turned
     t = turned_by v.chosen v.addresses v.now k x seat
 
-    turn : turned v act ≡ Some t
+    pub turn : turned v act ≡ Some t
     turn = ap (option_map (turned_by v.chosen v.addresses v.now k x)) e
 
-    series_is : (key : List ℕ) →
+    pub series_is : (key : List ℕ) →
         series_at w key ≡ (cond (bytes_eq t.key key) (base_turned k t.change t.pause (v.addresses.base key)) (v.addresses.base key)).series
     series_is key = ap (λ u. (base_on u key (v.addresses.base key)).series) turn
 
@@ -241,7 +241,7 @@ begun_kept : (e : Heard) (l : ℕ) (row : Option Seat) → Kept row (live_begun 
 begun_kept (Bytes k piece) l row = either_kept (l == k) row (option_map (seat_fed piece) row) row (map_kept (seat_fed piece) row (λ s. refl)) (same_kept row)
 begun_kept e l row = same_kept row
 
-begins_same : (e : Heard) (v : View) → Same v (begun e v)
+pub begins_same : (e : Heard) (v : View) → Same v (begun e v)
 begins_same e v = elim (is_live v e) as (λ b. Same v (cond b (begun_live e v) v)) [
   | true ↦ record { series = λ key. refl; pause = λ l p h. h; live = λ l seat h. begun_kept e l (v.links.live l) seat h }
   | false ↦ record { series = λ key. refl; pause = λ l p h. h; live = λ l seat h. same_kept (v.links.live l) seat h }
@@ -251,7 +251,7 @@ got_series : (c : Bool) (b : Base) (ws : List Who) → (cond c (record { series 
 got_series true b ws = refl
 got_series false b ws = refl
 
-gets_same : (v : View) (who : Who) (p : Place) → Same v (after (Does who (Get p)) v)
+pub gets_same : (v : View) (who : Who) (p : Place) → Same v (after (Does who (Get p)) v)
 gets_same v who p = record {
   series = λ key.
       let b : Base = v.addresses.base key in
@@ -260,7 +260,7 @@ gets_same v who p = record {
   live = λ l seat h. got_kept (link_got v.addresses (Does who (Get p))) v.now l (v.links.live l) seat h;
 }
 
-asks_same : (v : View) (who : Who) (k : ℕ) (request : Words) → Same v (after (Does who (Ask k request)) v)
+pub asks_same : (v : View) (who : Who) (k : ℕ) (request : Words) → Same v (after (Does who (Ask k request)) v)
 asks_same v who k request = record {
   series = λ key. refl;
   pause = λ l p h. h;
@@ -279,7 +279,7 @@ rung_left b (Batch n) l row p h = h
 rung_left b (KeepAlive k) l row p h = h
 rung_left b CheckIdle l row p h = h
 
-rings_same : (v : View) (a : Alarm) → Same v (after (Comes (Rings a)) v)
+pub rings_same : (v : View) (a : Alarm) → Same v (after (Comes (Rings a)) v)
 rings_same v a = record {
   series = λ key. refl;
   pause = λ l p h. rung_left (rings v.now a v.alarms) a l (v.addresses.pause l) p h;
@@ -331,9 +331,9 @@ stops v who is = record {
 -- A LINK IS DIALED
 
 -- no link is of the address, and no attempt is to follow
-record IsFree (v : View) (p : Place) : Type 0 where
-  unnamed : (l : ℕ) → names_link l (series_at v (address_key p)) ≡ false
-  unset : (l : ℕ) (q : Pause) → v.addresses.pause l ≡ Some q → address_key p ≡ address_key q.address → ⊥
+pub record IsFree (v : View) (p : Place) : Type 0 where
+  pub unnamed : (l : ℕ) → names_link l (series_at v (address_key p)) ≡ false
+  pub unset : (l : ℕ) (q : Pause) → v.addresses.pause l ≡ Some q → address_key p ≡ address_key q.address → ⊥
 
 dials : (v : View) (p : Place) (starter : Who) (retries : ℕ) → IsFree v p → Is v → Is (after (Dials p starter retries) v)
 dials v p starter retries free is = record {
@@ -405,7 +405,7 @@ module _ (o : Options) (p : Place) (starter : Who) (n : ℕ) where
       (ap (λ b. cond (b && (l == l)) None (v.addresses.pause l)) rung ∙ ap (λ b. cond b None (v.addresses.pause l)) (own_link l))
       (still v (after (Comes (Rings (Retry l))) v) (rings_same v (Retry l)) is)
 
-  attempted_free : (e : Entry) (older : List Entry) → Attempted o p starter n (e ∷ older) → Is (view o older) → Is (view o (e ∷ older)) →
+  pub attempted_free : (e : Entry) (older : List Entry) → Attempted o p starter n (e ∷ older) → Is (view o older) → Is (view o (e ∷ older)) →
       IsFree (view o (e ∷ older)) p
   attempted_free e older a was is = elim a.3 [
     | inl b ↦ subst (λ x. IsFree (view o (x ∷ older)) p) (sym (entry ∙ b.0.0))
@@ -430,14 +430,14 @@ dialed_on follow o p starter n (e ∷ older) run was is =
     dials (view o (e ∷ older)) p starter n (attempted_free o p starter n e older (follow o (e ∷ older) p starter n run) (was e older refl) is) is
 
 -- what holds of a log, and of the log before its newest entry
-record Both (o : Options) (log : List Entry) : Type 0 where
-  is : Is (view o log)
-  was : (e : Entry) (older : List Entry) → log ≡ e ∷ older → Is (view o older)
+pub record Both (o : Options) (log : List Entry) : Type 0 where
+  pub is : Is (view o log)
+  pub was : (e : Entry) (older : List Entry) → log ≡ e ∷ older → Is (view o older)
 
 more : (o : Options) (e : Entry) (log : List Entry) → Both o log → Is (view o (e ∷ log)) → Both o (e ∷ log)
 more o e log k is = record { is = is; was = λ x older same. (let rest : log ≡ older = cc in subst (λ xs. Is (view o xs)) rest k.is) }
 
-both : AttemptsFollow → (o : Options) (log : List Entry) → IsRun o log → Both o log
+pub both : AttemptsFollow → (o : Options) (log : List Entry) → IsRun o log → Both o log
 both follow o [] run = record {
   is = record { pauses = λ l p h. absurd (none_some h); links = λ l seat h. absurd (none_some h) };
   was = λ e older same. absurd cc;

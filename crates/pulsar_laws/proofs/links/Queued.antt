@@ -7,7 +7,12 @@ use Rattle.pulsar_laws.proofs.LinkWords.{ConnectionError, is_numbered, Words}
 use Rattle.pulsar_wire.specs.declared.error.ConnectionError.TheVariants as error
 use Rattle.pulsar_wire.specs.declared.error.Reason.TheVariants as reason
 use Rattle.pulsar_frame.proofs.Written.{read_again}
-use Rattle.pulsar_frame.specs.Frame.{settled_message}
+use Rattle.pulsar_frame.specs.Frame.{FitsFrame, Whole, frame_bytes, front, settled_message}
+use Rattle.pulsar_frame.specs.Message.{MessageValues}
+use Rattle.pulsar_frame.specs.Payload.{PayloadInRange}
+use Rattle.pulsar_wire.specs.Fits.{CommandInRange}
+use Rattle.pulsar_messages.specs.Content.{ProducerMessageValues}
+use Rattle.pulsar_messages.specs.Messages.{metadata_of}
 use Rattle.pulsar_messages.specs.Words as words
 use Rattle.pulsar_messages.specs.Words.{when_full}
 use Rattle.pulsar_wire.specs.declared.awaited.Claim.{Claim}
@@ -19,7 +24,7 @@ use Rattle.pulsar_session.specs.Link.{Seen, after_of, answer_of, can_wait, drawn
 use Rattle.pulsar_messages.specs.Claims.{claim, is_spent}
 use Rattle.pulsar_session.specs.Link as session
 use Rattle.pulsar_session.proofs.Settled.{places_count, written_in_order}
-use Rattle.pulsar_laws.specs.ProducerLaws.{FramesAreReadAgain, QueuedAsAsked}
+use Rattle.pulsar_laws.specs.ProducerLaws.{QueuedAsAsked}
 use Rattle.pulsar_laws.proofs.links.Alone.{links_alone_lem}
 
 slice_end : (xs : List (List ℕ)) (x : List ℕ) → slice_get (xs ++ x ∷ []) (length xs) ≡ Some x
@@ -130,8 +135,13 @@ queued_as_asked_lem o log l place seat request live h =
     let q = answer_queued (number_for (is_numbered request) v) now request (ticked now v) place le h in
     (q.0, q.1.frame, q.1.spells, q.1.stands)
 
-pub frames_are_read_again_lem : FramesAreReadAgain
-frames_are_read_again_lem id now n s name m block behind fits command payload = (
+-- a frame whose sizes fit, and whose command and payload are in range, is read again as its message
+pub read_so : (id now n s : ℕ) (name : List ℕ) (m : ProducerMessageValues) (block : Bool) (behind : List ℕ) →
+    FitsFrame (message_of id now (words.Send n name s m block)) → CommandInRange (message_of id now (words.Send n name s m block)).command →
+    PayloadInRange (message_of id now (words.Send n name s m block)).payload →
+    (read : MessageValues) × (front (frame_bytes (message_of id now (words.Send n name s m block)) ++ behind) ≡ Whole read behind)
+    × (read.payload ≡ Some (record { metadata = metadata_of now name s m; bytes = m.payload }))
+read_so id now n s name m block behind fits command payload = (
   settled_message (message_of id now (words.Send n name s m block)),
   read_again
       (message_of id now (words.Send n name s m block)) fits command payload behind,

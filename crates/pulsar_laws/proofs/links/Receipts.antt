@@ -341,7 +341,7 @@ run_behind o [] older run = run
 run_behind o (Begins e ∷ newer) older run = run_behind o newer older run.0
 run_behind o (Then a ∷ newer) older run = run_behind o newer older run.0
 
-count_behind : (t : ℕ) (newer older : List Entry) → counted (start_of t) older ≤ counted (start_of t) (newer ++ older)
+pub count_behind : (t : ℕ) (newer older : List Entry) → counted (start_of t) older ≤ counted (start_of t) (newer ++ older)
 count_behind t [] older = omega arith
 count_behind t (Begins e ∷ newer) older = count_behind t newer older
 count_behind t (Then a ∷ newer) older =

@@ -41,7 +41,7 @@ pub performs_none : (v : View) (who : Who) (action : Action) → Each NoDeed (pe
 performs_none v who action = each_map IsQuiet NoDeed (performs v who action) quiet_no_deed (performs_quiet v who action)
 
 pub left_no_deed : (ways : Option Ways) (maker : Who) (makes : Makes) → Each NoDeed (left_with ways maker makes)
-left_no_deed ways maker makes = left_each NoDeed ways maker makes (λ w e. refl) (λ w n t. refl)
+left_no_deed ways maker makes = left_each NoDeed ways maker makes (λ w e s. refl) (λ w n t s. refl)
 
 start_no_deed : (from to : ℕ) (a : Act) → StartsIn from to a → NoDeed a
 start_no_deed from to (Starts who p) k = refl

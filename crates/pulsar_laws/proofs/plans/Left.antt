@@ -1,5 +1,5 @@
 -- What a verdict gives rise to: the plans of batches of a producer that was built, and the plan that serves a consumer.
-use Rattle.std.proofs.Common.{ℕ, List, [], ◌∷◌, map, Bool, Option, Some, None}
+use Rattle.std.proofs.Common.{◌≡◌, ℕ, List, [], ◌∷◌, map, refl, Bool, Option, Some, None}
 use Rattle.pulsar_laws.proofs.ActWords.{Act, Makes, Starts, ticket_of, Who}
 use Rattle.pulsar_laws.proofs.PlanWords.{Built, Errand, Ways}
 use Rattle.pulsar_laws.proofs.RunWords.{Each, each_either, left_with}
@@ -17,20 +17,20 @@ parts_each : (P : Act → Type 0) (w : Ways) (block : Bool) (bs : List Built) �
 parts_each P w block [] h = tt
 parts_each P w block (b ∷ bs) h = (h (record { producer = b.number; block = block }), parts_each P w block bs h)
 
-from_each : (P : Act → Type 0) (ways : Option Ways) (b : Building) →
-    ((w : Ways) (e : Errand) → P (Starts (who.Producer e.producer) (procedure.Batch w e))) → Each P (batches_from ways b)
+pub from_each : (P : Act → Type 0) (ways : Option Ways) (b : Building) →
+    ((w : Ways) (e : Errand) → ways ≡ Some w → P (Starts (who.Producer e.producer) (procedure.Batch w e))) → Each P (batches_from ways b)
 from_each P None b h = tt
-from_each P (Some w) b h = parts_each P w b.settings.block_queue_if_full b.parts (h w)
+from_each P (Some w) b h = parts_each P w b.settings.block_queue_if_full b.parts (λ e. h w e refl)
 
 served_each : (P : Act → Type 0) (ways : Option Ways) (maker : Who) (j : Joining) →
-    ((w : Ways) (n t : ℕ) → P (Starts (who.Consumer n t) (procedure.Serve w n))) → Each P (serves_by ways maker j)
+    ((w : Ways) (n t : ℕ) → ways ≡ Some w → P (Starts (who.Consumer n t) (procedure.Serve w n))) → Each P (serves_by ways maker j)
 served_each P None maker j h = tt
-served_each P (Some w) maker j h = (h w j.number (ticket_of maker), tt)
+served_each P (Some w) maker j h = (h w j.number (ticket_of maker) refl, tt)
 
 -- each of them is such, where each start of a plan of batches is, and of one that serves a consumer
 pub left_each : (P : Act → Type 0) (ways : Option Ways) (maker : Who) (makes : Makes) →
-    ((w : Ways) (e : Errand) → P (Starts (who.Producer e.producer) (procedure.Batch w e))) →
-    ((w : Ways) (n t : ℕ) → P (Starts (who.Consumer n t) (procedure.Serve w n))) → Each P (left_with ways maker makes)
+    ((w : Ways) (e : Errand) → ways ≡ Some w → P (Starts (who.Producer e.producer) (procedure.Batch w e))) →
+    ((w : Ways) (n t : ℕ) → ways ≡ Some w → P (Starts (who.Consumer n t) (procedure.Serve w n))) → Each P (left_with ways maker makes)
 left_each P ways maker (Producer b) h k = each_either P (is_batching b.settings) (batches_from ways b) [] (from_each P ways b h) tt
 left_each P ways maker (Consumer j) h k = served_each P ways maker j k
 left_each P ways maker _ h k = tt

@@ -36,7 +36,7 @@ raised_own a (Starts (Consumer n t) p) other h = absurd cc
 raised_own a _ other h = tt
 
 once_own : (v : View) (a : Act) → Each IsOwn (at_once v a)
-once_own v (Answers who verdict) = left_each IsOwn (ways_of v.chosen) who verdict.makes (λ w e. (w, e.block, refl)) (λ w n t. (w, refl))
+once_own v (Answers who verdict) = left_each IsOwn (ways_of v.chosen) who verdict.makes (λ w e s. (w, e.block, refl)) (λ w n t s. (w, refl))
 once_own v a = each_map (IsRaised a) IsOwn (at_once v a) (λ b. raised_own a b refl) (raises v a)
 
 own_due : (o : Options) (log : List Entry) → IsRun o log → Each IsOwn (agenda o log).now

@@ -18,6 +18,7 @@ use Rattle.pulsar_producer.specs.declared.deed.Step.TheVariants as step
 use Rattle.pulsar_producer.specs.declared.sending.Sending.TheVariants as send
 use Rattle.pulsar_calls.specs.declared.act.Outcome.TheVariants as outcome
 use Rattle.pulsar_producer_table.specs.declared.table.Topic.{Topic}
+use Rattle.pulsar_laws.proofs.plans.Holding.{holds, holds_batch, is_turn_told}
 use Rattle.pulsar_laws.proofs.plans.Standing.{moves, run_older, stands_so}
 use Rattle.pulsar_laws.proofs.producers.BatchRun.{turn_so, AtDeed, Batched, PromptSo, StandsSo, batched_run, calm_at, deed_at, settles_all, some_batch, under_kept, was_done}
 use Rattle.pulsar_laws.specs.BatchLaws.{FramesOfBatches, under_way}
@@ -25,17 +26,17 @@ use Rattle.pulsar_producer_table.specs.Producers.{topic_after}
 use Rattle.pulsar_laws.specs.ProducerLaws.{HasTurn}
 use Rattle.pulsar_laws.proofs.plans.Batched.{BatchSo, GoesOn, IsSending, StepTo}
 use Rattle.pulsar_laws.proofs.producers.Drawing.{here}
-use Rattle.pulsar_laws.proofs.producers.Frames.{IsDrawn, draw_by, is_drawn, message_more, recall_plain}
+use Rattle.pulsar_laws.proofs.producers.Frames.{IsDrawn, VersionTold, draw_by, is_drawn, message_more, message_told, recall_plain, version_now, version_same}
 use Rattle.pulsar_laws.proofs.plans.Framing.{DeedSo, MessageSo, NewsSo, StepSo, Versioned, drew_told, is_message, step_so}
 use Rattle.pulsar_laws.proofs.plans.Granted.{granted_by, grants_given}
 use Rattle.pulsar_laws.proofs.plans.Owned.{starts_own}
 use Rattle.pulsar_laws.proofs.links.Receipts.{Split, run_behind, split_in}
 use Rattle.pulsar_laws.proofs.producers.TurnActs.{changed_at}
-use Rattle.pulsar_laws.proofs.producers.TurnRun.{own_in_turn}
+use Rattle.pulsar_laws.proofs.producers.TurnRun.{own_in_turn, own_told_none}
 
--- it was told this version with its turn
+-- it was told this version with its newest turn
 abbrev TurnTold : List Entry → ℕ → Option (List ℕ) → Type 0
-TurnTold log n version = In (Then (Told (notice (Producer n) (outcome.Granted (news.HasTurn version))))) log
+TurnTold log n = VersionTold (Producer n) log
 
 -- the message that it sends is that of the batch under way
 abbrev FrameSo : Options → List Entry → ℕ → Errand → Batches → Type 0
@@ -49,21 +50,21 @@ PlanSo o log n (Batching w e b) = FrameSo o log n e b
 PlanSo o log n p = Unit {0}
 
 -- behind a further entry
-frame_more : (o : Options) (log : List Entry) (x : Entry) (n : ℕ) (w : Ways) (e : Errand) (b : Batches) →
+frame_more : (o : Options) (log : List Entry) (x : Entry) (n : ℕ) (w : Ways) (e : Errand) (b : Batches) → moves (Producer n) x ≡ false →
     (calm_at (Batching w e b) ≡ true → under_way o n (x ∷ log) ≡ under_way o n log) → FrameSo o log n e b → FrameSo o (x ∷ log) n e b
-frame_more o log x n w e (batching.Sending ms c s) same k =
-    (k.0, k.1, same refl ∙ k.2, k.3, message_more e k.1 (TurnTold log n) (TurnTold (x ∷ log) n) (λ v i. inr i) s k.4)
-frame_more o log x n w e _ same k = tt
+frame_more o log x n w e (batching.Sending ms c s) m same k =
+    (k.0, k.1, same refl ∙ k.2, k.3, message_more e k.1 (TurnTold log n) (TurnTold (x ∷ log) n) (λ v i. version_same (Producer n) x log m ∙ i) s k.4)
+frame_more o log x n w e _ m same k = tt
 
-plan_more : (o : Options) (log : List Entry) (x : Entry) (n : ℕ) (p : Plan) → (calm_at p ≡ true → under_way o n (x ∷ log) ≡ under_way o n log) →
-    PlanSo o log n p → PlanSo o (x ∷ log) n p
-plan_more o log x n (Batching w e b) same k = frame_more o log x n w e b same k
-plan_more o log x n _ same k = tt
+plan_more : (o : Options) (log : List Entry) (x : Entry) (n : ℕ) (p : Plan) → moves (Producer n) x ≡ false →
+    (calm_at p ≡ true → under_way o n (x ∷ log) ≡ under_way o n log) → PlanSo o log n p → PlanSo o (x ∷ log) n p
+plan_more o log x n (Batching w e b) m same k = frame_more o log x n w e b m same k
+plan_more o log x n _ m same k = tt
 
 -- what is told of turns and commands
 news_told : (o : Options) (log : List Entry) (n : ℕ) (u : Outcome) → IsRun o (Then (Told (notice (Producer n) u)) ∷ log) → (e : Errand)
     (given : ProducerMessageValues) → NewsSo e given (TurnTold (Then (Told (notice (Producer n) u)) ∷ log) n) (news_of u)
-news_told o log n (outcome.Granted (news.HasTurn version)) run e given = inl refl
+news_told o log n (outcome.Granted (news.HasTurn version)) run e given = version_now (Producer n) (outcome.Granted (news.HasTurn version)) log
 news_told o log n (outcome.Granted (news.Recalled c)) run e given =
     let m : Notice = notice (Producer n) (outcome.Granted (news.Recalled c)) in
     let k = granted_by o log m refl run in
@@ -75,39 +76,49 @@ module _ (o : Options) (log : List Entry) (n : ℕ) (u : Outcome) (run : IsRun o
   abbrev later : List Entry
   later = Then (Told (notice (Producer n) u)) ∷ log
 
+  -- where it has its turn it is told of no other
+  abbrev TurnNever : Errand → Batches → Type 0
+  TurnNever e b = (m : ℕ) → holds_batch e b ≡ Some m → is_turn_told u ≡ true → ⊥
+
+  never_turn : (p : Plan) (s : StandsSo o log n p) → (view o log).stand (Producer n) ≡ Some p → TurnNever s.errand s.state
+  never_turn p s stood m held turn = own_told_none o log n m p u run stood (ap holds s.is_it ∙ held) turn
+
   -- a send goes on
   pub goes_frame : (w : Ways) (e : Errand) (ns : List Member) (d : ℕ) (old s : Send) (dd : Deed) →
-      (k : FrameSo o log n e (batching.Sending ns d old)) → produce.send_told w e old (news_of u) ≡ step.Stays s dd →
+      (k : FrameSo o log n e (batching.Sending ns d old)) → TurnNever e (batching.Sending ns d old) →
+      produce.send_told w e old (news_of u) ≡ step.Stays s dd →
       MessageSo e k.1 (TurnTold later n) s × DeedSo e k.1 (TurnTold later n) (news_of u) s dd
-  goes_frame w e ns d old s dd k h =
-      let m : MessageSo e k.1 (TurnTold later n) old = message_more e k.1 (TurnTold log n) (TurnTold later n) (λ v i. inr i) old k.4 in
+  goes_frame w e ns d old s dd k never h =
+      let m : MessageSo e k.1 (TurnTold later n) old = message_told e k.1 (Producer n) log u e old never k.4 in
       subst (StepSo e k.1 (TurnTold later n) (news_of u)) h
       (step_so e k.1 (TurnTold later n) w old (news_of u) m (news_told o log n u run e k.1))
 
-  frame_sent : (w : Ways) (e : Errand) (b : Batches) (ms : List Member) (c : ℕ) (s : Send) (a : Action) → PromptSo o log n b → FrameSo o log n e b →
-      IsSending w e ms c s a b u → FrameSo o later n e (batching.Sending ms c s)
-  frame_sent w e batching.Resting ms c s a p k x = absurd x
-  frame_sent w e batching.Taking ms c s a p k x = (
+  frame_sent : (w : Ways) (e : Errand) (b : Batches) (ms : List Member) (c : ℕ) (s : Send) (a : Action) → PromptSo o log n b → TurnNever e b →
+      FrameSo o log n e b → IsSending w e ms c s a b u → FrameSo o later n e (batching.Sending ms c s)
+  frame_sent w e batching.Resting ms c s a p never k x = absurd x
+  frame_sent w e batching.Taking ms c s a p never k x = (
     x.0,
     x.1,
     some_batch o log n u x.0 (was_done o log n batching.Taking u p run.1) x.2,
     x.5,
     subst (MessageSo e x.1 (TurnTold later n)) (sym x.6) refl,
   )
-  frame_sent w e (batching.Sending ns d old) ms c s a p k x = (k.0, k.1, k.2, k.3, (goes_frame w e ns d old s x.2.0 k x.2.1).0)
-  frame_sent w e batching.Settling ms c s a p k x = absurd x
+  frame_sent w e (batching.Sending ns d old) ms c s a p never k x = (k.0, k.1, k.2, k.3, (goes_frame w e ns d old s x.2.0 k never x.2.1).0)
+  frame_sent w e batching.Settling ms c s a p never k x = absurd x
 
-  frame_to : (w : Ways) (e : Errand) (b q : Batches) (a : Action) → PromptSo o log n b → FrameSo o log n e b → StepTo w e b u q a → FrameSo o later n e q
-  frame_to w e b (batching.Sending ms c s) a p k x = frame_sent w e b ms c s a p k x
-  frame_to w e b batching.Resting a p k x = tt
-  frame_to w e b batching.Taking a p k x = tt
-  frame_to w e b batching.Settling a p k x = tt
+  frame_to : (w : Ways) (e : Errand) (b q : Batches) (a : Action) → PromptSo o log n b → TurnNever e b → FrameSo o log n e b → StepTo w e b u q a →
+      FrameSo o later n e q
+  frame_to w e b (batching.Sending ms c s) a p never k x = frame_sent w e b ms c s a p never k x
+  frame_to w e b batching.Resting a p never k x = tt
+  frame_to w e b batching.Taking a p never k x = tt
+  frame_to w e b batching.Settling a p never k x = tt
 
-  plan_to : (p q : Plan) (a : Action) (s : StandsSo o log n p) → PlanSo o log n p → BatchSo s.ways s.errand s.state u q a → PlanSo o later n q
-  plan_to p (Batching v x b) a s k g =
+  plan_to : (p q : Plan) (a : Action) (s : StandsSo o log n p) → (view o log).stand (Producer n) ≡ Some p → PlanSo o log n p →
+      BatchSo s.ways s.errand s.state u q a → PlanSo o later n q
+  plan_to p (Batching v x b) a s stood k g =
       let f : FrameSo o log n s.errand s.state = subst (PlanSo o log n) s.is_it k in
-      subst (λ y. FrameSo o later n y b) (sym g.1) (frame_to s.ways s.errand s.state b a s.prompt f g.2)
-  plan_to p _ a s k g = absurd g
+      subst (λ y. FrameSo o later n y b) (sym g.1) (frame_to s.ways s.errand s.state b a s.prompt (never_turn p s stood) f g.2)
+  plan_to p _ a s stood k g = absurd g
 
 -- ALONG A LOG
 
@@ -117,10 +128,10 @@ framed o n = stands_so o (Producer n) (IsRun o) (run_older o) (λ log p. PlanSo 
     more : (x : Entry) (log : List Entry) (p : Plan) → moves (Producer n) x ≡ false → IsRun o (x ∷ log) → (view o log).stand (Producer n) ≡ Some p →
         PlanSo o log n p → PlanSo o (x ∷ log) n p
     more (Then (Does who a)) log p m run s k =
-        plan_more o log (Then (Does who a)) n p (λ calm. under_kept o log who a n p run (batched_run o log run.0) s calm) k
-    more (Then (Starts who q)) log p m run s k = plan_more o log (Then (Starts who q)) n p (λ calm. ap (λ c. cond c None (under_way o n log)) m) k
-    more (Then a) log p m run s k = plan_more o log (Then a) n p (λ calm. refl) k
-    more (Begins e) log p m run s k = plan_more o log (Begins e) n p (λ calm. refl) k
+        plan_more o log (Then (Does who a)) n p m (λ calm. under_kept o log who a n p run (batched_run o log run.0) s calm) k
+    more (Then (Starts who q)) log p m run s k = plan_more o log (Then (Starts who q)) n p m (λ calm. ap (λ c. cond c None (under_way o n log)) m) k
+    more (Then a) log p m run s k = plan_more o log (Then a) n p m (λ calm. refl) k
+    more (Begins e) log p m run s k = plan_more o log (Begins e) n p m (λ calm. refl) k
 
     begun : (log : List Entry) (q : Procedure) (p : Plan) (a : Action) → IsRun o (Then (Starts (Producer n) q) ∷ log) → begins q ≡ Stays p a →
         PlanSo o (Then (Starts (Producer n) q) ∷ log) n p
@@ -133,7 +144,7 @@ framed o n = stands_so o (Producer n) (IsRun o) (run_older o) (λ log p. PlanSo 
     goes_on : (log : List Entry) (b : Plan) (u : Outcome) (p : Plan) (a : Action) → IsRun o (Then (Told (notice (Producer n) u)) ∷ log) →
         (view o log).stand (Producer n) ≡ Some b → PlanSo o log n b → told b u ≡ Stays p a → PlanSo o (Then (Told (notice (Producer n) u)) ∷ log) n p
     goes_on log b u p a run s k e =
-        let j = here (Batched o) log (batched_run o log run.0) n b s in plan_to o log n u run b p a j k (turn_so o log n u b p a j e)
+        let j = here (Batched o) log (batched_run o log run.0) n b s in plan_to o log n u run b p a j s k (turn_so o log n u b p a j e)
 
 -- AS IT DOES SOMETHING within a send
 
@@ -169,16 +180,19 @@ in_send o log n a inner run = elim (deed_at o log n a run (batched_run o log run
 ]
   where
     at : AtDeed o log n a → InSend o log n a
-    at d = by d.was.state d.state frame d.step d.stands
+    at d = by d.was.state d.state frame (never_turn o d.older n d.outcome d.run d.before d.was d.stood) d.step d.stands
       where
+        Never : Batches → Type 0
+        Never b = TurnNever o d.older n d.outcome d.run d.was.errand b
+
         frame : FrameSo o d.older n d.was.errand d.was.state
         frame = subst (PlanSo o d.older n) d.was.is_it (framed o n d.older d.before d.run.0 d.stood)
 
         sends : (ns : List Member) (j : ℕ) (old : Send) (ms : List Member) (c : ℕ) (s : Send) → FrameSo o d.older n d.was.errand (batching.Sending ns j old) →
-            GoesOn d.was.ways d.was.errand old s a d.outcome →
+            Never (batching.Sending ns j old) → GoesOn d.was.ways d.was.errand old s a d.outcome →
             (view o log).stand (Producer n) ≡ Some (Batching d.was.ways d.was.errand (batching.Sending ms c s)) → InSend o log n a
-        sends ns j old ms c s k x st =
-            let g = goes_frame o d.older n d.outcome d.run d.was.ways d.was.errand ns j old s x.0 k x.1 in
+        sends ns j old ms c s k never x st =
+            let g = goes_frame o d.older n d.outcome d.run d.was.ways d.was.errand ns j old s x.0 k never x.1 in
             record {
               outcome = d.outcome;
               older = d.older;
@@ -200,20 +214,20 @@ in_send o log n a inner run = elim (deed_at o log n a run (batched_run o log run
               so = subst (λ y. DeedSo d.was.errand k.1 (TurnTold y n) (news_of d.outcome) s x.0) (sym d.there) g.1;
             }
 
-        from : (b : Batches) (ms : List Member) (c : ℕ) (s : Send) → FrameSo o d.older n d.was.errand b →
+        from : (b : Batches) (ms : List Member) (c : ℕ) (s : Send) → FrameSo o d.older n d.was.errand b → Never b →
             IsSending d.was.ways d.was.errand ms c s a b d.outcome →
             (view o log).stand (Producer n) ≡ Some (Batching d.was.ways d.was.errand (batching.Sending ms c s)) → InSend o log n a
-        from batching.Resting ms c s k x st = absurd x
-        from batching.Taking ms c s k x st = (let f : true ≡ false = sym inner ∙ ap is_within x.7 in absurd cc)
-        from (batching.Sending ns j old) ms c s k x st = sends ns j old ms c s k x.2 st
-        from batching.Settling ms c s k x st = absurd x
+        from batching.Resting ms c s k never x st = absurd x
+        from batching.Taking ms c s k never x st = (let f : true ≡ false = sym inner ∙ ap is_within x.7 in absurd cc)
+        from (batching.Sending ns j old) ms c s k never x st = sends ns j old ms c s k never x.2 st
+        from batching.Settling ms c s k never x st = absurd x
 
-        by : (b q : Batches) → FrameSo o d.older n d.was.errand b → StepTo d.was.ways d.was.errand b d.outcome q a →
+        by : (b q : Batches) → FrameSo o d.older n d.was.errand b → Never b → StepTo d.was.ways d.was.errand b d.outcome q a →
             (view o log).stand (Producer n) ≡ Some (Batching d.was.ways d.was.errand q) → InSend o log n a
-        by b batching.Resting k x st = (let f : true ≡ false = sym inner ∙ ap is_within x.0 in absurd cc)
-        by b batching.Taking k x st = (let f : true ≡ false = sym inner ∙ ap is_within x.0 in absurd cc)
-        by b (batching.Sending ms c s) k x st = from b ms c s k x st
-        by b batching.Settling k x st =
+        by b batching.Resting k never x st = (let f : true ≡ false = sym inner ∙ ap is_within x.0 in absurd cc)
+        by b batching.Taking k never x st = (let f : true ≡ false = sym inner ∙ ap is_within x.0 in absurd cc)
+        by b (batching.Sending ms c s) k never x st = from b ms c s k never x st
+        by b batching.Settling k never x st =
             (let y = settles_all d.was.ways d.was.errand a b d.outcome x in let f : true ≡ false = sym inner ∙ ap is_within y.1 in absurd cc)
 
 -- where it asks for a message
@@ -332,6 +346,36 @@ was_drawn o older n d run =
       room = b.2;
       ready = ap (room_of (view o g.older)) (sym own) ∙ b.3;
       row = subst (λ m. IsDrawn b.2 ((view o g.older).producers.topics m) d) own (is_drawn b.2 ((view o g.older).producers.topics b.0) d b.4);
+    }
+
+-- and what was seen then
+pub record IsDrawnFor (o : Options) (log : List Entry) (n k s : ℕ) : Type 0 where
+  pub own : k ≡ n
+  pub told : Notice
+  pub behind : List Entry
+  pub there : log ≡ Then (Told told) ∷ Then (Does (Producer n) (Draw n)) ∷ behind
+  pub before : Topic
+  pub was : (view o behind).producers.topics n ≡ Some before
+  pub number : s ≡ before.seen.next
+
+pub drawn_for : (o : Options) (log : List Entry) (n l k s : ℕ) (name : List ℕ) (m : ProducerMessageValues) (block : Bool) →
+    IsRun o (Then (Does (Producer n) (Ask l (words.Send k name s m block))) ∷ log) → IsDrawnFor o log n k s
+drawn_for o log n l k s name m block run =
+    let f = frame_asked o log n l k s name m block run in
+    let x = f.0 in
+    let a = f.1 in
+    let r : IsRun o (Then (Told (notice (Producer n) (outcome.Granted (news.Drew a.drawn)))) ∷ x.older) =
+    subst (λ u. IsRun o (Then (Told (notice (Producer n) u)) ∷ x.older))
+    (drew_told x.errand x.whole (TurnTold log n) x.outcome a.drawn a.news) x.run in
+    let d = was_drawn o x.older n a.drawn r in
+    record {
+      own = a.producer ∙ x.own;
+      told = notice (Producer n) x.outcome;
+      behind = d.behind;
+      there = x.there ∙ ap (λ y. Then (Told (notice (Producer n) x.outcome)) ∷ y) d.there;
+      before = d.row.topic;
+      was = d.row.is_it;
+      number = a.number ∙ d.row.number;
     }
 
 -- THE LAW

@@ -24,19 +24,19 @@ use Rattle.pulsar_plans.proofs.Arcs.{StaysSo}
 use Rattle.pulsar_laws.proofs.plans.Owned.{starts_own}
 
 -- how often it may be told so still
-abbrev left_in : Send → ℕ
+abbrev pub left_in : Send → ℕ
 left_in send.Sent = 0
 left_in _ = 1
 
-abbrev left_at : Batches → ℕ
+abbrev pub left_at : Batches → ℕ
 left_at (batching.Sending ms c s) = left_in s
 left_at _ = 0
 
-abbrev left : Plan → ℕ
+abbrev pub left : Plan → ℕ
 left (Batching w e b) = left_at b
 left _ = 0
 
-abbrev left_some : Option Plan → ℕ
+abbrev pub left_some : Option Plan → ℕ
 left_some None = 0
 left_some (Some p) = left p
 
@@ -78,7 +78,7 @@ queued_step w e (send.Asked k) outcome.Queued h = (refl, refl)
 queued_step w e s outcome.Queued h = absurd cc
 queued_step w e s u h = absurd cc
 
-cases_in : (s : Send) → (s ≡ send.Sent) ⊎ (left_in s ≡ 1)
+pub cases_in : (s : Send) → (s ≡ send.Sent) ⊎ (left_in s ≡ 1)
 cases_in send.Sent = inl refl
 cases_in _ = inr refl
 
@@ -117,11 +117,11 @@ asks_left batching.Settling w e u true h = absurd (none u h)
 
 -- ALONG A LOG
 
-abbrev Few : Options → List Entry → ℕ → Type 0
+abbrev pub Few : Options → List Entry → ℕ → Type 0
 Few o log n = frames_queued o n log + left_some ((view o log).stand (Producer n)) ≤ 1
 
 -- where it has just taken a batch none was queued for it
-none_yet : (o : Options) (log : List Entry) (n : ℕ) (u : Outcome) → PromptSo o log n batching.Taking →
+pub none_yet : (o : Options) (log : List Entry) (n : ℕ) (u : Outcome) → PromptSo o log n batching.Taking →
     IsRun o (Then (Told (notice (Producer n) u)) ∷ log) → frames_queued o n log ≡ 0
 none_yet o log n u p run =
     let k = was_done o log n batching.Taking u p run.1 in
@@ -231,7 +231,7 @@ does_then o log who (TakeBatch m) n few = elim (cases_Bool (is_same (Producer n)
 ]
 does_then o log who _ n few = few
 
-few_run : (o : Options) (log : List Entry) (n : ℕ) → IsRun o log → Few o log n
+pub few_run : (o : Options) (log : List Entry) (n : ℕ) → IsRun o log → Few o log n
 few_run o [] n run = omega arith
 few_run o (Begins e ∷ log) n run =
     subst (λ r. frames_queued o n log + left_some r ≤ 1) (sym (begun_same (λ v. v.stand (Producer n)) e (view o log) refl)) (few_run o log n run.0)

@@ -2,8 +2,8 @@
 use Rattle.std.proofs.Common.{◌≡◌, ◌⊎◌, inl, inr, ◌∙◌, sym, ap, subst, ℕ, List, ◌∷◌, refl, length, map, Bool, true, false, cond, Option, Some, None, Result, Ok, Err}
 use Rattle.std.proofs.lemmas.Bool.{cases_Bool}
 use Rattle.pulsar_laws.proofs.ActWords.{Action, Ask, Does, Notice, Outcome, Producer, Rest, TellAll, Told}
-use Rattle.pulsar_laws.proofs.PlanWords.{Batches, Batching, Command, Errand, Fate, Heard, Looking, Making, News, news_in, news_of, overrides, SearchTurn, Sending as Send, Served, told_to, Ways}
-use Rattle.pulsar_laws.proofs.RunWords.{Cause, Entry, In, IsRun, notice, Options, Then}
+use Rattle.pulsar_laws.proofs.PlanWords.{Batches, Batching, Command, Errand, Fate, Heard, Looking, Making, Member, News, news_in, news_of, overrides, SearchTurn, Sending as Send, Served, told_to, Ways}
+use Rattle.pulsar_laws.proofs.RunWords.{Cause, Entry, In, IsRun, notice, Options, Then, view}
 use Rattle.pulsar_laws.proofs.LinkWords.{Failure, Fault, Place, Reply}
 use Rattle.pulsar_messages.specs.Words as words
 use Rattle.pulsar_messages.specs.Content.{ProducerMessageValues}
@@ -14,6 +14,7 @@ use Rattle.pulsar_searches.specs.Replies.{unexpected}
 use Rattle.pulsar_searches.specs.declared.turn.Outcome.TheVariants as heard
 use Rattle.pulsar_searches.specs.declared.turn.Turn.TheVariants as search_turn
 use Rattle.pulsar_outgoing.specs.Batch.{batch_of, cut_report, entries_in, member_of, receipt_fate, reports}
+use Rattle.pulsar_producer.specs.Batching.{is_sent_send}
 use Rattle.pulsar_producer.specs.Plans as produce
 use Rattle.pulsar_producer.specs.Plans.{Sent, fault_told, not_drawn, not_queued, receipt, send_looks, send_makes}
 use Rattle.pulsar_outgoing.specs.Storage.{Item}
@@ -23,7 +24,8 @@ use Rattle.pulsar_producer.specs.declared.deed.Step.TheVariants as step
 use Rattle.pulsar_producer.specs.declared.sending.Sending.TheVariants as send
 use Rattle.pulsar_calls.specs.declared.act.Outcome.TheVariants as outcome
 use Rattle.pulsar_laws.proofs.Cases.{cond_so}
-use Rattle.pulsar_laws.specs.BatchLaws.{AskedAs, IsFateOf, MembersAreTold, under_way}
+use Rattle.pulsar_laws.specs.BatchLaws.{AskedAs, IsFateOf, MembersAreTold, frames_queued, under_way}
+use Rattle.pulsar_laws.proofs.producers.BatchQueued.{queued_once}
 use Rattle.pulsar_laws.proofs.plans.Batched.{Comes, IsSettling, Unsent, tells_where}
 use Rattle.pulsar_laws.proofs.producers.BatchFailing.{Kept, KeepsSo, Why, fails_so, is_told_news, kept_run, never_told}
 use Rattle.pulsar_laws.proofs.producers.BatchFrames.{asked_own}
@@ -137,6 +139,13 @@ gives_told w e s u r n h = elim (cases_Bool (is_sent s)) [
   | inr q ↦ (let f : false ≡ true = sym (unsent_gives w e s (news_of u) q) ∙ ap gives_ok h in absurd cc)
 ]
 
+gives_sent : (w : Ways) (e : Errand) (s : Send) (u : Outcome) (r : Content) → produce.send_told w e s (news_of u) ≡ step.Gives (Ok r) →
+    is_sent_send s ≡ true
+gives_sent w e s u r h = elim (cases_Bool (is_sent s)) [
+  | inl q ↦ ap is_sent_send (sent_same s q)
+  | inr q ↦ (let f : false ≡ true = sym (unsent_gives w e s (news_of u) q) ∙ ap gives_ok h in absurd cc)
+]
+
 -- THE LAW
 
 abbrev notices_in : List Notice → Action → List Notice
@@ -174,52 +183,55 @@ module _ (o : Options) (log : List Entry) (n : ℕ) (ns : List Notice) (run : Is
       receipt_from older step.1 reply x.0 x.1 there
       (step.3 (Then (Does (Producer n) (Ask x.0 (words.Send x.1.producer x.1.name x.1.sequence x.1.message x.1.block)))) x.1.listed)
 
-  fate_of : (older : List Entry) (items : List Item) (u : Outcome) (w : Ways) (e : Errand) (s : Send) (f : Fate) (m : ProducerMessageValues) →
-      log ≡ Then (Told (notice (Producer n) u)) ∷ older → e.producer ≡ n → batch_of (entries_in items) ≡ Ok m →
-      SendKeeps (Why n older w e m) s → Comes w e s u f → IsFateOf n log items u f
-  fate_of older items u w e s f m there own whole kept (inl h) = inr (inr (inr (inl h)))
-  fate_of older items u w e s f m there own whole kept (inr (inr h)) =
+  fate_of : (older : List Entry) (items : List Item) (u : Outcome) (w : Ways) (e : Errand) (ms : List Member) (c : ℕ) (s : Send) (f : Fate)
+      (m : ProducerMessageValues) → log ≡ Then (Told (notice (Producer n) u)) ∷ older →
+      (view o older).stand (Producer n) ≡ Some (Batching w e (batching.Sending ms c s)) → e.producer ≡ n → batch_of (entries_in items) ≡ Ok m →
+      SendKeeps (Why n older w e m) s → Comes w e s u f → IsFateOf o n log items u f
+  fate_of older items u w e ms c s f m there stood own whole kept (inl h) = inr (inr (inr (inl h)))
+  fate_of older items u w e ms c s f m there stood own whole kept (inr (inr h)) =
       let r : IsRun o (Then (Told (notice (Producer n) u)) ∷ older) = subst (IsRun o) there run.0 in
       let why : Why n (Then (Told (notice (Producer n) u)) ∷ older) w e m h.0 = fails_so o older n u w e m s h.0 r kept h.1 in
       inr (inl (h.0, (w, e, m, own, whole, subst (λ l. Why n l w e m h.0) (sym there) why), h.2))
-  fate_of older items u w e s f m there own whole kept (inr (inl h)) =
+  fate_of older items u w e ms c s f m there stood own whole kept (inr (inl h)) =
       let r : IsRun o (Then (Told (notice (Producer n) u)) ∷ older) = subst (IsRun o) there run.0 in
       let q = gives_told w e s u h.0 (never_told o older (Producer n) u r) h.1 in
       let body : is_body 7 q.0.content.body ≡ true = ap (λ x. is_body 7 x.body) q.2 ∙ q.3 in
       let k = receipt_bears older q.0 (there ∙ ap (λ x. Then (Told (notice (Producer n) x)) ∷ older) q.1) body in
-      inl (q.0, k.0, q.1, body, k.1, k.2, h.2 ∙ ap receipt_fate (sym q.2))
+      let once : frames_queued o n log ≡ 1 =
+      ap (frames_queued o n) there ∙ queued_once o older n u w e ms c s r stood (gives_sent w e s u h.0 h.1) in
+      inl (q.0, k.0, q.1, body, k.1, k.2, once, h.2 ∙ ap receipt_fate (sym q.2))
 
-  unsent_fate : (items : List Item) (u : Outcome) (f : Fate) → Unsent items f → IsFateOf n log items u f
+  unsent_fate : (items : List Item) (u : Outcome) (f : Fate) → Unsent items f → IsFateOf o n log items u f
   unsent_fate items u f (inl h) = inr (inr (inr (inr h)))
   unsent_fate items u f (inr h) = inr (inr (inl h))
 
   abbrev IsTold : List Item → Outcome → Type 0
   IsTold items u =
-      ((f : Fate) × IsFateOf n log items u f × (ns ≡ map told_to (reports (length (entries_in items)) f (map member_of items))))
+      ((f : Fate) × IsFateOf o n log items u f × (ns ≡ map told_to (reports (length (entries_in items)) f (map member_of items))))
       ⊎ ((overrides u ≡ true) × (ns ≡ map told_to (map cut_report (map member_of items))))
 
   told_from : (older : List Entry) (u : Outcome) (w : Ways) (e : Errand) (b : Batches) → log ≡ Then (Told (notice (Producer n) u)) ∷ older →
-      IsRun o (Then (Told (notice (Producer n) u)) ∷ older) → PromptSo o older n b → StateSo o older n b → e.producer ≡ n →
-      KeepsSo n older (Batching w e b) → IsSettling w e (TellAll ns) b u →
+      IsRun o (Then (Told (notice (Producer n) u)) ∷ older) → (view o older).stand (Producer n) ≡ Some (Batching w e b) →
+      PromptSo o older n b → StateSo o older n b → e.producer ≡ n → KeepsSo n older (Batching w e b) → IsSettling w e (TellAll ns) b u →
       (items : List Item) × (under_way o n log ≡ Some items) × IsTold items u
-  told_from older u w e batching.Resting there r p s own kept k = absurd k
-  told_from older u w e batching.Settling there r p s own kept k = absurd k
-  told_from older u w e batching.Taking there r p s own kept k = (
+  told_from older u w e batching.Resting there r stood p s own kept k = absurd k
+  told_from older u w e batching.Settling there r stood p s own kept k = absurd k
+  told_from older u w e batching.Taking there r stood p s own kept k = (
     k.0,
     ap (under_way o n) there ∙ some_batch o older n u k.0 (was_done o older n batching.Taking u p r.1) k.2,
     inl (k.1, unsent_fate k.0 u k.1 k.3, ap (notices_in ns) k.4),
   )
-  told_from older u w e (batching.Sending ms c x) there r p s own kept (inl k) = (
+  told_from older u w e (batching.Sending ms c x) there r stood p s own kept (inl k) = (
     s.0,
     ap (under_way o n) there ∙ s.1,
     inr (k.0, ap (notices_in ns) k.1 ∙ ap (λ y. map told_to (map cut_report y)) s.2.0),
   )
-  told_from older u w e (batching.Sending ms c x) there r p s own kept (inr k) = (
+  told_from older u w e (batching.Sending ms c x) there r stood p s own kept (inr k) = (
     s.0,
     ap (under_way o n) there ∙ s.1,
     inl (
       k.0,
-      fate_of older s.0 u w e x k.0 s.2.2 there own s.2.3 (kept s.2.2) k.1,
+      fate_of older s.0 u w e ms c x k.0 s.2.2 there stood own s.2.3 (kept s.2.2) k.1,
       ap (notices_in ns) k.2 ∙ ap (λ y. map told_to (reports c k.0 y)) s.2.0 ∙ ap (λ y. map told_to (reports y k.0 (map member_of s.0))) s.2.1,
     ),
   )
@@ -230,7 +242,9 @@ members_are_told_lem o log n ns run = elim (deed_at o log n (TellAll ns) run (ba
       (let t = tells_where d.was.ways d.was.errand d.was.state d.outcome d.state ns d.step in
       let kept : KeepsSo n d.older (Batching d.was.ways d.was.errand d.was.state) =
       subst (KeepsSo n d.older) d.was.is_it (here (Kept o) d.older (kept_run o d.older d.run.0) n d.before d.stood) in
-      let x = told_from o log n ns run d.older d.outcome d.was.ways d.was.errand d.was.state d.there d.run d.was.prompt d.was.so d.was.own kept t.1 in
+      let x =
+      told_from o log n ns run d.older d.outcome d.was.ways d.was.errand d.was.state d.there d.run (d.stood ∙ ap Some d.was.is_it) d.was.prompt d.was.so
+      d.was.own kept t.1 in
       (x.0, d.outcome, d.older, x.1, d.there, x.2))
   | inr r ↦ (let f : TellAll ns ≡ Rest = r in absurd cc)
 ]

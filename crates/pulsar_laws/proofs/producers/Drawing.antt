@@ -438,7 +438,7 @@ no_consumer o log n t verdict b makes run = elim (answers_from o log (one.Consum
   ]
 ]
 
-who_call : (o : Options) (log : List Entry) (w : Who) (verdict : Verdict) (b : Building) → verdict.makes ≡ Producer b →
+pub who_call : (o : Options) (log : List Entry) (w : Who) (verdict : Verdict) (b : Building) → verdict.makes ≡ Producer b →
     IsRun o (Then (Answers w verdict) ∷ log) → w ≡ Call (rank w).1
 who_call o log (Call t) verdict b makes run = refl
 who_call o log (one.Consumer n t) verdict b makes run = absurd (no_consumer o log n t verdict b makes run)

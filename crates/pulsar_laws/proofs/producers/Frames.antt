@@ -1,7 +1,7 @@
 -- The frames that sends ask for, along a log.
 use Rattle.std.proofs.Common.{◌≡◌, inl, inr, ◌∙◌, sym, ap, subst, ℕ, ◌+◌, List, ◌∷◌, refl, Bool, true, false, cond, Option, Some, None}
 use Rattle.std.proofs.lemmas.Bool.{cases_Bool}
-use Rattle.pulsar_laws.proofs.ActWords.{Action, Ask, Call, Does, Draw, Notice, Outcome, Procedure, Recall, Share, Starts, TakeTurn, Told}
+use Rattle.pulsar_laws.proofs.ActWords.{Action, Ask, Call, Does, Draw, Notice, Outcome, Procedure, Recall, Share, Starts, TakeTurn, Told, Who}
 use Rattle.pulsar_laws.proofs.PlanWords.{begins, Command, Drawn, Errand, Leaving, news_of, Plan, Reporting, Sending as Send, Stays, told, Ways}
 use Rattle.pulsar_laws.proofs.RunWords.{Begins, draws_on, Entry, In, IsRun, notice, Options, room_of, started, Then, View, view}
 use Rattle.pulsar_messages.specs.Content.{ProducerMessageValues}
@@ -18,21 +18,39 @@ use Rattle.pulsar_calls.specs.declared.act.Outcome.TheVariants as outcome
 use Rattle.pulsar_calls.specs.declared.act.Procedure.TheVariants as procedure
 use Rattle.pulsar_plans.specs.declared.plan.Plan.TheVariants.{Sending}
 use Rattle.pulsar_producer_table.specs.declared.table.Topic.{Topic}
+use Rattle.pulsar_laws.proofs.plans.Holding.{holds, holds_in, is_turn_told}
 use Rattle.pulsar_laws.proofs.plans.Standing.{moves, run_older, stands_so}
 use Rattle.pulsar_laws.proofs.calls.Same.{same_self}
 use Rattle.pulsar_laws.proofs.Cases.{none_some}
 use Rattle.pulsar_producer_table.specs.Producers.{drawn, recalled_at, recalled_by, topic_after}
-use Rattle.pulsar_laws.specs.ProducerLaws.{FramesAreOfTheirSends}
+use Rattle.pulsar_laws.specs.ProducerLaws.{FramesAreOfTheirSends, version_in, version_told}
 use Rattle.pulsar_laws.proofs.plans.Framing.{AsksSo, KeptSo, MessageSo, NewsSo, PlanSo, Versioned, is_message, told_so}
 use Rattle.pulsar_laws.proofs.plans.Granted.{BeginsSo, GivenBy, IsGrantedBy, IsLedSo, does_from, granted_by, grants_given}
 use Rattle.pulsar_laws.proofs.producers.InTurn.{self_same, stand_told}
 use Rattle.pulsar_plans.proofs.Arcs.{StaysSo}
 use Rattle.pulsar_laws.proofs.producers.TurnActs.{changed_at}
-use Rattle.pulsar_laws.proofs.producers.TurnRun.{queued_in_turn_lem}
+use Rattle.pulsar_laws.proofs.producers.TurnRun.{call_told_none, queued_in_turn_lem}
 
--- it was told this version with its turn
+-- THE VERSION that one was told with its newest turn
+
+abbrev pub VersionTold : Who → List Entry → Option (List ℕ) → Type 0
+VersionTold w log version = version_told w log ≡ Some version
+
+pub version_same : (w : Who) (x : Entry) (log : List Entry) → moves w x ≡ false → version_told w (x ∷ log) ≡ version_told w log
+version_same w (Then (Told n)) log m = ap (λ b. cond b (version_in n.outcome (version_told w log)) (version_told w log)) m
+version_same w (Then a) log m = refl
+version_same w (Begins e) log m = refl
+
+pub version_now : (w : Who) (u : Outcome) (log : List Entry) → version_told w (Then (Told (notice w u)) ∷ log) ≡ version_in u (version_told w log)
+version_now w u log = ap (λ b. cond b (version_in u (version_told w log)) (version_told w log)) (same_self w)
+
+no_version : (u : Outcome) (r : Option (Option (List ℕ))) → is_turn_told u ≡ false → version_in u r ≡ r
+no_version (outcome.Granted (news.HasTurn version)) r h = absurd cc
+no_version (outcome.Granted _) r h = refl
+no_version _ r h = refl
+
 abbrev pub WasTold : List Entry → ℕ → Option (List ℕ) → Type 0
-WasTold log t version = In (Then (Told (notice (Call t) (outcome.Granted (news.HasTurn version))))) log
+WasTold log t = VersionTold (Call t) log
 
 module _ (e : Errand) (given : ProducerMessageValues) (V W : Option (List ℕ) → Type 0) (f : (x : Option (List ℕ)) → V x → W x) where
   more : (m : ProducerMessageValues) → Versioned e given V m → Versioned e given W m
@@ -59,6 +77,39 @@ module _ (e : Errand) (given : ProducerMessageValues) (V W : Option (List ℕ) �
   plan_more (Leaving g) k = tt
   plan_more _ k = absurd k
 
+-- one that has its turn is told of no other
+module _ (e : Errand) (given : ProducerMessageValues) (who : Who) (log : List Entry) (u : Outcome) where
+  abbrev TurnNever : Option ℕ → Type 0
+  TurnNever held = (n : ℕ) → held ≡ Some n → is_turn_told u ≡ true → ⊥
+
+  abbrev Now : Option (List ℕ) → Type 0
+  Now = VersionTold who (Then (Told (notice who u)) ∷ log)
+
+  free : (x : Errand) (s : Send) → is_turn_told u ≡ true → TurnNever (holds_in x s) → MessageSo e given (VersionTold who log) s → MessageSo e given Now s
+  free x (send.Waiting m) turn never h = h
+  free x send.Sent turn never h = tt
+  free x (send.Ending f) turn never h = tt
+  free x (send.Drawing m) turn never h = absurd (never x.producer refl turn)
+  free x (send.Asked k) turn never h = absurd (never x.producer refl turn)
+  free x (send.Recalling m) turn never h = absurd (never x.producer refl turn)
+  free x (send.Looking m c l) turn never h = absurd (never x.producer refl turn)
+  free x (send.Making m c k) turn never h = absurd (never x.producer refl turn)
+  free x (send.Remaking m) turn never h = absurd (never x.producer refl turn)
+
+  pub message_told : (x : Errand) (s : Send) → TurnNever (holds_in x s) → MessageSo e given (VersionTold who log) s → MessageSo e given Now s
+  message_told x s never h = elim (cases_Bool (is_turn_told u)) [
+    | inl turn ↦ free x s turn never h
+    | inr none ↦ message_more e given (VersionTold who log) Now (λ v i. version_now who u log ∙ no_version u (version_told who log) none ∙ i) s h
+  ]
+
+  plan_told : (p : Plan) → TurnNever (holds p) → PlanSo e given (VersionTold who log) p → PlanSo e given Now p
+  plan_told (Sending w x None s) never k = (k.0, message_told x s never k.1)
+  plan_told (Sending w x (Some share) send.Sent) never k = (k.0, tt)
+  plan_told (Sending w x (Some share) s) never k = (k.0, message_told x s never k.1)
+  plan_told (Reporting w x) never k = k
+  plan_told (Leaving g) never k = tt
+  plan_told _ never k = absurd k
+
 -- what is told of commands asks for no message
 pub recall_plain : (v : View) (action : Action) (c : Command) → GivenBy v action (news.Recalled c) → is_message c.request ≡ false
 recall_plain v (Recall n) c h = at_row (v.producers.topics n) h
@@ -75,7 +126,7 @@ recall_plain v _ c h = absurd h
 news_told : (o : Options) (log : List Entry) (t : ℕ) (u : Outcome) → IsRun o (Then (Told (notice (Call t) u)) ∷ log) →
     (e : Errand) (given : ProducerMessageValues) →
     NewsSo e given (WasTold (Then (Told (notice (Call t) u)) ∷ log) t) (news_of u)
-news_told o log t (outcome.Granted (news.HasTurn version)) run e given = inl refl
+news_told o log t (outcome.Granted (news.HasTurn version)) run e given = version_now (Call t) (outcome.Granted (news.HasTurn version)) log
 news_told o log t (outcome.Granted (news.Recalled c)) run e given =
     let n : Notice = notice (Call t) (outcome.Granted (news.Recalled c)) in
     let k = granted_by o log n refl run in
@@ -110,13 +161,14 @@ module _ (o : Options) (t : ℕ) where
       (view o log).stand (Call t) ≡ Some b → PlansSo log b → told b u ≡ Stays p a → PlansSo (Then (Told (notice (Call t) u)) ∷ log) p
   goes_on log b u p a run s k leads w e share given h =
       let W : Option (List ℕ) → Type 0 = WasTold (Then (Told (notice (Call t) u)) ∷ log) t in
-      let was : PlanSo e given W b = plan_more e given (WasTold log t) W (λ v i. inr i) b (k w e share given h) in
+      let was : PlanSo e given W b =
+      plan_told e given (Call t) log u b (λ n held turn. call_told_none o log t n b u run s held turn) (k w e share given h) in
       (subst (StaysSo (λ r a. PlanSo e given W r × AsksSo e given W u r a)) leads (told_so e given W b u was (news_told o log t u run e given))).0
 
   plans_so : (log : List Entry) (p : Plan) → IsRun o log → (view o log).stand (Call t) ≡ Some p → PlansSo log p
   plans_so =
       stands_so o (Call t) (IsRun o) (run_older o) PlansSo
-      (λ x log p m run s k w e share given h. plan_more e given (WasTold log t) (WasTold (x ∷ log) t) (λ v i. inr i) p
+      (λ x log p m run s k w e share given h. plan_more e given (WasTold log t) (WasTold (x ∷ log) t) (λ v i. version_same (Call t) x log m ∙ i) p
       (k w e share given (sym (started_same x log m) ∙ h))) begun goes_on
 
 -- WHAT IT ASKS FOR
@@ -157,7 +209,8 @@ send_led o log t w e share given action run take h = elim (does_from o log (Call
         let h' : started (Call t) l.older ≡ Some (procedure.Send w e share given) = ap (started (Call t)) (sym l.is_there) ∙ h in
         let was : PlanSo e given (WasTold l.older t) l.before = plans_so o t l.older l.before run'.0 l.stood w e share given h' in
         let now : PlanSo e given (WasTold (Then (Told (notice (Call t) l.outcome)) ∷ l.older) t) l.before =
-        plan_more e given (WasTold l.older t) (WasTold (Then (Told (notice (Call t) l.outcome)) ∷ l.older) t) (λ v i. inr i) l.before was in
+        plan_told e given (Call t) l.older l.outcome l.before
+        (λ n held turn. call_told_none o l.older t n l.before l.outcome run' l.stood held turn) was in
         let so = told_so e given (WasTold (Then (Told (notice (Call t) l.outcome)) ∷ l.older) t) l.before l.outcome now
         (news_told o l.older t l.outcome run' e given) in
         let k = subst (StaysSo (λ q a. PlanSo e given (WasTold (Then (Told (notice (Call t) l.outcome)) ∷ l.older) t) q

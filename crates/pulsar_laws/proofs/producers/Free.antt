@@ -116,7 +116,7 @@ is_free (x ∷ xs) n lt r s = elim (cases_Bool ((x == n) && nat_lt n (2 ^ 64 - 1
 
 -- ALONG A LOG
 
-abbrev IsLow : Producers → Type 0
+abbrev pub IsLow : Producers → Type 0
 IsLow ps = Rising ps.named × (ps.next < 2 ^ 64)
 
 abbrev Kept : Producers → Producers → Type 0
@@ -190,7 +190,7 @@ after_low v (Does who Number) h = numbered_low v.producers h
 after_low v (Answers who verdict) h = made_low v who verdict.makes h
 after_low v _ h = h
 
-low_run : (o : Options) (log : List Entry) → o.chosen.first_number < 2 ^ 64 → IsLow (view o log).producers
+pub low_run : (o : Options) (log : List Entry) → o.chosen.first_number < 2 ^ 64 → IsLow (view o log).producers
 low_run o [] lt = (tt, lt)
 low_run o (Begins e ∷ log) lt = subst IsLow (sym (begun_same (λ v. v.producers) e (view o log) refl)) (low_run o log lt)
 low_run o (Then a ∷ log) lt = after_low (view o log) a (low_run o log lt)

@@ -116,7 +116,7 @@ at_most_none n h = elim (cases_Bool (n == 0)) [
 ]
 
 -- where a plan neither waits for a turn nor leaves
-clear_at : (o : Options) (log : List Entry) → IsRun o log → Turns o log → (t : ℕ) (p : Plan) → (view o log).stand (Call t) ≡ Some p → turn_of p ≡ None →
+pub clear_at : (o : Options) (log : List Entry) → IsRun o log → Turns o log → (t : ℕ) (p : Plan) → (view o log).stand (Call t) ≡ Some p → turn_of p ≡ None →
     is_leaving p ≡ false → IsClear o log t
 clear_at o log run k t p s n l = record {
   none_pends = at_most_none (pending o log (Call t)) (λ one. let i = k.told t one in no i.number (subst (IsAt i.number) s i.stands));
@@ -284,7 +284,7 @@ pub record IsPassing (o : Options) (log : List Entry) (who : Who) (n : ℕ) : Ty
   pub is_own : (u : ℕ) → IsTicket u → u ≡ taken_as who → Call u ≡ who
   pub is_producer : taken_as who ≡ behind_all → who ≡ Producer n
 
-holds_none : (p : Plan) (n : ℕ) → holds p ≡ Some n → (turn_of p ≡ None) × (is_leaving p ≡ false)
+pub holds_none : (p : Plan) (n : ℕ) → holds p ≡ Some n → (turn_of p ≡ None) × (is_leaving p ≡ false)
 holds_none (Sending w e share s) n h = sending share s h
   where
     sending : (share : Option Share) (s : Send) → holds (Sending w e share s) ≡ Some n →

@@ -80,7 +80,7 @@ keeps_more o log (Then (Told n)) t run k =
 keeps_more o log (Then a) t run k = let was : 1 ≤ counted (start_of t) log = k.began in record { began = omega (arith, was); waits = k.waits }
 
 -- one that stores
-store_keeps : (o : Options) (log : List Entry) (t n : ℕ) (entry : EntryValues) → IsRun o (Then (Does (Call t) (Store n entry)) ∷ log) → Keeps o log t
+pub store_keeps : (o : Options) (log : List Entry) (t n : ℕ) (entry : EntryValues) → IsRun o (Then (Does (Call t) (Store n entry)) ∷ log) → Keeps o log t
 store_keeps o log t n entry run =
     let k = does_fit o log (Call t) (Store n entry) refl run in
     let s = stores_so k.0 n entry k.1 in
@@ -88,17 +88,17 @@ store_keeps o log t n entry run =
 
 -- WHAT IS STORED
 
-no_store : (d : Deed) (n : ℕ) (entry : EntryValues) → Store n entry ≡ action_of d → ⊥
+pub no_store : (d : Deed) (n : ℕ) (entry : EntryValues) → Store n entry ≡ action_of d → ⊥
 no_store (deed.Does (wish.Get p)) n entry h = cc
 no_store (deed.Does (wish.Ask l request)) n entry h = cc
 no_store (deed.Does (wish.Wait delay)) n entry h = cc
 no_store _ n entry h = cc
 
-abbrev is_store : topic.Act → Bool
+abbrev pub is_store : topic.Act → Bool
 is_store (topic.Stores t entry) = true
 is_store _ = false
 
-abbrev NoStore : topic.Act → Type 0
+abbrev pub NoStore : topic.Act → Type 0
 NoStore act = is_store act ≡ false
 
 rung_none : (b : Bool) → Each NoStore (rung_by b)
@@ -113,11 +113,11 @@ shut_none : (n : ℕ) (ns : List ℕ) → Each NoStore (shut_by n ns)
 shut_none n [] = tt
 shut_none n (m ∷ ns) = each_either NoStore (n == m) (topic.Closes ∷ shut_by n ns) (shut_by n ns) (refl, shut_none n ns) (shut_none n ns)
 
-abbrev stores_it : Act → Bool
+abbrev pub stores_it : Act → Bool
 stores_it (Does who (Store n entry)) = true
 stores_it _ = false
 
-none_stored : (v : View) (n : ℕ) (a : Act) → stores_it a ≡ false → Each NoStore (topic_acts v n a)
+pub none_stored : (v : View) (n : ℕ) (a : Act) → stores_it a ≡ false → Each NoStore (topic_acts v n a)
 none_stored v n (Comes (Rings (Batch m))) h =
     each_either NoStore (n == m) (rung_by (rings v.now (Batch m) v.alarms)) [] (rung_none (rings v.now (Batch m) v.alarms)) tt
 none_stored v n (Does who (TakeTurn m)) h = each_either NoStore (n == m) (topic.Takes (turn_of who) ∷ []) [] (refl, tt) tt

@@ -27,7 +27,7 @@ drawn_in (build.Numbering p) = map number_of p.made
 drawn_in (build.Making c k number left made) = map number_of made ++ number ∷ []
 drawn_in (build.Closing left f) = []
 
-abbrev makes_producer : Makes → Bool
+abbrev pub makes_producer : Makes → Bool
 makes_producer (Producer made) = true
 makes_producer _ = false
 

@@ -13,15 +13,15 @@ use Rattle.pulsar_laws.specs.ProducerLaws.{SentOnce, asks_send, is_queued, queue
 use Rattle.pulsar_laws.proofs.calls.Once.{ends_once_lem}
 
 -- a plan may be told so still
-abbrev left_in : Send → ℕ
+abbrev pub left_in : Send → ℕ
 left_in send.Sent = 0
 left_in _ = 1
 
-abbrev left : Plan → ℕ
+abbrev pub left : Plan → ℕ
 left (Sending w e share s) = left_in s
 left _ = 0
 
-abbrev left_some : Option Plan → ℕ
+abbrev pub left_some : Option Plan → ℕ
 left_some None = 0
 left_some (Some p) = left p
 
@@ -66,7 +66,7 @@ told_left false p u h = elim (left_cases p) [
 
 -- ALONG A LOG
 
-abbrev Few : Options → List Entry → ℕ → Type 0
+abbrev pub Few : Options → List Entry → ℕ → Type 0
 Few o log t = queued_times o t log + left_some ((view o log).stand (Call t)) ≤ counted (start_of t) log
 
 few_told : (o : Options) (log : List Entry) (n : Notice) (t : ℕ) → Few o log t → Few o (Then (Told n) ∷ log) t
@@ -94,7 +94,7 @@ few_starts o log who p t k = elim (cases_Bool (is_same (Call t) who)) [
   | inr e ↦ rw e (omega (arith, k))
 ]
 
-few_run : (o : Options) (log : List Entry) (t : ℕ) → Few o log t
+pub few_run : (o : Options) (log : List Entry) (t : ℕ) → Few o log t
 few_run o [] t = omega arith
 few_run o (Begins e ∷ log) t =
     subst (λ r. queued_times o t log + left_some r ≤ counted (start_of t) log) (sym (begun_same (λ v. v.stand (Call t)) e (view o log) refl)) (few_run o log t)

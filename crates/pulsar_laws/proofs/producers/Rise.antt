@@ -1,6 +1,6 @@
 -- The numbers of the frames of a topic producer rise.
-use Rattle.std.proofs.Common.{◌≡◌, ◌∙◌, sym, ap, subst, ℕ, ◌+◌, ◌<◌, ◌≤◌, arith, List, [], ◌∷◌, ◌++◌, refl, Bool, true, false, cond, Option, Some, None}
-use Rattle.pulsar_laws.proofs.ActWords.{Ask, Call, Does, Draw, Told}
+use Rattle.std.proofs.Common.{◌≡◌, inl, inr, ◌∙◌, sym, ap, subst, ℕ, ◌+◌, ◌<◌, ◌≤◌, arith, List, [], ◌∷◌, ◌++◌, refl, Bool, true, false, cond, Option, Some, None}
+use Rattle.pulsar_laws.proofs.ActWords.{Ask, Call, Does, Draw, Notice, Producer, Told, Who}
 use Rattle.pulsar_laws.proofs.RunWords.{Begins, begun_same, Entry, IsRun, Options, Then, view}
 use Rattle.pulsar_messages.specs.Words as words
 use Rattle.pulsar_messages.specs.Claims.{is_spent}
@@ -9,7 +9,10 @@ use Rattle.pulsar_outgoing.specs.Storage.{Item, SingleMessage, Flush, is_ready, 
 use Rattle.pulsar_producer.specs.Topic.{Act as Deed, Takes, Passes, Draws, Remakes, Closes, Stores, Flushes, Cuts, TakesBatch, Halts, Seen, cuts, is_settled, left_of, stores, takes_in}
 use Rattle.pulsar_producer_table.specs.declared.table.Topic.{Topic}
 use Rattle.pulsar_laws.proofs.Cases.{cond_so}
+use Rattle.pulsar_laws.specs.BatchLaws.{AsksFrame, NumbersOfAllFramesRise}
 use Rattle.pulsar_laws.specs.ProducerLaws.{NumbersOfFramesRise, topic_acts}
+use Rattle.pulsar_laws.proofs.plans.Standing.{run_older}
+use Rattle.pulsar_laws.proofs.producers.BatchFrames.{drawn_for, frames_of_batches_lem}
 use Rattle.pulsar_laws.proofs.producers.Drawing.{drawn_run}
 use Rattle.pulsar_laws.proofs.producers.Frames.{IsFramed, frames_are_of_their_sends_lem, framed, it}
 use Rattle.pulsar_laws.proofs.links.Receipts.{run_behind}
@@ -118,3 +121,73 @@ numbers_of_frames_rise_lem o newer older t u l k n s r name alias m other block 
     let b = behind_two x (Then (Told a.told)) (Then (Does (Call t) (Draw a.drawn))) newer older a.behind refl refl refl a.there in
     let run3 : IsRun o (Then (Told a.told) ∷ Then (Does (Call t) (Draw a.drawn)) ∷ a.behind) = subst (IsRun o) a.there run.0 in
     rise_from o x older a.behind n e.producer first.0 a.before r s run3.0.0 b first.2 first.8 a.producer a.was a.number
+
+-- OF SENDS AND OF BATCHES
+
+-- the draw that stands before a frame
+record IsDrawnBefore (o : Options) (log : List Entry) (n s : ℕ) : Type 0 where
+  told : Notice
+  who : Who
+  drawn : ℕ
+  behind : List Entry
+  there : log ≡ Then (Told told) ∷ Then (Does who (Draw drawn)) ∷ behind
+  before : Topic
+  was : (view o behind).producers.topics n ≡ Some before
+  number : s ≡ before.seen.next
+
+drawn_before : (o : Options) (log : List Entry) (y : Entry) (n s : ℕ) → IsRun o (y ∷ log) → AsksFrame n s y log → IsDrawnBefore o log n s
+drawn_before o log y n s run (l, name, m, block, inl (t, w, f, share, given, is, h)) =
+    let r : IsRun o (Then (Does (Call t) (Ask l (words.Send n name s m block))) ∷ log) = subst (λ z. IsRun o (z ∷ log)) is run in
+    let a : IsFramed o log t l n s name m block w f share given r h =
+    framed o log t l n s name m block w f share given r h (it o log t l n s name m block w f share given r h) in
+    record {
+      told = a.told;
+      who = Call t;
+      drawn = a.drawn;
+      behind = a.behind;
+      there = a.there;
+      before = a.before;
+      was = ap (view o a.behind).producers.topics a.producer ∙ a.was;
+      number = a.number;
+    }
+drawn_before o log y n s run (l, name, m, block, inr (k, is)) =
+    let r : IsRun o (Then (Does (Producer k) (Ask l (words.Send n name s m block))) ∷ log) = subst (λ z. IsRun o (z ∷ log)) is run in
+    let a = drawn_for o log k l n s name m block r in
+    record {
+      told = a.told;
+      who = Producer k;
+      drawn = k;
+      behind = a.behind;
+      there = a.there;
+      before = a.before;
+      was = ap (view o a.behind).producers.topics a.own ∙ a.was;
+      number = a.number;
+    }
+
+-- and the number behind it
+record IsNextBehind (o : Options) (log : List Entry) (n r : ℕ) : Type 0 where
+  row : Topic
+  is_it : (view o log).producers.topics n ≡ Some row
+  next : row.seen.next ≡ r + 1
+
+next_behind : (o : Options) (older : List Entry) (x : Entry) (n r : ℕ) → IsRun o (x ∷ older) → AsksFrame n r x older → IsNextBehind o (x ∷ older) n r
+next_behind o older x n r run (l, name, m, block, inl (t, w, f, share, given, is, h)) =
+    let k = frames_are_of_their_sends_lem o older t l n r name m block w f share given (subst (λ z. IsRun o (z ∷ older)) is run) h in
+    subst (λ z. IsNextBehind o (z ∷ older) n r) (sym is) (record { row = k.0; is_it = k.2; next = k.8 })
+next_behind o older x n r run (l, name, m, block, inr (j, is)) =
+    let k = frames_of_batches_lem o older j l n r name m block (subst (λ z. IsRun o (z ∷ older)) is run) in
+    subst (λ z. IsNextBehind o (z ∷ older) n r) (sym is) (record { row = k.3; is_it = ap (view o older).producers.topics k.7 ∙ k.8; next = k.12 })
+
+asks_frame : (x : Entry) (older : List Entry) (n r : ℕ) → AsksFrame n r x older → is_ask x ≡ true
+asks_frame x older n r (l, name, m, block, inl (t, w, f, share, given, is, h)) = ap is_ask is
+asks_frame x older n r (l, name, m, block, inr (k, is)) = ap is_ask is
+
+pub numbers_of_all_frames_rise_lem : NumbersOfAllFramesRise
+numbers_of_all_frames_rise_lem o newer older x y n r s run first second =
+    let log : List Entry = newer ++ x ∷ older in
+    let run1 : IsRun o log = run_older o y log run in
+    let one : IsNextBehind o (x ∷ older) n r = next_behind o older x n r (run_behind o newer (x ∷ older) run1) first in
+    let a : IsDrawnBefore o log n s = drawn_before o log y n s run second in
+    let b = behind_two x (Then (Told a.told)) (Then (Does a.who (Draw a.drawn))) newer older a.behind (asks_frame x older n r first) refl refl a.there in
+    let run3 : IsRun o (Then (Told a.told) ∷ Then (Does a.who (Draw a.drawn)) ∷ a.behind) = subst (IsRun o) a.there run1 in
+    rise_from o x older a.behind n n one.row a.before r s run3.0.0 b one.is_it one.next refl a.was a.number

@@ -25,7 +25,7 @@ use Rattle.pulsar_acts.specs.Rules.{grants, takes_turn}
 use Rattle.pulsar_calls.specs.Who.{behind_all, in_turn}
 use Rattle.pulsar_laws.proofs.producers.Drawing.{Every, here}
 use Rattle.pulsar_laws.proofs.plans.Holding.{holds, is_turn_told}
-use Rattle.pulsar_laws.proofs.producers.InTurn.{AllTurns, IsAt, IsPassing, IsPending, IsTaking, IsTicket, OwnTurns, Turns, at_most_none, leaving_none, not_all, own_taking, own_waits, passing, self_same, stood_begun, stood_ticket, taking, who_same}
+use Rattle.pulsar_laws.proofs.producers.InTurn.{AllTurns, IsAt, IsPassing, IsPending, IsTaking, IsTicket, OwnTurns, Turns, at_most_none, clear_at, holds_none, leaving_none, not_all, own_taking, own_waits, passing, self_same, stood_begun, stood_ticket, taking, who_same}
 use Rattle.pulsar_laws.proofs.producers.Topics.{topics_alone_lem}
 use Rattle.pulsar_laws.proofs.producers.Turns.{once_none, pend_kept, pend_then, pending, sum, turn_act, turn_note}
 use Rattle.pulsar_laws.proofs.plans.Servers.{is_server, server_does, server_stands}
@@ -737,6 +737,26 @@ queued_in_turn_lem o log t w e share m run s =
     asked : (x : Option Share) → holds (Sending w e x (send.Asked m)) ≡ Some e.producer
     asked None = refl
     asked (Some y) = refl
+
+-- who has a turn is told of no other
+pub call_told_none : (o : Options) (log : List Entry) (t n : ℕ) (p : Plan) (u : Outcome) → IsRun o (Then (Told (notice (Call t) u)) ∷ log) →
+    (view o log).stand (Call t) ≡ Some p → holds p ≡ Some n → is_turn_told u ≡ true → ⊥
+call_told_none o log t n p u run s h turn =
+    let none = holds_none p n h in
+    let z : pending o log (Call t) ≡ 0 = (clear_at o log run.0 (here (AllTurns o) log (turns_run o log run.0)).calls t p s none.0 none.1).none_pends in
+    let e = pend_kept o log (Call t) (Told (notice (Call t) u)) refl refl run in
+    let f : turn_note (Call t) (notice (Call t) u) ≡ 1 =
+    ap (λ b. cond (b && is_turn_told u) 1 0) (self_same t) ∙ ap (λ b. cond b 1 0) turn in
+    omega (arith, z, e, f)
+
+pub own_told_none : (o : Options) (log : List Entry) (m n : ℕ) (p : Plan) (u : Outcome) → IsRun o (Then (Told (notice (Producer m) u)) ∷ log) →
+    (view o log).stand (Producer m) ≡ Some p → holds p ≡ Some n → is_turn_told u ≡ true → ⊥
+own_told_none o log m n p u run s h turn =
+    let z : pending o log (Producer m) ≡ 0 = ((here (AllTurns o) log (turns_run o log run.0)).own.held m n p s h).1 in
+    let e = pend_kept o log (Producer m) (Told (notice (Producer m) u)) refl refl run in
+    let f : turn_note (Producer m) (notice (Producer m) u) ≡ 1 =
+    ap (λ b. cond (b && is_turn_told u) 1 0) (who_same (Producer m)) ∙ ap (λ b. cond b 1 0) turn in
+    omega (arith, z, e, f)
 
 -- a topic producer has its turn from where it is told so until it passes it on
 pub own_in_turn : (o : Options) (log : List Entry) (m n : ℕ) (p : Plan) → IsRun o log → (view o log).stand (Producer m) ≡ Some p → holds p ≡ Some n →

@@ -1,0 +1,453 @@
+-- A flow that falls due is told to the plan of its consumer.
+use Rattle.std.proofs.Common.{◌≡◌, ◌⊎◌, inl, inr, ◌∙◌, sym, ap, subst, ℕ, ◌==◌, ◌&&◌, List, [], ◌∷◌, ◌++◌, refl, map, Bool, true, false, cond, nat_lt, Option, Some, None}
+use Rattle.std.proofs.lemmas.Bool.{cases_Bool, eqb-true}
+use Rattle.std.specs.BTreeSet.{insert_key}
+use Rattle.std.specs.List.{flat_map}
+use Rattle.std.specs.Option.{is_some, option_map, option_to_list}
+use Rattle.std.specs.Ordering.{match_ordering, nat_cmp}
+use Rattle.std.specs.declared.cmp.Ordering.TheVariants.{Less, Equal, Greater}
+use Rattle.pulsar_laws.proofs.ActWords.{Act, Answers, Arrival, Ask, Asked, Call, Calls, Comes, Consumer, Does, Ends, FailConsumer, FindConsumer, is_same, lacks_tickets, Makes, Notice, opens, Polls, Producer, Reads, Revive, shares, StopAll, TakeFlow, TakeNumber, ticket_of, Told, ToLink, Verdict, Who, Word}
+use Rattle.pulsar_laws.proofs.RunWords.{Arises, Begins, begun_same, consumers_after, consumers_made, Entry, In, InOne, joins, may_call, member_on, Options, rules, Then, turned, view, View}
+use Rattle.pulsar_laws.proofs.LinkWords.{answer_at, arrival_at, closed_consumer, closing, Failure, Fault, is_asked, is_body, Reply, Seat, url_at}
+use Rattle.url.specs.Parts.{Parts}
+use Rattle.pulsar_exchange.specs.Request.{named_consumer}
+use Rattle.pulsar_exchange.specs.declared.content.Subscribed.{Subscribed}
+use Rattle.pulsar_consumer.specs.Frames.{failed, frame_in}
+use Rattle.pulsar_consumer.specs.Topic as reader
+use Rattle.pulsar_consumer.specs.Topic.{Act as Done, Lives, Hears, Loses, Fails, Ends as Over, Polls as Polled, Asks, Live, Seen, after, asked, behind, ends as reader_ends, first_due, first_in, is_due, is_ended, lives_on, loses, resubscribes}
+use Rattle.pulsar_incoming.specs.declared.polled.Ending.TheVariants.{Closed, LinkLost, NotSubscribed, TopicEnded}
+use Rattle.pulsar_calls.specs.Content as content
+use Rattle.pulsar_calls.specs.declared.act.Arrival.TheVariants as arrivals
+use Rattle.pulsar_calls.specs.declared.act.Outcome.TheVariants as outcome
+use Rattle.pulsar_calls.specs.declared.act.Makes.TheVariants as makes
+use Rattle.pulsar_calls.specs.declared.act.Word.TheVariants as word
+use Rattle.pulsar_calls.specs.declared.content.Joining.{Joining}
+use Rattle.pulsar_consumer_table.specs.Consumers as consumer
+use Rattle.pulsar_consumer_table.specs.Consumers.{Consumers, Member, at_row, called_on, drew, ends_on, hears, hears_frame, holds, is_closed_by, member_after, names_in, next_free, numbering, opened_on, revived, word_if, word_of, word_of_frame}
+use Rattle.pulsar_consumer_table.specs.declared.numbers.Numbering.{Numbering}
+use Rattle.pulsar_consumer_table.specs.declared.numbers.Numbering.TheVariants.{Has, InUse, Spent}
+use Rattle.pulsar_consumer_table.specs.Notices.{again_at, due_at, due_to, heard_at, word_notice, word_to}
+use Rattle.pulsar_acts.specs.Reading.{heard_on, made_due}
+use Rattle.pulsar_acts.specs.Rules.{served_on, waiters_of}
+use Rattle.pulsar_acts.specs.View.{consumers_left, joins_as, setup_of}
+use Rattle.pulsar_links.specs.LinkRules.{answered_on}
+use Rattle.pulsar_laws.proofs.Cases.{none_some, some_is}
+use Rattle.pulsar_laws.proofs.Lists.{in_right, into_flat}
+use Rattle.pulsar_laws.proofs.consumers.Lone.{applied, arrival_done, joins_here, none_after}
+use Rattle.pulsar_laws.proofs.calls.Same.{same_self}
+use Rattle.pulsar_laws.proofs.consumers.Members.{either_number, left_rows, lost_gone, polled_number}
+use Rattle.pulsar_laws.specs.ConsumerLaws.{does_to, loss_does, subscription_does}
+
+-- THE TICKETS of all consumers are known
+
+in_new : (t : ℕ) (ts : List ℕ) → In t (insert_key nat_cmp ts t)
+in_new t [] = inl refl
+in_new t (x ∷ xs) = by (nat_lt t x) (t == x) refl (in_new t xs)
+  where
+    by : (a b : Bool) → (t == x) ≡ b → In t (insert_key nat_cmp xs t) →
+        In t (match_ordering (cond a Less (cond b Equal Greater)) (t ∷ x ∷ xs) (x ∷ xs) (x ∷ insert_key nat_cmp xs t))
+    by true b e k = inl refl
+    by false true e k = inl (eqb-true t x e)
+    by false false e k = inr k
+
+in_kept : (t u : ℕ) (ts : List ℕ) → In t ts → In t (insert_key nat_cmp ts u)
+in_kept t u [] i = absurd i
+in_kept t u (x ∷ xs) i = by (nat_lt u x) (u == x) i (in_kept t u xs)
+  where
+    by : (a b : Bool) → In t (x ∷ xs) → (In t xs → In t (insert_key nat_cmp xs u)) →
+        In t (match_ordering (cond a Less (cond b Equal Greater)) (u ∷ x ∷ xs) (x ∷ xs) (x ∷ insert_key nat_cmp xs u))
+    by true b i k = inr i
+    by false true i k = i
+    by false false (inl e) k = inl e
+    by false false (inr i) k = inr (k i)
+
+names_tickets : (number : Option ℕ) (cs : Consumers) → (names_in number cs).tickets ≡ cs.tickets
+names_tickets None cs = refl
+names_tickets (Some number) cs = refl
+
+opened_tickets : (asked : Asked) (cs : Consumers) → (opened_on asked cs).tickets ≡ cs.tickets
+opened_tickets (content.Raw l words) cs = names_tickets (named_consumer words) cs
+opened_tickets _ cs = refl
+
+called_tickets : (lacks is_open : Bool) (asked : Asked) (cs : Consumers) → (cond lacks cs (called_on is_open asked cs)).tickets ≡ cs.tickets
+called_tickets true is_open asked cs = refl
+called_tickets false true asked cs = opened_tickets asked cs
+called_tickets false false asked cs = refl
+
+drew_tickets : (free : ℕ) (wanted : Option ℕ) (cs : Consumers) → (drew free wanted cs).tickets ≡ cs.tickets
+drew_tickets free None cs = refl
+drew_tickets free (Some n) cs = refl
+
+holds_tickets : (t : ℕ) (x : Numbering) (cs : Consumers) → (holds t x cs).tickets ≡ cs.tickets
+holds_tickets t (Has n) cs = refl
+holds_tickets t InUse cs = refl
+holds_tickets t Spent cs = refl
+
+left_tickets : (who : Who) (cs : Consumers) → (consumers_left who cs).tickets ≡ cs.tickets
+left_tickets (Call t) cs = refl
+left_tickets (Consumer n t) cs = refl
+left_tickets (Producer n) cs = refl
+
+module _ (t : ℕ) where
+  abbrev Has' : Consumers → Type 0
+  Has' cs = In t cs.tickets
+
+  joins_has : (who : Who) (m : Member) (cs : Consumers) → Has' cs → Has' (joins_as who m cs)
+  joins_has (Call u) m cs h = in_kept t u cs.tickets h
+  joins_has (Consumer n u) m cs h = h
+  joins_has (Producer n) m cs h = h
+
+  made_has : (live : ℕ → Option Seat) (who : Who) (x : Makes) (cs : Consumers) → Has' cs → Has' (consumers_made live who x cs)
+  made_has live who (makes.Consumer j) cs h = joins_has who (member_on live j.link (setup_of j)) cs h
+  made_has live who (makes.RawConsumer l made) cs h = joins_has who (member_on live l (reader.of_raw made)) cs h
+  made_has live who makes.Nothing cs h = h
+  made_has live who makes.Client cs h = h
+  made_has live who (makes.Producer b) cs h = h
+
+  after_has : (v : View) (a : Act) → Has' v.consumers → Has' (consumers_after v a)
+  after_has v (Comes (Calls asked advice)) h =
+      subst (In t) (sym (called_tickets (lacks_tickets v.calls.drawn (shares asked)) (may_call v.calls) asked v.consumers)) h
+  after_has v (Does who (TakeNumber wanted)) h =
+      subst (In t)
+      (sym
+      (drew_tickets (next_free v.consumers) wanted (holds (ticket_of who) (numbering v.consumers wanted) v.consumers)
+      ∙ holds_tickets (ticket_of who) (numbering v.consumers wanted) v.consumers)) h
+  after_has v (Answers who verdict) h =
+      subst (In t) (sym (left_tickets who (consumers_made v.links.live who verdict.makes v.consumers)))
+      (made_has v.links.live who verdict.makes v.consumers h)
+  after_has v (Comes (ToLink l Reads)) h = h
+  after_has v (Comes (ToLink l (Ends end))) h = h
+  after_has v (Comes (Polls u)) h = h
+  after_has v (Does who (Ask l request)) h = h
+  after_has v (Does who (FindConsumer u)) h = h
+  after_has v (Does who TakeFlow) h = h
+  after_has v (Does who (Revive l)) h = h
+  after_has v (Does who (FailConsumer f)) h = h
+  after_has v (Does who StopAll) h = h
+  after_has v a h = h
+
+  -- one that joins
+  joins_new : (who : Who) (m n : Member) (cs : Consumers) → (joins_as who m cs).rows t ≡ Some n → (cs.rows t ≡ Some n) ⊎ Has' (joins_as who m cs)
+  joins_new (Call u) m n cs h = elim (cases_Bool (t == u)) [
+    | inl e ↦ inr (subst (λ x. In t (insert_key nat_cmp cs.tickets x)) (eqb-true t u e) (in_new t cs.tickets))
+    | inr e ↦ inl (rw e at h)
+  ]
+  joins_new (Consumer k u) m n cs h = inl h
+  joins_new (Producer k) m n cs h = inl h
+
+  made_new : (live : ℕ → Option Seat) (who : Who) (x : Makes) (n : Member) (cs : Consumers) → (consumers_made live who x cs).rows t ≡ Some n →
+      (cs.rows t ≡ Some n) ⊎ Has' (consumers_made live who x cs)
+  made_new live who (makes.Consumer j) n cs h = joins_new who (member_on live j.link (setup_of j)) n cs h
+  made_new live who (makes.RawConsumer l made) n cs h = joins_new who (member_on live l (reader.of_raw made)) n cs h
+  made_new live who makes.Nothing n cs h = inl h
+  made_new live who makes.Client n cs h = inl h
+  made_new live who (makes.Producer b) n cs h = inl h
+
+  other_has : (v : View) (a : Act) → ((who : Who) (verdict : Verdict) → a ≡ Answers who verdict → is_same (Call t) who ≡ false) →
+      ((m : Member) → v.consumers.rows t ≡ Some m → Has' v.consumers) → (n : Member) → (consumers_after v a).rows t ≡ Some n → Has' (consumers_after v a)
+  other_has v a other k n h = by (v.consumers.rows t) refl
+    where
+      by : (row : Option Member) → v.consumers.rows t ≡ row → Has' (consumers_after v a)
+      by None e = absurd (none_some (sym (none_after v t a other e) ∙ h))
+      by (Some m) e = after_has v a (k m e)
+
+  has_on : (v : View) (a : Act) → ((m : Member) → v.consumers.rows t ≡ Some m → Has' v.consumers) → (n : Member) →
+      (consumers_after v a).rows t ≡ Some n → Has' (consumers_after v a)
+  has_on v (Answers who verdict) k n h =
+      let cs : Consumers = consumers_made v.links.live who verdict.makes v.consumers in
+      let made : cs.rows t ≡ Some n = sym (ap (λ f. f t) (left_rows who cs)) ∙ h in
+      elim (made_new v.links.live who verdict.makes n v.consumers made) [
+        | inl e ↦ after_has v (Answers who verdict) (k n e)
+        | inr e ↦ subst (In t) (sym (left_tickets who cs)) e
+      ]
+  has_on v a k n h = other_has v a (λ who verdict f. absurd cc) k n h
+
+  pub has_ticket : (o : Options) (log : List Entry) (m : Member) → (view o log).consumers.rows t ≡ Some m → In t (view o log).consumers.tickets
+  has_ticket o [] m h = absurd (none_some h)
+  has_ticket o (Begins e ∷ log) m h =
+      let same = begun_same (λ v. v.consumers) e (view o log) refl in
+      subst (λ (cs : Consumers). In t cs.tickets) (sym same) (has_ticket o log m (sym (ap (λ (cs : Consumers). cs.rows t) same) ∙ h))
+  has_ticket o (Then a ∷ log) m h = has_on (view o log) a (λ n e. has_ticket o log n e) m h
+
+-- ITS NUMBER stays
+
+after_number : (act : Done) (v : Seen) → (after act v).number ≡ v.number
+after_number (Lives l url) v = either_number (is_ended v) v _ v.number refl refl
+after_number (Hears l f) v = either_number (lives_on l v) _ v v.number refl refl
+after_number (Loses l) v =
+    either_number (lives_on l v) (loses v) v v.number
+    (either_number v.is_raw (reader_ends LinkLost v) (record v { engine = record v.engine { live = None } }) v.number refl refl) refl
+after_number (Fails f) v = either_number (is_ended v) v _ v.number refl refl
+after_number (Over why) v = refl
+after_number (Polled clock) v = polled_number clock v
+after_number Asks v = refl
+
+pub applied_number : (xs : List Done) (s : Seen) → (applied xs s).number ≡ s.number
+applied_number [] s = refl
+applied_number (x ∷ xs) s = after_number x (applied xs s) ∙ applied_number xs s
+
+-- WHAT MAKES NO FLOW DUE
+
+abbrev Falls : List Done → Seen → Type 0
+Falls xs s = is_due (applied xs s) ≡ true → is_due s ≡ true
+
+falls_either : (b : Bool) (xs : List Done) (s : Seen) → Falls xs s → Falls (cond b xs []) s
+falls_either true xs s k h = k h
+falls_either false xs s k h = h
+
+lost_due : (v : Seen) → is_due (loses v) ≡ true → ⊥
+lost_due v h = let e : is_due (loses v) ≡ false = ap (λ l. is_some (first_due l)) (lost_gone v) in let f : true ≡ false = sym h ∙ e in cc
+
+falls_loses : (l : ℕ) (s : Seen) → Falls (Loses l ∷ []) s
+falls_loses l s h = by (lives_on l s) h
+  where
+    by : (b : Bool) → is_due (cond b (loses s) s) ≡ true → is_due s ≡ true
+    by true k = absurd (lost_due s k)
+    by false k = k
+
+falls_fails : (f : Failure) (s : Seen) → Falls (Fails f ∷ []) s
+falls_fails f s h = by (is_ended s) h
+  where
+    by : (b : Bool) → is_due (cond b s (reader_ends NotSubscribed (record s { engine = reader.hears (failed f) s.engine }))) ≡ true → is_due s ≡ true
+    by true k = k
+    by false k = absurd cc
+
+falls_asks : (s : Seen) → Falls (Asks ∷ []) s
+falls_asks s h = by s.engine.live h
+  where
+    by_due : (d : List ℕ) → is_some (first_in (behind d)) ≡ true → is_some (first_in d) ≡ true
+    by_due [] k = absurd cc
+    by_due (n ∷ ns) k = refl
+
+    by : (x : Option Live) → is_some (first_due (option_map asked x)) ≡ true → is_some (first_due x) ≡ true
+    by None k = absurd cc
+    by (Some l) k = by_due l.due k
+
+-- the acts that may make one due
+abbrev pub is_waker : Act → Bool
+is_waker (Comes (ToLink l Reads)) = true
+is_waker (Comes (Polls t)) = true
+is_waker (Does who (Revive l)) = true
+is_waker _ = false
+
+pub falls_due : (v : View) (t : ℕ) (m : Member) (a : Act) → is_waker a ≡ false → is_due (applied (does_to v t m a) m.seen) ≡ true → is_due m.seen ≡ true
+falls_due v t m (Comes (ToLink l Reads)) w h = absurd cc
+falls_due v t m (Comes (Polls u)) w h = absurd cc
+falls_due v t m (Does who (Revive l)) w h = absurd cc
+falls_due v t m (Comes (ToLink l (Ends end))) w h = by (closing end v.now (v.links.live l)) h
+  where
+    by : (c : Option Fault) → is_due (applied (loss_does l c) m.seen) ≡ true → is_due m.seen ≡ true
+    by None k = k
+    by (Some cause) k = falls_loses l m.seen k
+falls_due v t m (Does who (Ask l request)) w h =
+    falls_either (is_asked (answer_at v.now request (v.links.live l)) && is_closed_by (closed_consumer request) l m) (Over Closed ∷ []) m.seen
+    (λ k. absurd cc) h
+falls_due v t m (Does who TakeFlow) w h = falls_either (t == ticket_of who) (Asks ∷ []) m.seen (falls_asks m.seen) h
+falls_due v t m (Does who (FailConsumer f)) w h = falls_either (t == ticket_of who) (Fails f ∷ []) m.seen (falls_fails f m.seen) h
+falls_due v t m (Does who StopAll) w h = absurd cc
+falls_due v t m a w h = h
+
+-- WHERE ONE FALLS DUE its plan is told so
+
+abbrev pub due_to_plan : (number ticket : ℕ) → Act
+due_to_plan n t = Told (record { who = Consumer n t; outcome = outcome.Word word.Due })
+
+told_in : (n : Notice) (ns : List Notice) → In n ns → In (Told n) (map Told ns)
+told_in n [] i = absurd i
+told_in n (x ∷ ns) (inl e) = inl (ap Told e)
+told_in n (x ∷ ns) (inr i) = inr (told_in n ns i)
+
+due_there : (t : ℕ) (m : Member) → is_due m.seen ≡ true → In (due_to_plan m.seen.number t) (map Told (due_at t (Some m)))
+due_there t m h =
+    let one : due_to t m ≡ word_notice t m word.Due ∷ [] = ap (λ b. word_to t m (word_if b word.Due)) h in
+    subst (λ ns. In (due_to_plan m.seen.number t) (map Told (ns ++ []))) (sym one) (inl refl)
+
+due_append : (n t : ℕ) (xs ys : List Notice) → In (due_to_plan n t) (map Told ys) → In (due_to_plan n t) (map Told (xs ++ ys))
+due_append n t [] ys i = i
+due_append n t (x ∷ xs) ys i = inr (due_append n t xs ys i)
+
+opened_in : (n : Notice) (ns : List Notice) → In n ns → InOne (Told n) (map (map Told) (opens ns))
+opened_in n [] i = absurd i
+opened_in n (x ∷ ns) i = inl (told_in n (x ∷ ns) i)
+
+-- a frame makes one due only with word of that
+module _ (l : ℕ) (r : Reply) (m : Member) where
+  ended_due : (b : Bool) → is_due (cond b (member_after (Over TopicEnded) m) m).seen ≡ true → is_due m.seen ≡ true
+  ended_due true k = absurd cc
+  ended_due false k = k
+
+  abbrev heard_by : (a b c : Bool) → Member
+  heard_by a b c = cond a (member_after (Hears l (frame_in r)) m) (cond b (ends_on l TopicEnded m) (cond c (member_after (Loses l) m) m))
+
+  abbrev worded_by : (a b c : Bool) → Option Word
+  worded_by a b c =
+      cond a (word_if (lives_on l m.seen && is_due (heard_by a b c).seen) word.Due)
+      (cond b (word_if (resubscribes l m.seen) (word.TopicEnded l)) (cond c (word_if (resubscribes l m.seen) word.Lost) None))
+
+  message_word : (on : Bool) → lives_on l m.seen ≡ on → is_due (member_after (Hears l (frame_in r)) m).seen ≡ true →
+      (word_if (lives_on l m.seen && is_due (member_after (Hears l (frame_in r)) m).seen) word.Due ≡ Some word.Due) ⊎ (is_due m.seen ≡ true)
+  message_word true e h =
+      inl (ap (λ b. word_if (b && is_due (member_after (Hears l (frame_in r)) m).seen) word.Due) e ∙ ap (λ b. word_if b word.Due) h)
+  message_word false e h = inr (sym (ap (λ b. is_due (cond b (record m.seen { engine = reader.hears (frame_in r) m.seen.engine }) m.seen)) e) ∙ h)
+
+  frame_by : (a b c : Bool) → is_due (heard_by a b c).seen ≡ true → (worded_by a b c ≡ Some word.Due) ⊎ (is_due m.seen ≡ true)
+  frame_by true b c h = message_word (lives_on l m.seen) refl h
+  frame_by false true c h = inr (ended_due (lives_on l m.seen) h)
+  frame_by false false true h = inr (falls_loses l m.seen h)
+  frame_by false false false h = inr h
+
+  frame_word : is_due (hears_frame l r m).seen ≡ true → (word_of_frame l r m ≡ Some word.Due) ⊎ (is_due m.seen ≡ true)
+  frame_word h = frame_by (is_body 9 r.content.body) (is_body 27 r.content.body) (is_body 16 r.content.body) h
+
+heard_word : (l : ℕ) (a : Arrival) (m : Member) → is_due (hears l a m).seen ≡ true → (word_of l a m ≡ Some word.Due) ⊎ (is_due m.seen ≡ true)
+heard_word l (arrivals.Gives n r) m h = by (m.seen.number == n) h
+  where
+    by : (b : Bool) → is_due (cond b (hears_frame l r m) m).seen ≡ true → (cond b (word_of_frame l r m) None ≡ Some word.Due) ⊎ (is_due m.seen ≡ true)
+    by true k = frame_word l r m k
+    by false k = inr k
+heard_word l arrivals.Nothing m h = inr h
+heard_word l arrivals.Readied m h = inr h
+heard_word l arrivals.Settles m h = inr h
+heard_word l arrivals.Passes m h = inr h
+heard_word l (arrivals.Bad cause) m h = inr h
+
+module _ (o : Options) (log : List Entry) (t : ℕ) (m : Member) (there : (view o log).consumers.rows t ≡ Some m) where
+  abbrev v : View
+  v = view o log
+
+  abbrev Rises : Act → Type 0
+  Rises a = Arises rules o (due_to_plan m.seen.number t) (Then a) log ⊎ (is_due m.seen ≡ true)
+
+  -- what is seen of its number behind an act
+  renamed : (n : Member) (xs : List Notice) → n.seen.number ≡ m.seen.number → In (due_to_plan n.seen.number t) (map Told xs) →
+      In (due_to_plan m.seen.number t) (map Told xs)
+  renamed n xs e i = subst (λ k. In (due_to_plan k t) (map Told xs)) e i
+
+  reads_due : (l : ℕ) → is_due (hears l (arrival_at (v.links.live l)) m).seen ≡ true → Rises (Comes (ToLink l Reads))
+  reads_due l h = elim (heard_word l (arrival_at (v.links.live l)) m h) [
+    | inr d ↦ inr d
+    | inl w ↦
+        (let a : Arrival = arrival_at (v.links.live l) in
+        let one : heard_at l a t m ≡ word_notice t m word.Due ∷ [] = ap (word_to t m) w in
+        let own : In (word_notice t m word.Due) (at_row (heard_at l a) v.consumers.rows t) =
+        subst (λ row. In (word_notice t m word.Due) (flat_map (heard_at l a t) (option_to_list row))) (sym there)
+        (subst (λ ns. In (word_notice t m word.Due) (ns ++ [])) (sym one) (inl refl)) in
+        let all : In (word_notice t m word.Due) (heard_on v l) =
+        into_flat (at_row (heard_at l a) v.consumers.rows) t (word_notice t m word.Due) v.consumers.tickets (has_ticket t o log m there) own in
+        let front : List Notice = answered_on (v.links.live l) ++ waiters_of served_on v.addresses (turned v (Comes (ToLink l Reads))) in
+        inl (inr (inr (inl (opened_in (word_notice t m word.Due) (front ++ heard_on v l) (in_right (word_notice t m word.Due) front (heard_on v l) all))))))
+  ]
+
+  polls_due : (u : ℕ) → is_due (applied (cond (t == u) (Polled v.now ∷ []) []) m.seen) ≡ true → Rises (Comes (Polls u))
+  polls_due u h = elim (cases_Bool (t == u)) [
+    | inr e ↦ inr (sym (ap (λ b. is_due (applied (cond b (Polled v.now ∷ []) []) m.seen)) e) ∙ h)
+    | inl e ↦
+        (let n : Member = member_after (Polled v.now) m in
+        let d : is_due n.seen ≡ true = sym (ap (λ b. is_due (applied (cond b (Polled v.now ∷ []) []) m.seen)) e) ∙ h in
+        let i : In (due_to_plan m.seen.number t) (map Told (due_at t (option_map (member_after (Polled v.now)) (v.consumers.rows t)))) =
+        subst (λ row. In (due_to_plan m.seen.number t) (map Told (due_at t (option_map (member_after (Polled v.now)) row)))) (sym there)
+        (renamed n (due_at t (Some n)) (polled_number v.now m.seen) (due_there t n d)) in
+        inl (subst (λ x. Arises rules o (due_to_plan m.seen.number t) (Then (Comes (Polls x))) log) (eqb-true t u e) (inr (inl i))))
+  ]
+
+  pub revived_due : (who : Who) (l : ℕ) → (t == ticket_of who) ≡ true → is_due (applied (subscription_does l (url_at (v.links.live l))) m.seen) ≡ true →
+      Arises rules o (due_to_plan m.seen.number t) (Then (Does who (Revive l))) log
+  revived_due who l e h =
+      let url : Option Parts = url_at (v.links.live l) in
+      let n : Member = revived l url m in
+      let i : In (due_to_plan m.seen.number t) (map Told (due_at t (Some n))) =
+      renamed n (due_at t (Some n)) (seen_number url) (due_there t n (ap is_due (seen_so url) ∙ h)) in
+      let j : In (due_to_plan m.seen.number t) (map Told (again_at (v.consumers.rows t) ++ due_at t (option_map (revived l url) (v.consumers.rows t)))) =
+      due_append m.seen.number t (again_at (v.consumers.rows t)) (due_at t (option_map (revived l url) (v.consumers.rows t)))
+      (subst (λ row. In (due_to_plan m.seen.number t) (map Told (due_at t (option_map (revived l url) row)))) (sym there) i) in
+      inr (inl (subst (λ x. In (due_to_plan m.seen.number t) (map Told (again_at (v.consumers.rows x) ++ due_at x (option_map (revived l url) (v.consumers.rows x)))))
+      (eqb-true t (ticket_of who) e) j))
+    where
+      seen_so : (url : Option Parts) → (revived l url m).seen ≡ applied (subscription_does l url) m.seen
+      seen_so None = refl
+      seen_so (Some u) = refl
+
+      seen_number : (url : Option Parts) → (revived l url m).seen.number ≡ m.seen.number
+      seen_number url = ap (λ (s : Seen). s.number) (seen_so url) ∙ applied_number (subscription_does l url) m.seen
+
+  revive_due : (who : Who) (l : ℕ) → is_due (applied (cond (t == ticket_of who) (subscription_does l (url_at (v.links.live l))) []) m.seen) ≡ true →
+      Rises (Does who (Revive l))
+  revive_due who l h = elim (cases_Bool (t == ticket_of who)) [
+    | inr e ↦ inr (sym (ap (λ b. is_due (applied (cond b (subscription_does l (url_at (v.links.live l))) []) m.seen)) e) ∙ h)
+    | inl e ↦ inl (revived_due who l e (sym (ap (λ b. is_due (applied (cond b (subscription_does l (url_at (v.links.live l))) []) m.seen)) e) ∙ h))
+  ]
+
+  pub rises : (a : Act) → is_waker a ≡ true → is_due (applied (does_to v t m a) m.seen) ≡ true → Rises a
+  rises (Comes (ToLink l Reads)) w h = reads_due l (ap is_due (arrival_done l (arrival_at (v.links.live l)) m) ∙ h)
+  rises (Comes (Polls u)) w h = polls_due u h
+  rises (Does who (Revive l)) w h = revive_due who l h
+  rises a w h = absurd cc
+
+-- and where a consumer is made
+call_due : (v : View) (t : ℕ) (verdict : Verdict) (j : Joining) (n : Member) → verdict.makes ≡ makes.Consumer j →
+    (joins_as (Call t) (member_on v.links.live j.link (setup_of j)) v.consumers).rows t ≡ Some n → is_due n.seen ≡ true →
+    In (due_to_plan n.seen.number t) (map Told (joins v (Answers (Call t) verdict)))
+call_due v t verdict j n made is h =
+    let it : Member = member_on v.links.live j.link (setup_of j) in
+    let same : it ≡ n = some_is (sym (joins_here (Call t) it v.consumers t (same_self (Call t))) ∙ is) in
+    let one : due_to t n ≡ word_notice t n word.Due ∷ [] = ap (λ b. word_to t n (word_if b word.Due)) h in
+    subst (λ x. In (due_to_plan n.seen.number t) (map Told (made_due v.links.live (Call t) x))) (sym made)
+    (subst (λ x. In (due_to_plan n.seen.number t) (map Told (due_to t x))) (sym same)
+    (subst (λ ns. In (due_to_plan n.seen.number t) (map Told ns)) (sym one) (inl refl)))
+
+-- a raw one asks for no flow
+raw_none : (live : ℕ → Option Seat) (l : ℕ) (made : Subscribed) → is_due (member_on live l (reader.of_raw made)).seen ≡ true → ⊥
+raw_none live l made h = by (url_at (live l)) h
+  where
+    by : (url : Option Parts) → is_due (consumer.member_of (reader.of_raw made) l url).seen ≡ true → ⊥
+    by None k = cc
+    by (Some u) k = cc
+
+pub made_due_so : (v : View) (t : ℕ) (who : Who) (verdict : Verdict) (n : Member) → v.consumers.rows t ≡ None →
+    (consumers_after v (Answers who verdict)).rows t ≡ Some n → is_due n.seen ≡ true →
+    In (due_to_plan n.seen.number t) (map Told (joins v (Answers who verdict)))
+made_due_so v t who verdict n none is h =
+    by verdict.makes refl (sym (ap (λ f. f t) (left_rows who (consumers_made v.links.live who verdict.makes v.consumers))) ∙ is)
+  where
+    old : {A : Type 0} → v.consumers.rows t ≡ Some n → A
+    old e = absurd (none_some (sym none ∙ e))
+
+    joined_by : (who : Who) (j : Joining) → verdict.makes ≡ makes.Consumer j →
+        (joins_as who (member_on v.links.live j.link (setup_of j)) v.consumers).rows t ≡ Some n →
+        In (due_to_plan n.seen.number t) (map Told (joins v (Answers who verdict)))
+    joined_by (Call u) j made e = elim (cases_Bool (t == u)) [
+      | inl same ↦
+          subst (λ x. In (due_to_plan n.seen.number t) (map Told (joins v (Answers (Call x) verdict)))) (eqb-true t u same)
+          (call_due v t verdict j n made (subst (λ x. (joins_as (Call x) (member_on v.links.live j.link (setup_of j)) v.consumers).rows t ≡ Some n)
+          (sym (eqb-true t u same)) e) h)
+      | inr other ↦ old (rw other at e)
+    ]
+    joined_by (Consumer k u) j made e = old e
+    joined_by (Producer k) j made e = old e
+
+    raw_by : (who : Who) (l : ℕ) (made : Subscribed) → (joins_as who (member_on v.links.live l (reader.of_raw made)) v.consumers).rows t ≡ Some n →
+        In (due_to_plan n.seen.number t) (map Told (joins v (Answers who verdict)))
+    raw_by (Call u) l made e = elim (cases_Bool (t == u)) [
+      | inl same ↦
+          (let it : Some (member_on v.links.live l (reader.of_raw made)) ≡ Some n = rw same at e in
+          absurd (raw_none v.links.live l made (ap (λ (x : Member). is_due x.seen) (some_is it) ∙ h)))
+      | inr other ↦ old (rw other at e)
+    ]
+    raw_by (Consumer k u) l made e = old e
+    raw_by (Producer k) l made e = old e
+
+    by : (x : Makes) → verdict.makes ≡ x → (consumers_made v.links.live who x v.consumers).rows t ≡ Some n →
+        In (due_to_plan n.seen.number t) (map Told (joins v (Answers who verdict)))
+    by (makes.Consumer j) made e = joined_by who j made e
+    by (makes.RawConsumer l made) f e = raw_by who l made e
+    by makes.Nothing made e = old e
+    by makes.Client made e = old e
+    by (makes.Producer b) made e = old e
+
+pub built_due : (v : View) (t : ℕ) (verdict : Verdict) (j : Joining) (n : Member) → verdict.makes ≡ makes.Consumer j →
+    (consumers_after v (Answers (Call t) verdict)).rows t ≡ Some n → is_due n.seen ≡ true →
+    In (due_to_plan n.seen.number t) (map Told (joins v (Answers (Call t) verdict)))
+built_due v t verdict j n made is h =
+    call_due v t verdict j n made
+    (ap (λ x. (consumers_made v.links.live (Call t) x v.consumers).rows t) (sym made)
+    ∙ sym (ap (λ f. f t) (left_rows (Call t) (consumers_made v.links.live (Call t) verdict.makes v.consumers))) ∙ is) h

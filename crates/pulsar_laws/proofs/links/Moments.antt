@@ -1,0 +1,151 @@
+-- An alarm stands at the moment to which the newest act set it that set or cleared it.
+use Rattle.std.proofs.Common.{◌≡◌, inl, inr, ◌∙◌, sym, ap, subst, ℕ, List, [], ◌∷◌, refl, Bool, true, false, ◌&&◌, ◌||◌, not, cond, Option, Some, None}
+use Rattle.std.proofs.lemmas.Bool.{cases_Bool}
+use Rattle.std.proofs.lemmas.Map.Entries.{lookup-filter-keys}
+use Rattle.std.specs.Cmp.{eq_by_cmp_equiv}
+use Rattle.std.specs.List.{list_any}
+use Rattle.std.specs.Ordering.{is_eq, match_ordering}
+use Rattle.std.specs.declared.cmp.Ordering.{Ordering}
+use Rattle.std.specs.declared.cmp.Ordering.TheVariants.{Less, Equal, Greater}
+use Rattle.pulsar_laws.proofs.ActWords.{Act, Alarm, Answers, Batch, CheckIdle, Comes, Does, Flush, KeepAlive, Retry, Rings, Shut, StopAll, Store, ToLink, turn_of, Wait, Wake}
+use Rattle.pulsar_laws.proofs.RunWords.{Begins, begun_same, Chosen, Then, Turned, turned, view, View}
+use Rattle.pulsar_laws.proofs.LinkWords.{Becomes, Change, IsOver, Pause, Remains, rings}
+use Rattle.pulsar_producer.specs.Topic as topic
+use Rattle.pulsar_producer_table.specs.declared.table.Topic.{Topic}
+use Rattle.pulsar_producer_table.specs.Producers.{is_bare, numbers_at, timeout_at}
+use Rattle.pulsar_links.specs.Alarms.{alarm_cmp, clear, is_same_alarm, moment_of, set}
+use Rattle.pulsar_links.proofs.Ringing.{alarm_total, exact_alarm, is_this}
+use Rattle.pulsar_links.specs.Seats.{later}
+use Rattle.pulsar_acts.specs.View.{alarms_after, alarms_on, alarms_over, alarms_rung, alarms_turned, alarms_waiting, builds, clear_all, delay_of}
+use Rattle.pulsar_laws.specs.RetryLaws.{MomentsAreSet, cleared_on, clears, is_over, moment_by, row_with, set_again, set_by, set_on, set_stored, sets}
+
+-- ONE THAT IS SET, AND ONE THAT IS CLEARED
+
+set_moment : (a b : Alarm) (m : ℕ) (es : List (Alarm × ℕ)) → moment_of a (set b m es) ≡ cond (is_same_alarm a b) (Some m) (moment_of a es)
+set_moment a b m [] = refl
+set_moment a b m (e ∷ es) = by (alarm_cmp b e.0) refl (set_moment a b m es)
+  where
+    twice : (c : Bool) (x : Option ℕ) → cond c (Some m) x ≡ cond c (Some m) (cond c (Some e.1) x)
+    twice true x = refl
+    twice false x = refl
+
+    -- no alarm is both of them
+    apart : alarm_cmp b e.0 ≡ Greater → is_same_alarm a b ≡ true → is_same_alarm a e.0 ≡ true → ⊥
+    apart h z y =
+        let same : b ≡ e.0 = sym (is_this a b z) ∙ is_this a e.0 y in
+        let q : is_same_alarm b e.0 ≡ true = subst (λ x. is_same_alarm b x ≡ true) same ((eq_by_cmp_equiv alarm_total).refl b) in
+        let f : true ≡ false = sym q ∙ ap is_eq h in
+        cc
+
+    by : (r : Ordering) → alarm_cmp b e.0 ≡ r → moment_of a (set b m es) ≡ cond (is_same_alarm a b) (Some m) (moment_of a es) →
+        moment_of a (match_ordering r ((b, m) ∷ e ∷ es) ((e.0, m) ∷ es) (e ∷ set b m es))
+        ≡ cond (is_same_alarm a b) (Some m) (cond (is_same_alarm a e.0) (Some e.1) (moment_of a es))
+    by Less h more = refl
+    by Equal h more =
+        subst (λ x. cond (is_same_alarm a e.0) (Some m) (moment_of a es) ≡ cond (is_same_alarm a x) (Some m) (cond (is_same_alarm a e.0) (Some e.1) (moment_of a es)))
+        (sym (exact_alarm b e.0 h)) (twice (is_same_alarm a e.0) (moment_of a es))
+    by Greater h more = elim (cases_Bool (is_same_alarm a e.0)) [
+      | inl y ↦ elim (cases_Bool (is_same_alarm a b)) [ inl z ↦ absurd (apart h z y) | inr z ↦ rw (y, z) refl ]
+      | inr y ↦ rw y more
+    ]
+
+clear_moment : (a b : Alarm) (es : List (Alarm × ℕ)) → moment_of a (clear b es) ≡ cond (is_same_alarm a b) None (moment_of a es)
+clear_moment a b es =
+    lookup-filter-keys (is_same_alarm a) (λ k. not (is_same_alarm b k)) (not (is_same_alarm b a))
+    (λ k h. ap (λ z. not (is_same_alarm b z)) (sym (is_this a k h))) es
+    ∙ flip (is_same_alarm b a) (moment_of a es)
+    ∙ ap (λ c. cond c None (moment_of a es)) ((eq_by_cmp_equiv alarm_total).symm b a)
+  where
+    flip : (c : Bool) (x : Option ℕ) → cond (not c) x None ≡ cond c None x
+    flip true x = refl
+    flip false x = refl
+
+clear_all_moment : (a : Alarm) (ns : List ℕ) (es : List (Alarm × ℕ)) →
+    moment_of a (clear_all ns es) ≡ cond (list_any (λ n. is_same_alarm a (Batch n)) ns) None (moment_of a es)
+clear_all_moment a [] es = refl
+clear_all_moment a (n ∷ ns) es =
+    clear_all_moment a ns (clear (Batch n) es)
+    ∙ ap (λ x. cond (list_any (λ k. is_same_alarm a (Batch k)) ns) None x) (clear_moment a (Batch n) es)
+    ∙ joined (is_same_alarm a (Batch n)) (list_any (λ k. is_same_alarm a (Batch k)) ns) (moment_of a es)
+  where
+    joined : (x y : Bool) (r : Option ℕ) → cond y None (cond x None r) ≡ cond (x || y) None r
+    joined true true r = refl
+    joined true false r = refl
+    joined false y r = refl
+
+-- WHAT AN ACT DOES TO THEM
+
+set_cleared : (c : Bool) (m : ℕ) (r : Option ℕ) → cond c (Some m) r ≡ cond c (Some m) (cond c None r)
+set_cleared true m r = refl
+set_cleared false m r = refl
+
+module _ (now : ℕ) (a : Alarm) (es : List (Alarm × ℕ)) where
+  abbrev Is : Option (Alarm × ℕ) → Bool → List (Alarm × ℕ) → Type 0
+  Is s c later = moment_of a later ≡ moment_by now s c a (moment_of a es)
+
+  over_moment : (o : Chosen) (l : ℕ) (pause : Option Pause) →
+      Is (set_by o l IsOver pause) (is_same_alarm a (KeepAlive l)) (alarms_over o now l pause (clear (KeepAlive l) es))
+  over_moment o l None = clear_moment a (KeepAlive l) es
+  over_moment o l (Some p) =
+      set_moment a (Retry l) (later now (delay_of o l p)) (clear (KeepAlive l) es)
+      ∙ ap (λ x. cond (is_same_alarm a (Retry l)) (Some (later now (delay_of o l p))) x) (clear_moment a (KeepAlive l) es)
+
+  turned_moment : (o : Chosen) (l : ℕ) (c : Change) (pause : Option Pause) →
+      Is (set_by o l c pause) (is_over c && is_same_alarm a (KeepAlive l)) (alarms_turned o now l c pause es)
+  turned_moment o l Remains pause = refl
+  turned_moment o l Becomes pause = set_moment a (KeepAlive l) (later now o.connection.keep_alive) es
+  turned_moment o l IsOver pause = over_moment o l pause
+
+  on_moment : (o : Chosen) (t : Option Turned) → Is (set_on o t) (cleared_on t a) (alarms_on o now t es)
+  on_moment o None = refl
+  on_moment o (Some t) = turned_moment o t.link t.change t.pause
+
+  again_moment : (o : Chosen) (b : Alarm) → Is (set_again o b) (is_same_alarm a b) (alarms_rung o now b es)
+  again_moment o (Retry l) = clear_moment a (Retry l) es
+  again_moment o (Wake who) = clear_moment a (Wake who) es
+  again_moment o (Batch n) = clear_moment a (Batch n) es
+  again_moment o (KeepAlive l) =
+      set_moment a (KeepAlive l) (later now o.connection.keep_alive) es
+      ∙ set_cleared (is_same_alarm a (KeepAlive l)) (later now o.connection.keep_alive) (moment_of a es)
+  again_moment o CheckIdle =
+      set_moment a CheckIdle (later now 60000) es ∙ set_cleared (is_same_alarm a CheckIdle) (later now 60000) (moment_of a es)
+
+  rung_moment : (o : Chosen) (b : Alarm) (r : Bool) →
+      Is (cond r (set_again o b) None) (r && is_same_alarm a b) (cond r (alarms_rung o now b es) es)
+  rung_moment o b true = again_moment o b
+  rung_moment o b false = refl
+
+  -- what is stored waits, or nothing is stored any longer
+  waiting_moment : (timeout : Option ℕ) (n : ℕ) (was is : Bool) →
+      Is (set_stored n was is timeout) (is && is_same_alarm a (Batch n)) (alarms_waiting now timeout n was is es)
+  waiting_moment timeout n true true = clear_moment a (Batch n) es
+  waiting_moment timeout n false true = clear_moment a (Batch n) es
+  waiting_moment None n true false = refl
+  waiting_moment (Some delay) n true false = set_moment a (Batch n) (later now delay) es
+  waiting_moment timeout n false false = refl
+
+  built_moment : (first : Bool) → Is (cond first (Some (CheckIdle, 60000)) None) false (cond first (set CheckIdle (later now 60000) es) es)
+  built_moment true = set_moment a CheckIdle (later now 60000) es
+  built_moment false = refl
+
+after_moment : (v : View) (act : Act) (a : Alarm) → moment_of a (alarms_after v act) ≡ moment_by v.now (sets v act) (clears v act a) a (moment_of a v.alarms)
+after_moment v (Comes (ToLink l x)) a = on_moment v.now a v.alarms v.chosen (turned v (Comes (ToLink l x)))
+after_moment v (Comes (Rings b)) a = rung_moment v.now a v.alarms v.chosen b (rings v.now b v.alarms)
+after_moment v (Does who (Wait delay)) a = set_moment a (Wake who) (later v.now delay) v.alarms
+after_moment v (Does who (Store n x)) a =
+    let row : Option Topic = v.producers.topics n in
+    waiting_moment v.now a v.alarms (timeout_at v.producers row) n (is_bare row) (is_bare (row_with (topic.Stores (turn_of who) x) row))
+after_moment v (Does who (Flush n)) a =
+    let row : Option Topic = v.producers.topics n in
+    waiting_moment v.now a v.alarms (timeout_at v.producers row) n (is_bare row) (is_bare (row_with (topic.Flushes (turn_of who)) row))
+after_moment v (Does who (Shut t)) a = clear_all_moment a (numbers_at (v.producers.built t)) v.alarms
+after_moment v (Does who StopAll) a = refl
+after_moment v (Answers who verdict) a = built_moment v.now a v.alarms (not v.calls.is_built && builds verdict.makes false)
+after_moment v _ a = refl
+
+pub moments_are_set_lem : MomentsAreSet
+moments_are_set_lem o [] a = refl
+moments_are_set_lem o (Begins e ∷ log) a = begun_same (λ v. moment_of a v.alarms) e (view o log) refl ∙ moments_are_set_lem o log a
+moments_are_set_lem o (Then act ∷ log) a =
+    after_moment (view o log) act a
+    ∙ ap (moment_by (view o log).now (sets (view o log) act) (clears (view o log) act a) a) (moments_are_set_lem o log a)

@@ -734,5 +734,5 @@ pieces_dont_matter_lem o newer older l a b es whole =
       first,
       second,
       n.done ∙ ap (arranged effect_below) k.done,
-      record { log = n.xs ++ q; run = f.run; rests = rests_on o n.xs (n.acts ++ one) q f rests; same = whole_is ∙ sym all },
+      record { log = n.xs ++ q; run = f.run; rests = rests_on o n.xs (n.acts ++ one) q f rests; same = ◌∙◌ {b = since ++ cut (steps o n.old)} whole_is (sym all) },
     )

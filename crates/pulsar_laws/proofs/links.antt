@@ -18,3 +18,7 @@ pub mod Queued
 pub mod Ending
 pub mod Late
 pub mod Settling
+pub mod Ahead
+pub mod Clocked
+pub mod Cutting
+pub mod Onward

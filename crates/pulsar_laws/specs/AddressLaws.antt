@@ -1,7 +1,6 @@
 -- What every run has of the addresses of a client: which attempt is the next one, and when a link is idle or pinged.
-use Rattle.std.specs.Prelude.{◌≡◌, ◌⊎◌, ℕ, ◌+◌, ◌-◌, ◌^◌, ◌≤◌, ◌==◌, bytes_eq, ◌&&◌, ◌||◌, not, Bool, true, false, if◌then◌else◌, List, [], ◌∷◌, ◌++◌, Option, Some, None}
+use Rattle.std.specs.Prelude.{◌≡◌, ◌⊎◌, ℕ, ◌+◌, ◌≤◌, ◌==◌, bytes_eq, Bool, true, false, if◌then◌else◌, List, [], ◌∷◌, Option, Some, None}
 use Rattle.pulsar_run.specs.Laws.{InThisStep}
-use Rattle.pulsar_session.specs.Link.{Act as Act', ends}
 use Rattle.pulsar_addresses.specs.Address.{Place, address_key, is_reachable}
 use Rattle.pulsar_links.specs.Alarms.{rings}
 use Rattle.pulsar_calls.specs.declared.act.Act.TheVariants.{Comes, Does, Dials}
@@ -15,14 +14,12 @@ use Rattle.pulsar_links.specs.declared.addresses.Pause.{Pause}
 use Rattle.pulsar_links.specs.declared.addresses.Series.{Series}
 use Rattle.pulsar_links.specs.declared.addresses.Series.TheVariants.{Nobody, Runs, Pauses, Serves}
 use Rattle.pulsar_links.specs.Links.{Change, Remains, Becomes, IsOver}
-use Rattle.pulsar_plans.specs.Plan.{begins}
 use Rattle.pulsar_acts.specs.Rules.{is_idle}
 use Rattle.pulsar_acts.specs.Run.{Entry, Then, IsRun, view}
 use Rattle.pulsar_acts.specs.View.{Turned, turned, waits_on}
 use Rattle.pulsar_machine.specs.Options.{Options}
 use Rattle.pulsar_links.specs.Seats.{Seat}
-use Rattle.pulsar_links.specs.Links as links
-use Rattle.pulsar_laws.specs.Laws.{base_of, started, stopped}
+use Rattle.pulsar_laws.specs.Laws.{base_of, stopped}
 
 -- what runs for an address, by the newest of these: an attempt began, a link of it became ready, a link of it ended, the client was stopped
 abbrev pub turn_over : (link : ℕ) → Option Pause → Series

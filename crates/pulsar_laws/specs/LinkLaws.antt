@@ -14,9 +14,11 @@ use Rattle.pulsar_calls.specs.declared.act.LinkAct.TheVariants.{Ends}
 use Rattle.pulsar_calls.specs.declared.act.Part.TheVariants.{ToLink}
 use Rattle.pulsar_calls.specs.declared.effect.Settlement.{Settlement}
 use Rattle.pulsar_calls.specs.declared.effect.Settlement.TheVariants.{Reply, TimedOut, Disconnected}
-use Rattle.pulsar_calls.specs.Content.{Shown, Settles, Ticked}
+use Rattle.pulsar_calls.specs.Content.{Bytes, Shown, Settles, Ticked}
+use Rattle.pulsar_calls.specs.Order.{effect_below}
+use Rattle.pulsar_run.specs.Order.{arranged}
 use Rattle.pulsar_calls.specs.Steps.{Step}
-use Rattle.pulsar_acts.specs.Run.{Entry, Begins, Then, IsRun, Rests, steps, view}
+use Rattle.pulsar_acts.specs.Run.{Entry, Begins, Then, Good, IsRun, Rests, steps, view}
 use Rattle.pulsar_machine.specs.Options.{Options}
 use Rattle.pulsar_laws.specs.Laws.{AreActs, call_at, is_late}
 
@@ -92,3 +94,16 @@ end_in o l (_ ∷ log) = end_in o l log
 -- What a client says of a link, that it has ended, is so exactly there.
 abbrev pub EndedIs : Type 0
 EndedIs = (o : Options) (log : List Entry) (l : ℕ) → has_ended l (view o log).links ≡ end_in o l log
+
+-- PIECES
+
+-- the step of a piece that a connection gave
+abbrev pub fed : (link : ℕ) (piece : List ℕ) → List Shown → Step
+fed l piece effects = record { event = Bytes l piece; effects = effects }
+
+-- A piece may come cut in two. Then the same is done, in two steps, and all other steps are the same.
+abbrev pub PiecesDontMatter : Type 0
+PiecesDontMatter = (o : Options) (newer older : List Step) (l : ℕ) (a b : List ℕ) (effects : List Shown) →
+    Good o (newer ++ fed l (a ++ b) effects ∷ older) →
+    (first second : List Shown) × (effects ≡ arranged effect_below (first ++ second))
+    × Good o (newer ++ fed l b (arranged effect_below second) ∷ fed l a (arranged effect_below first) ∷ older)

@@ -4,7 +4,7 @@ ghost use Rattle.pulsar_links.specs.Address.{KnownAddresses};
 ghost use Rattle.pulsar_client.specs.Client.{StandsFor};
 ghost use Rattle.pulsar_laws.specs.Laws.{AlarmsAreTicked, AllIsDone, AnswersOnce, BuiltIs, CallsAreMade, CausesInOrder, ClockIs, DeadlinesAreTicked, DeedsFollow, Determined, EffectsArranged, EndsOnce, FailuresAreTold, FramesAreCut, LinksAlone, PlansFollow, ServedByTicket, StoppedIs, TicketsCount, TicksInOrder, WritesFollow};
 ghost use Rattle.pulsar_laws.specs.CauseLaws.{OutcomesAreCaused};
-ghost use Rattle.pulsar_laws.specs.LinkLaws.{DueLinksEnd, EndedIs, SettledAsTold, SettledOnce};
+ghost use Rattle.pulsar_laws.specs.LinkLaws.{DueLinksEnd, EndedIs, PiecesDontMatter, SettledAsTold, SettledOnce};
 ghost use Rattle.pulsar_laws.specs.AddressLaws.{AttemptsFollow, IdleEnds, NoneAfterStop, OneLinkEach, SeriesIsNewest, KeepAlivePings};
 ghost use Rattle.pulsar_laws.specs.RetryLaws.{AttemptsAreSpent, CountsAgain, LooksAgain, MakesAgain, MomentsAreSet, PlansWait, QuestionsAreBounded, RetriesAreCounted, WaysAreChosen};
 ghost use Rattle.pulsar_laws.specs.Traces.{IsGood, LocalIsKnown, attempt_fails, attempt_is_retried, batch_is_sent, client_is_stopped, consumer_is_polled, deadline_comes, line_moves_up, lookup_is_redirected, message_is_sent, reply_comes_early, request_is_answered};
@@ -193,6 +193,11 @@ pub fn settled_as_told()
 /// A link has ended exactly where an end of it stands in the log.
 pub fn ended_is()
     ensures { EndedIs }
+{}
+
+/// Bytes that come in two pieces do what they do as one: no effect changes, but for the step in which it stands.
+pub fn pieces_dont_matter()
+    ensures { PiecesDontMatter }
 {}
 
 /// The bytes that are written to a connection are the first of those that were queued there, in order.

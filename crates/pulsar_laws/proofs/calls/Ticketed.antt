@@ -266,7 +266,7 @@ is_ticketed o (Then a ∷ log) run = next_ticketed o log (is_ticketed o log run.
 pub consumer_ticket : (o : Options) (log : List Entry) (t : ℕ) (m : Member) → IsRun o log → (view o log).consumers.rows t ≡ Some m → is_spent t ≡ false
 consumer_ticket o log t s run h = ((is_ticketed o log run).consumers t s h).0
 
-older_run : (o : Options) (later older : List Entry) → IsRun o (later ++ older) → IsRun o older
+pub older_run : (o : Options) (later older : List Entry) → IsRun o (later ++ older) → IsRun o older
 older_run o [] older run = run
 older_run o (Begins e ∷ later) older run = older_run o later older run.0
 older_run o (Then a ∷ later) older run = older_run o later older run.0

@@ -101,7 +101,7 @@ unstarted l n b e = ap (λ x. x && b) (late l n e)
     late : (l n : ℕ) → (l == n) ≡ true → nat_lt l n ≡ false
     late l n e = grind (arith, nat_tests)
 
-up : (l n : ℕ) → nat_lt l n ≡ true → nat_lt l (n + 1) ≡ true
+pub up : (l n : ℕ) → nat_lt l n ≡ true → nat_lt l (n + 1) ≡ true
 up l n h = grind (arith, nat_tests)
 
 down : (l n : ℕ) → (l == n) ≡ false → nat_lt l n ≡ false → nat_lt l (n + 1) ≡ false
@@ -181,7 +181,7 @@ in_due ls now l seat h lt d =
     let below_all : nat_lt l (0 + ls.started) ≡ true = grind (arith, nat_tests) in
     into_flat (on_link (due_part now) ls.live) l part (numbers_from 0 ls.started) (in_numbers ls.started 0 l (omega arith) below_all) own
 
-started : (o : Options) (log : List Entry) (l : ℕ) (seat : Seat) → (view o log).links.live l ≡ Some seat → nat_lt l (view o log).links.started ≡ true
+pub started : (o : Options) (log : List Entry) (l : ℕ) (seat : Seat) → (view o log).links.live l ≡ Some seat → nat_lt l (view o log).links.started ≡ true
 started o log l seat h = elim (cases_Bool (nat_lt l (view o log).links.started)) [
   | inl e ↦ e
   | inr e ↦ absurd (none_some (sym (unborn o log l ((view o log).links.live l) e refl) ∙ h))

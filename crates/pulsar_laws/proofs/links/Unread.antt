@@ -65,7 +65,7 @@ taken_early Ready (Whole m more) v s k = λ e.
     absurd cc
 taken_early _ _ v s k = k
 
-drawn_stage : (b : Bool) (v : Seen) → (drawn b v).stage ≡ v.stage
+pub drawn_stage : (b : Bool) (v : Seen) → (drawn b v).stage ≡ v.stage
 drawn_stage true v = refl
 drawn_stage false v = refl
 
@@ -75,7 +75,7 @@ asks_early (Ok id) now words v k = λ e.
     (asked_of (Ok id) now words v).unread
     ∙ k (ap is_dialing (sym ((asks_for_apart (request id now words)).stage (drawn (is_numbered words) v) ∙ drawn_stage (is_numbered words) v)) ∙ e)
 
-moved_stage : (line : List Standing) (v : Seen) → (moved_up line v).stage ≡ v.stage
+pub moved_stage : (line : List Standing) (v : Seen) → (moved_up line v).stage ≡ v.stage
 moved_stage [] v = refl
 moved_stage (s ∷ line) v = by (has_room v) (moved_stage line (queue s.frame s.claim v))
   where
@@ -131,7 +131,7 @@ unasked_came m {X} h = by (is 36 m) h
     by true e = absurd cc
     by false e = consumer_came (key m) m e
 
-whole_came : (ps : List ℕ) (m : MessageValues) {X : Type 0} → came_by ps m ≡ session.Nothing → X
+pub whole_came : (ps : List ℕ) (m : MessageValues) {X : Type 0} → came_by ps m ≡ session.Nothing → X
 whole_came [] m {X} h = unasked_came m h
 whole_came (p ∷ ps) m {X} h = absurd cc
 
@@ -140,7 +140,7 @@ greeted_came true {X} h = absurd cc
 greeted_came false {X} h = absurd cc
 
 -- nothing comes only of a connection that isn't open, or has less than a frame
-came_short : (stage : Stage) (f : Front) (v : Seen) → came_in stage f v ≡ session.Nothing → (is_open stage ≡ false) ⊎ (f ≡ Short)
+pub came_short : (stage : Stage) (f : Front) (v : Seen) → came_in stage f v ≡ session.Nothing → (is_open stage ≡ false) ⊎ (f ≡ Short)
 came_short Dialing f v h = inl refl
 came_short Over f v h = inl refl
 came_short Handshaking Short v h = inr refl
@@ -156,7 +156,7 @@ shut_dialing Handshaking o l = absurd cc
 shut_dialing Ready o l = absurd cc
 shut_dialing Over o l = absurd cc
 
-nothing_came : (c : Came) → arrives c ≡ arrivals.Nothing → c ≡ session.Nothing
+pub nothing_came : (c : Came) → arrives c ≡ arrivals.Nothing → c ≡ session.Nothing
 nothing_came session.Nothing h = refl
 nothing_came _ h = absurd cc
 
@@ -167,7 +167,7 @@ none_left start calls v k h = elim (came_short v.stage (front v.unread) v (nothi
   | inr short ↦ short
 ]
 
-short_taken : (stage : Stage) (v : Seen) → taken_in stage Short v ≡ v
+pub short_taken : (stage : Stage) (v : Seen) → taken_in stage Short v ≡ v
 short_taken Dialing v = refl
 short_taken Handshaking v = refl
 short_taken Ready v = refl
@@ -200,7 +200,7 @@ parts_left p [] [] [] [] a h i = absurd i
 parts_left p [] [] [] (q ∷ ps) a h (inl e) = inl (let f : Comes q ≡ a = cc in ap Comes e ∙ f)
 parts_left p [] [] [] (q ∷ ps) a h (inr i) = inr i
 
-none_parts : (now : List Act) (here : List Notice) (behind : List (List Notice)) (ps : List Part) → first_of rules now here behind ps ≡ None → ps ≡ []
+pub none_parts : (now : List Act) (here : List Notice) (behind : List (List Notice)) (ps : List Part) → first_of rules now here behind ps ≡ None → ps ≡ []
 none_parts (b ∷ now) here behind ps h = absurd cc
 none_parts [] (n ∷ here) behind ps h = absurd cc
 none_parts [] [] (cause ∷ behind) ps h = none_parts [] cause behind ps h

@@ -1,5 +1,5 @@
 -- Where a topic has several partitions, a reply has said so.
-use Rattle.std.proofs.Common.{arith, ◌≡◌, ◌⊎◌, inl, inr, sym, subst, ℕ, zero, suc, ◌+◌, ◌-◌, ◌≤◌, ◌==◌, List, [], ◌∷◌, ◌++◌, length, refl, true, false, ◌&&◌, None, Result, Ok, Err}
+use Rattle.std.proofs.Common.{arith, ◌≡◌, ◌⊎◌, inl, inr, sym, subst, ℕ, zero, suc, ◌+◌, ◌≤◌, ◌==◌, List, [], ◌∷◌, ◌++◌, length, refl, false, ◌&&◌, None, Result, Ok, Err}
 use Rattle.std.proofs.lemmas.Bool.{cases_Bool, eqb-true}
 use Rattle.pulsar_laws.proofs.ActWords.{Outcome}
 use Rattle.pulsar_laws.proofs.PlanWords.{Denies, Later, Looking, Naming, Heard as News, Says, SearchTurn, Ways}

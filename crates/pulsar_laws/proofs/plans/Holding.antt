@@ -12,7 +12,6 @@ use Rattle.pulsar_calls.specs.declared.act.Outcome.TheVariants as outcome
 use Rattle.pulsar_plans.specs.declared.plan.At.{At as Spot}
 use Rattle.pulsar_plans.specs.declared.plan.At.TheVariants as at
 use Rattle.pulsar_plans.specs.declared.plan.Plan.TheVariants.{Sending}
-use Rattle.pulsar_plans.specs.Plan.{waits}
 use Rattle.pulsar_producer.specs.Batching.{is_sent_send}
 use Rattle.pulsar_laws.proofs.Cases.{none_some}
 use Rattle.pulsar_laws.specs.ProducerLaws.{turn_in, turn_of}

@@ -5,7 +5,6 @@ use Rattle.pulsar_laws.proofs.PlanWords.{action_of, Batches, Batching, begins, B
 use Rattle.pulsar_laws.proofs.LinkWords.{Failure, Named, Place, Words}
 use Rattle.pulsar_searches.specs.Plans as search
 use Rattle.pulsar_searches.specs.declared.closing.Step.TheVariants as building_step
-use Rattle.pulsar_searches.specs.declared.replies.Heard.{Heard}
 use Rattle.pulsar_searches.specs.declared.turn.Action.TheVariants as wish
 use Rattle.pulsar_searches.specs.declared.turn.Turn.TheVariants as search_turn
 use Rattle.pulsar_producer.specs.declared.batching.Batching.TheVariants as batching

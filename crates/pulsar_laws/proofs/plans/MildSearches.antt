@@ -1,7 +1,7 @@
 -- No plan asks to acknowledge: only a procedure that begins so does.
 use Rattle.std.proofs.Common.{◌≡◌, ℕ, ◌==◌, List, [], refl, Bool, true, false, ◌&&◌, cond, Result, Ok, Err}
 use Rattle.pulsar_laws.proofs.PlanWords.{Command, Denies, Heard as Heard', Later, Looking, Making, Naming, Says, SearchTurn, Sought, Ways, Wish}
-use Rattle.pulsar_laws.proofs.LinkWords.{Failure, Fault, Named, OfConnection, Place, Words}
+use Rattle.pulsar_laws.proofs.LinkWords.{Failure, Fault, Named, OfConnection, Words}
 use Rattle.pulsar_messages.specs.Words as words
 use Rattle.pulsar_frame.specs.Reply.{Reply as Content}
 use Rattle.pulsar_addresses.specs.Backoff.{allow_retry}

@@ -1,5 +1,5 @@
 -- A flush ends its batch, and what was stored before it stands in that or in those that were taken before.
-use Rattle.std.proofs.Common.{◌≡◌, ◌⊎◌, inl, inr, ◌∙◌, sym, ap, subst, refl, ℕ, zero, suc, ◌-◌, ◌==◌, append-nil, append_assoc, take, List, [], ◌∷◌, ◌++◌, Bool, true, false, ◌&&◌, cond, Option, Some, None}
+use Rattle.std.proofs.Common.{◌≡◌, ◌⊎◌, inl, inr, ◌∙◌, sym, ap, subst, refl, ℕ, zero, suc, ◌==◌, append-nil, append_assoc, take, List, [], ◌∷◌, ◌++◌, Bool, true, false, ◌&&◌, cond, Option, Some, None}
 use Rattle.std.proofs.lemmas.Bool.{cases_Bool, eqb-true}
 use Rattle.std.specs.Option.{option_to_list}
 use Rattle.pulsar_laws.proofs.ActWords.{Act, Batch, Comes, Does, Draw, is_same, PassTurn, Producer, Remake, Rings, Shut, Starts, StopAll, Store, TakeBatch, TakeTurn, TellAll, turn_of, Who}

@@ -3,14 +3,13 @@ use Rattle.std.proofs.Common.{◌≡◌, inl, inr, ◌∙◌, sym, ap, subst, �
 use Rattle.std.proofs.lemmas.Bool.{cases_Bool}
 use Rattle.pulsar_laws.proofs.ActWords.{Action, Ask, Call, Does, Draw, Notice, Outcome, Procedure, Recall, Share, Starts, TakeTurn, Told, Who}
 use Rattle.pulsar_laws.proofs.PlanWords.{begins, Command, Drawn, Errand, Leaving, news_of, Plan, Reporting, Sending as Send, Stays, told, Ways}
-use Rattle.pulsar_laws.proofs.RunWords.{Begins, draws_on, Entry, In, IsRun, notice, Options, room_of, started, Then, View, view}
+use Rattle.pulsar_laws.proofs.RunWords.{Begins, draws_on, Entry, IsRun, notice, Options, room_of, started, Then, View, view}
 use Rattle.pulsar_messages.specs.Content.{ProducerMessageValues}
 use Rattle.pulsar_messages.specs.Words as words
 use Rattle.pulsar_messages.specs.Claims.{is_spent}
 use Rattle.pulsar_producer.specs.Commands.{command_of}
 use Rattle.pulsar_messages.specs.Message.{with_version}
 use Rattle.pulsar_producer.specs.Producer as producer
-use Rattle.pulsar_producer.specs.Topic as topic
 use Rattle.pulsar_producer.specs.Topic.{Draws}
 use Rattle.pulsar_outgoing.specs.declared.news.News.TheVariants as news
 use Rattle.pulsar_producer.specs.declared.sending.Sending.TheVariants as send

@@ -1,6 +1,6 @@
 -- The numbers of topic producers. Each is drawn once, greater than all before it; a building has just those that it drew; and so a producer
 -- that joins has numbers that no other has.
-use Rattle.std.proofs.Common.{◌≡◌, sym, ap, subst, ℕ, ◌+◌, List, [], ◌∷◌, ◌++◌, refl, map, Bool, true, false, cond, Option, Some, None, Ok}
+use Rattle.std.proofs.Common.{◌≡◌, sym, ap, subst, ℕ, List, [], ◌∷◌, ◌++◌, refl, map, Bool, true, false, cond, Option, Some, None, Ok}
 use Rattle.pulsar_laws.proofs.ActWords.{Action, Makes, Nothing, Outcome, Procedure, Verdict}
 use Rattle.pulsar_laws.proofs.PlanWords.{Asking, Awaiting, begins, Building as Build, Built, Deed, Gives, is_answer, News, news_of, Order, Plan, Producing, Stays, told, Turn, Ways}
 use Rattle.pulsar_laws.proofs.RunWords.{Each, each_append}

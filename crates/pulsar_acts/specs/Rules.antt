@@ -12,7 +12,8 @@ use Rattle.pulsar_session.specs.Link.{is_ready}
 use Rattle.pulsar_calls.specs.declared.act.Act.{Act}
 use Rattle.pulsar_calls.specs.declared.act.Act.TheVariants.{Comes, Starts, Told, Does, Answers, Dials}
 use Rattle.pulsar_calls.specs.declared.act.Action.{Action}
-use Rattle.pulsar_calls.specs.declared.act.Action.TheVariants.{Get, Ask, Wait, TakeTurn, PassTurn, Draw, Recall, Remake, Number, Find, Shut, Store, Flush, TakeBatch, TakeNumber, FindConsumer, TakeFlow, RecallConsumer, Revive, FailConsumer, Tell, TellAll, StopAll, Rest}
+use Rattle.pulsar_calls.specs.declared.act.Action.TheVariants.{OfTopic, Get, Ask, Wait, Number, Shut, TakeNumber, FindConsumer, TakeFlow, RecallConsumer, Revive, FailConsumer, Tell, TellAll, StopAll, Rest}
+use Rattle.pulsar_calls.specs.declared.act.TopicAsk.TheVariants.{TakeTurn, PassTurn, Draw, Recall, Remake, Find, Store, Flush, TakeBatch}
 use Rattle.pulsar_calls.specs.declared.act.Alarm.{Alarm}
 use Rattle.pulsar_calls.specs.declared.act.Alarm.TheVariants.{Retry, Wake, Batch, KeepAlive, CheckIdle}
 use Rattle.pulsar_calls.specs.declared.act.Arrival.{Arrival}
@@ -341,17 +342,17 @@ performs v who (Get p) = gets who p (v.addresses.base (address_key p)).series
 performs v who (Ask l request) = tells who (told_at (answer_at v.now request (v.links.live l)))
 performs v who StopAll = stops who v.links
 performs v who (Wait delay) = []
-performs v who (TakeTurn n) = takes_turn who (v.producers.topics n)
-performs v who (PassTurn n) = grants who news.Done
-performs v who (Draw n) = tells who (draw_outcome (room_of v n) (v.producers.topics n))
-performs v who (Recall n) = recalls who (recalled v.producers n)
-performs v who (Remake r) = grants who news.Done
+performs v who (OfTopic n TakeTurn) = takes_turn who (v.producers.topics n)
+performs v who (OfTopic n PassTurn) = grants who news.Done
+performs v who (OfTopic n Draw) = tells who (draw_outcome (room_of v n) (v.producers.topics n))
+performs v who (OfTopic n Recall) = recalls who (recalled v.producers n)
+performs v who (OfTopic m (Remake r)) = grants who news.Done
 performs v who Number = tells who (number_said (number_drawn v.producers))
-performs v who (Find n) = finds who (link_at (v.producers.topics n))
+performs v who (OfTopic n Find) = finds who (link_at (v.producers.topics n))
 performs v who (Shut t) = grants who news.Done
-performs v who (Store n e) = grants who news.Done
-performs v who (Flush n) = flushes_at who (v.producers.topics n)
-performs v who (TakeBatch n) = grants who (news.HasBatch (next_batch_at (v.producers.topics n)))
+performs v who (OfTopic n (Store e)) = grants who news.Done
+performs v who (OfTopic n Flush) = flushes_at who (v.producers.topics n)
+performs v who (OfTopic n TakeBatch) = grants who (news.HasBatch (next_batch_at (v.producers.topics n)))
 performs v who (TakeNumber wanted) = tells who (numbering_said (consumer.numbering v.consumers wanted))
 performs v who (FindConsumer t) = sought_said who (consumer.sought (v.consumers.rows t))
 performs v who TakeFlow = tells_word who (flow_said (consumer.flow_at (v.consumers.rows (ticket_of who))))
@@ -465,9 +466,9 @@ joins v (Does who (Ask l request)) = over_rows (closed_at v l request) v.consume
 joins v (Does who (Revive l)) = revived_at l (url_at (v.links.live l)) (ticket_of who) (v.consumers.rows (ticket_of who))
 joins v (Does who (FailConsumer f)) = again_at (v.consumers.rows (ticket_of who))
 joins v (Answers who verdict) = made_due v.links.live who verdict.makes
-joins v (Does who (PassTurn n)) = option_to_list (option_map (turn_notice n) (turn_passed (v.producers.topics n)))
-joins v (Does who (Store n e)) = readied n (topic.Stores (turn_of who) e) (v.producers.topics n)
-joins v (Does who (Flush n)) = readied n (topic.Flushes (turn_of who)) (v.producers.topics n)
+joins v (Does who (OfTopic n PassTurn)) = option_to_list (option_map (turn_notice n) (turn_passed (v.producers.topics n)))
+joins v (Does who (OfTopic n (Store e))) = readied n (topic.Stores (turn_of who) e) (v.producers.topics n)
+joins v (Does who (OfTopic n Flush)) = readied n (topic.Flushes (turn_of who)) (v.producers.topics n)
 joins v (Does who (Shut t)) = map closed_notice (stored_by v.producers (numbers_at (v.producers.built t)))
 joins v (Does who (Tell n)) = n ∷ []
 joins v (Does who (TellAll ns)) = ns

@@ -14,7 +14,8 @@ use Rattle.pulsar_session.specs.Link.{Setup, is_open}
 use Rattle.pulsar_exchange.specs.Request.{closed_consumer}
 use Rattle.pulsar_calls.specs.declared.act.Act.{Act}
 use Rattle.pulsar_calls.specs.declared.act.Act.TheVariants.{Comes, Starts, Told, Does, Answers, Dials}
-use Rattle.pulsar_calls.specs.declared.act.Action.TheVariants.{Get, Ask, Wait, TakeTurn, PassTurn, Draw, Remake, Number, Shut, Store, Flush, TakeBatch, TakeNumber, FindConsumer, TakeFlow, Revive, FailConsumer, StopAll}
+use Rattle.pulsar_calls.specs.declared.act.Action.TheVariants.{OfTopic, Get, Ask, Wait, Number, Shut, TakeNumber, FindConsumer, TakeFlow, Revive, FailConsumer, StopAll}
+use Rattle.pulsar_calls.specs.declared.act.TopicAsk.TheVariants.{TakeTurn, PassTurn, Draw, Remake, Store, Flush, TakeBatch}
 use Rattle.pulsar_calls.specs.declared.act.Alarm.{Alarm}
 use Rattle.pulsar_calls.specs.declared.act.Alarm.TheVariants.{Retry, Wake, Batch, KeepAlive, CheckIdle}
 use Rattle.pulsar_calls.specs.declared.act.End.{End}
@@ -373,8 +374,8 @@ abbrev pub alarms_after : View → Act → List (Alarm × ℕ)
 alarms_after v (Comes (ToLink l x)) = alarms_on v.chosen v.now (turned v (Comes (ToLink l x))) v.alarms
 alarms_after v (Comes (Rings a)) = if rings v.now a v.alarms then alarms_rung v.chosen v.now a v.alarms else v.alarms
 alarms_after v (Does who (Wait delay)) = set (Wake who) (later v.now delay) v.alarms
-alarms_after v (Does who (Store n e)) = alarms_on_topic v n (topic.Stores (turn_of who) e)
-alarms_after v (Does who (Flush n)) = alarms_on_topic v n (topic.Flushes (turn_of who))
+alarms_after v (Does who (OfTopic n (Store e))) = alarms_on_topic v n (topic.Stores (turn_of who) e)
+alarms_after v (Does who (OfTopic n Flush)) = alarms_on_topic v n (topic.Flushes (turn_of who))
 alarms_after v (Does who (Shut t)) = clear_all (numbers_at (v.producers.built t)) v.alarms
 alarms_after v (Does who StopAll) = []
 alarms_after v (Answers who verdict) = alarms_built v.now (not v.calls.is_built && builds verdict.makes false) v.alarms
@@ -458,15 +459,15 @@ abbrev pub producers_after : View → Act → Producers
 producers_after v (Comes (Calls asked advice)) =
     if lacks_tickets v.calls.drawn (shares asked) then v.producers else called_on (may_call v.calls) asked v.producers
 producers_after v (Comes (Rings a)) = producers_rung (rings v.now a v.alarms) a v.producers
-producers_after v (Does who (TakeTurn n)) = changed n (topic.Takes (turn_of who)) v.producers
-producers_after v (Does who (PassTurn n)) = changed n topic.Passes v.producers
-producers_after v (Does who (Draw n)) = draws_on (room_of v n) n v.producers
-producers_after v (Does who (Remake r)) = changed r.number (topic.Remakes r.link r.given) v.producers
+producers_after v (Does who (OfTopic n TakeTurn)) = changed n (topic.Takes (turn_of who)) v.producers
+producers_after v (Does who (OfTopic n PassTurn)) = changed n topic.Passes v.producers
+producers_after v (Does who (OfTopic n Draw)) = draws_on (room_of v n) n v.producers
+producers_after v (Does who (OfTopic m (Remake r))) = changed m (topic.Remakes r.link r.given) v.producers
 producers_after v (Does who Number) = numbered v.producers
 producers_after v (Does who (Shut t)) = shut t v.producers
-producers_after v (Does who (Store n e)) = changed n (topic.Stores (turn_of who) e) v.producers
-producers_after v (Does who (Flush n)) = changed n (topic.Flushes (turn_of who)) v.producers
-producers_after v (Does who (TakeBatch n)) = changed n topic.TakesBatch v.producers
+producers_after v (Does who (OfTopic n (Store e))) = changed n (topic.Stores (turn_of who) e) v.producers
+producers_after v (Does who (OfTopic n Flush)) = changed n (topic.Flushes (turn_of who)) v.producers
+producers_after v (Does who (OfTopic n TakeBatch)) = changed n topic.TakesBatch v.producers
 producers_after v (Does who StopAll) = halted v.producers
 producers_after v (Answers who verdict) = producers_made v.chosen who verdict.makes v.producers
 producers_after v _ = v.producers

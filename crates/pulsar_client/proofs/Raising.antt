@@ -12,7 +12,8 @@ use Rattle.pulsar_calls.specs.Who.{ticket_of}
 use Rattle.pulsar_calls.specs.declared.act.Act.{Act}
 use Rattle.pulsar_calls.specs.declared.act.Act.TheVariants.{Comes, Starts, Told, Does, Answers, Dials}
 use Rattle.pulsar_calls.specs.declared.act.Action.{Action}
-use Rattle.pulsar_calls.specs.declared.act.Action.TheVariants.{Get, Wait, TakeTurn, Recall, Find, Flush, FindConsumer, RecallConsumer, StopAll, Rest}
+use Rattle.pulsar_calls.specs.declared.act.Action.TheVariants.{OfTopic, Get, Wait, FindConsumer, RecallConsumer, StopAll, Rest}
+use Rattle.pulsar_calls.specs.declared.act.TopicAsk.TheVariants.{TakeTurn, Recall, Find, Flush}
 use Rattle.pulsar_calls.specs.declared.act.Alarm.{Alarm}
 use Rattle.pulsar_calls.specs.declared.act.Alarm.TheVariants.{Retry, Wake, Batch, KeepAlive, CheckIdle}
 use Rattle.pulsar_calls.specs.declared.act.Arrival.{Arrival}
@@ -135,16 +136,16 @@ from_raised who p (Runs starter retries l) = tt
 from_raised who p (Pauses l) = tt
 from_raised who p (Serves l) = (refl, tt)
 
-takes_raised : (who : Who) (n : ℕ) (row : Option Topic) → Each (IsRaised (Does who (TakeTurn n))) (takes_turn who row)
+takes_raised : (who : Who) (n : ℕ) (row : Option Topic) → Each (IsRaised (Does who (OfTopic n TakeTurn))) (takes_turn who row)
 takes_raised who n None = (refl, tt)
 takes_raised who n (Some t) =
-    each_flat (IsRaised (Does who (TakeTurn n))) (λ version. grants who (news.HasTurn version)) (option_to_list (turn_taken (Some t))) (λ version. (refl, tt))
+    each_flat (IsRaised (Does who (OfTopic n TakeTurn))) (λ version. grants who (news.HasTurn version)) (option_to_list (turn_taken (Some t))) (λ version. (refl, tt))
 
-recalls_raised : (who : Who) (n : ℕ) (row : Option Command) → Each (IsRaised (Does who (Recall n))) (recalls who row)
+recalls_raised : (who : Who) (n : ℕ) (row : Option Command) → Each (IsRaised (Does who (OfTopic n Recall))) (recalls who row)
 recalls_raised who n None = (refl, tt)
 recalls_raised who n (Some c) = (refl, tt)
 
-finds_raised : (who : Who) (n : ℕ) (row : Option ℕ) → Each (IsRaised (Does who (Find n))) (finds who row)
+finds_raised : (who : Who) (n : ℕ) (row : Option ℕ) → Each (IsRaised (Does who (OfTopic n Find))) (finds who row)
 finds_raised who n None = (refl, tt)
 finds_raised who n (Some l) = (refl, tt)
 
@@ -162,11 +163,11 @@ performs_raised v who (Get p) =
     let s : Series = (v.addresses.base (address_key p)).series in
     each_either (IsRaised (Does who (Get p))) (is_reachable p) (gets_from who p s) (tells who outcome.NotFound) (from_raised who p s) (refl, tt)
 performs_raised v who (Wait delay) = tt
-performs_raised v who (TakeTurn n) = takes_raised who n (v.producers.topics n)
-performs_raised v who (Recall n) = recalls_raised who n (recalled v.producers n)
-performs_raised v who (Find n) = finds_raised who n (link_at (v.producers.topics n))
-performs_raised v who (Flush n) =
-    each_either (IsRaised (Does who (Flush n))) (is_settled_at (v.producers.topics n)) (grants who news.Done) [] (refl, tt) tt
+performs_raised v who (OfTopic n TakeTurn) = takes_raised who n (v.producers.topics n)
+performs_raised v who (OfTopic n Recall) = recalls_raised who n (recalled v.producers n)
+performs_raised v who (OfTopic n Find) = finds_raised who n (link_at (v.producers.topics n))
+performs_raised v who (OfTopic n Flush) =
+    each_either (IsRaised (Does who (OfTopic n Flush))) (is_settled_at (v.producers.topics n)) (grants who news.Done) [] (refl, tt) tt
 performs_raised v who (FindConsumer t) = sought_raised who t (sought (v.consumers.rows t))
 performs_raised v who RecallConsumer = recalled_raised who (consumer.recalled (v.consumers.rows (ticket_of who)))
 performs_raised v who StopAll =

@@ -39,7 +39,8 @@ use Rattle.pulsar_calls.specs.declared.act.Act.TheVariants.{Comes, Told, Does}
 use Rattle.pulsar_calls.specs.declared.act.Alarm.TheVariants.{Batch}
 use Rattle.pulsar_calls.specs.declared.act.Part.TheVariants.{Rings}
 use Rattle.pulsar_links.specs.Alarms.{rings}
-use Rattle.pulsar_calls.specs.declared.act.Action.TheVariants.{Ask, TakeTurn, PassTurn, Draw, Remake, Shut, Store, Flush, TakeBatch, StopAll}
+use Rattle.pulsar_calls.specs.declared.act.Action.TheVariants.{OfTopic, Ask, Shut, StopAll}
+use Rattle.pulsar_calls.specs.declared.act.TopicAsk.TheVariants.{TakeTurn, PassTurn, Draw, Remake, Store, Flush, TakeBatch}
 use Rattle.pulsar_calls.specs.declared.act.Makes.TheVariants as makes
 use Rattle.pulsar_calls.specs.declared.act.Share.{Share}
 use Rattle.pulsar_calls.specs.declared.act.Outcome.{Outcome}
@@ -97,13 +98,13 @@ shut_by n (m ∷ ms) = if n == m then topic.Closes ∷ shut_by n ms else shut_by
 
 abbrev pub topic_acts : View → (number : ℕ) → Act → List TopicAct
 topic_acts v n (Comes (Rings (Batch m))) = if n == m then rung_by (rings v.now (Batch m) v.alarms) else []
-topic_acts v n (Does who (TakeTurn m)) = if n == m then topic.Takes (taken_as who) ∷ [] else []
-topic_acts v n (Does who (PassTurn m)) = if n == m then topic.Passes ∷ [] else []
-topic_acts v n (Does who (Draw m)) = if n == m then drawn_by (room_of v m) else []
-topic_acts v n (Does who (Remake r)) = if n == r.number then topic.Remakes r.link r.given ∷ [] else []
-topic_acts v n (Does who (Store m e)) = if n == m then topic.Stores (taken_as who) e ∷ [] else []
-topic_acts v n (Does who (Flush m)) = if n == m then topic.Flushes (taken_as who) ∷ [] else []
-topic_acts v n (Does who (TakeBatch m)) = if n == m then topic.TakesBatch ∷ [] else []
+topic_acts v n (Does who (OfTopic m TakeTurn)) = if n == m then topic.Takes (taken_as who) ∷ [] else []
+topic_acts v n (Does who (OfTopic m PassTurn)) = if n == m then topic.Passes ∷ [] else []
+topic_acts v n (Does who (OfTopic m Draw)) = if n == m then drawn_by (room_of v m) else []
+topic_acts v n (Does who (OfTopic m (Remake r))) = if n == m then topic.Remakes r.link r.given ∷ [] else []
+topic_acts v n (Does who (OfTopic m (Store e))) = if n == m then topic.Stores (taken_as who) e ∷ [] else []
+topic_acts v n (Does who (OfTopic m Flush)) = if n == m then topic.Flushes (taken_as who) ∷ [] else []
+topic_acts v n (Does who (OfTopic m TakeBatch)) = if n == m then topic.TakesBatch ∷ [] else []
 topic_acts v n (Does who StopAll) = topic.Halts ∷ []
 topic_acts v n (Does who (Shut t)) = shut_by n (numbers_at (v.producers.built t))
 topic_acts v n _ = []
@@ -225,10 +226,10 @@ HasTurn v who n = (row : Topic) × (v.producers.topics n ≡ Some row) × (row.s
 
 -- The turn is passed on by the one that has it, to the lowest ticket of those that wait, which is told so.
 abbrev pub PassedInTurn : Type 0
-PassedInTurn = (o : Options) (log : List Entry) (who : Who) (n : ℕ) → IsRun o (Then (Does who (PassTurn n)) ∷ log) →
+PassedInTurn = (o : Options) (log : List Entry) (who : Who) (n : ℕ) → IsRun o (Then (Does who (OfTopic n PassTurn)) ∷ log) →
     (row : Topic) × ((view o log).producers.topics n ≡ Some row) × (row.seen.holder ≡ Some (taken_as who))
     × ((next : ℕ) (left : List ℕ) → row.seen.waiting ≡ next ∷ left → AreAbove next left
-    × In (notice (in_turn n next) (outcome.Granted (news.HasTurn row.seen.given.version))) (joins (view o log) (Does who (PassTurn n))))
+    × In (notice (in_turn n next) (outcome.Granted (news.HasTurn row.seen.given.version))) (joins (view o log) (Does who (OfTopic n PassTurn))))
 
 -- One that is told that its turn has come has it, if it waits for it still.
 abbrev pub ToldInTurn : Type 0

@@ -245,14 +245,10 @@ impl Producers {
     }
 
     /// A topic producer was made again.
-    pub fn remake(&mut self, remaking: Remaking)
-        ensures { producers_of self.new ≡ meaning.changed remaking.number (topic.Remakes remaking.link remaking.given) (producers_of self.old) }
+    pub fn remake(&mut self, number: u64, remaking: Remaking)
+        ensures { producers_of self.new ≡ meaning.changed number (topic.Remakes remaking.link remaking.given) (producers_of self.old) }
     {
-        let Remaking {
-            number,
-            link,
-            given,
-        } = remaking;
+        let Remaking { link, given } = remaking;
         match self.topics.get_mut(&number) {
             Some(topic) => topic.seen.remake(link, given),
             None => drop(given),

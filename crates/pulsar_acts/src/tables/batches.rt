@@ -17,7 +17,7 @@ use crate::tables::Tables;
 use crate::tables::alarms::later;
 use pulsar_addresses::content::Refusal;
 use pulsar_agenda::agenda::Tasks;
-use pulsar_calls::act::{Act as Deed, Action, Alarm, Notice, Outcome, Procedure, Who};
+use pulsar_calls::act::{Act as Deed, Action, Alarm, Notice, Outcome, Procedure, TopicAsk, Who};
 use pulsar_calls::content::{Building, Granted, Notices};
 use pulsar_calls::who::turn_of;
 use pulsar_outgoing::content::{Built, Entry};
@@ -37,8 +37,8 @@ impl Tables {
         entry: Entry,
         tasks: &mut Tasks,
     ) -> Result<(), NoMemory>
-        ensures left { OnOk result (agenda_of tasks.new ≡ goes_on (view_of self.old) (Act.Does who (Action.Store number entry)) (agenda_of tasks.old)) }
-        ensures sees { OnOk result (view_of self.new ≡ after (Act.Does who (Action.Store number entry)) (view_of self.old)) }
+        ensures left { OnOk result (agenda_of tasks.new ≡ goes_on (view_of self.old) (Act.Does who (Action.OfTopic number (TopicAsk.Store entry))) (agenda_of tasks.old)) }
+        ensures sees { OnOk result (view_of self.new ≡ after (Act.Does who (Action.OfTopic number (TopicAsk.Store entry))) (view_of self.old)) }
         ensures settings { self.new.settings ≡ self.old.settings }
     {
         let was_bare = self.producers.is_bare(number);
@@ -55,8 +55,8 @@ impl Tables {
         number: u64,
         tasks: &mut Tasks,
     ) -> Result<(), NoMemory>
-        ensures left { OnOk result (agenda_of tasks.new ≡ goes_on (view_of self.old) (Act.Does who (Action.Flush number)) (agenda_of tasks.old)) }
-        ensures sees { OnOk result (view_of self.new ≡ after (Act.Does who (Action.Flush number)) (view_of self.old)) }
+        ensures left { OnOk result (agenda_of tasks.new ≡ goes_on (view_of self.old) (Act.Does who (Action.OfTopic number TopicAsk.Flush)) (agenda_of tasks.old)) }
+        ensures sees { OnOk result (view_of self.new ≡ after (Act.Does who (Action.OfTopic number TopicAsk.Flush)) (view_of self.old)) }
         ensures settings { self.new.settings ≡ self.old.settings }
     {
         let is_settled = self.producers.is_settled(number);
@@ -78,8 +78,8 @@ impl Tables {
         number: u64,
         tasks: &mut Tasks,
     ) -> Result<(), NoMemory>
-        ensures left { OnOk result (agenda_of tasks.new ≡ goes_on (view_of self.old) (Act.Does who (Action.TakeBatch number)) (agenda_of tasks.old)) }
-        ensures sees { OnOk result (view_of self.new ≡ after (Act.Does who (Action.TakeBatch number)) (view_of self.old)) }
+        ensures left { OnOk result (agenda_of tasks.new ≡ goes_on (view_of self.old) (Act.Does who (Action.OfTopic number TopicAsk.TakeBatch)) (agenda_of tasks.old)) }
+        ensures sees { OnOk result (view_of self.new ≡ after (Act.Does who (Action.OfTopic number TopicAsk.TakeBatch)) (view_of self.old)) }
         ensures settings { self.new.settings ≡ self.old.settings }
     {
         let batch = self.producers.take_batch(number);

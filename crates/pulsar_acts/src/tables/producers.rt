@@ -17,7 +17,7 @@ use crate::tables::Tables;
 use crate::tables::batches::join_closed;
 use crate::tables::calls::tell;
 use pulsar_agenda::agenda::Tasks;
-use pulsar_calls::act::{Action, Notice, Outcome, Who};
+use pulsar_calls::act::{Action, Notice, Outcome, TopicAsk, Who};
 use pulsar_calls::content::{Cause, Granted, Remade};
 use pulsar_calls::who::{in_turn, turn_of};
 use pulsar_outgoing::content::Version;
@@ -26,6 +26,31 @@ use pulsar_wire::error::{ConnectionError, NoMemory};
 use std::alloc::Global;
 
 impl Tables {
+    /// This is asked of a topic producer.
+    pub(super) fn asks_topic(
+        &mut self,
+        who: Who,
+        number: u64,
+        ask: TopicAsk,
+        tasks: &mut Tasks,
+    ) -> Result<(), NoMemory>
+        ensures left { OnOk result (agenda_of tasks.new ≡ goes_on (view_of self.old) (Act.Does who (Action.OfTopic number ask)) (agenda_of tasks.old)) }
+        ensures sees { OnOk result (view_of self.new ≡ after (Act.Does who (Action.OfTopic number ask)) (view_of self.old)) }
+        ensures settings { self.new.settings ≡ self.old.settings }
+    {
+        match ask {
+            TopicAsk::TakeTurn => self.takes_turn(who, number, tasks),
+            TopicAsk::PassTurn => self.passes_turn(who, number, tasks),
+            TopicAsk::Draw => self.draws(who, number, tasks),
+            TopicAsk::Recall => self.recalls(who, number, tasks),
+            TopicAsk::Remake(remade) => self.remakes(who, number, remade, tasks),
+            TopicAsk::Find => self.finds(who, number, tasks),
+            TopicAsk::Store(entry) => self.stores(who, number, entry, tasks),
+            TopicAsk::Flush => self.flushes_at(who, number, tasks),
+            TopicAsk::TakeBatch => self.takes_batch(who, number, tasks),
+        }
+    }
+
     /// One wants its turn at a topic producer, and has it where nobody else has it.
     pub(super) fn takes_turn(
         &mut self,
@@ -33,8 +58,8 @@ impl Tables {
         number: u64,
         tasks: &mut Tasks,
     ) -> Result<(), NoMemory>
-        ensures left { OnOk result (agenda_of tasks.new ≡ goes_on (view_of self.old) (Act.Does who (Action.TakeTurn number)) (agenda_of tasks.old)) }
-        ensures sees { OnOk result (view_of self.new ≡ after (Act.Does who (Action.TakeTurn number)) (view_of self.old)) }
+        ensures left { OnOk result (agenda_of tasks.new ≡ goes_on (view_of self.old) (Act.Does who (Action.OfTopic number TopicAsk.TakeTurn)) (agenda_of tasks.old)) }
+        ensures sees { OnOk result (view_of self.new ≡ after (Act.Does who (Action.OfTopic number TopicAsk.TakeTurn)) (view_of self.old)) }
         ensures settings { self.new.settings ≡ self.old.settings }
     {
         if !self.producers.is_used(number) {
@@ -53,8 +78,8 @@ impl Tables {
         number: u64,
         tasks: &mut Tasks,
     ) -> Result<(), NoMemory>
-        ensures left { OnOk result (agenda_of tasks.new ≡ goes_on (view_of self.old) (Act.Does who (Action.PassTurn number)) (agenda_of tasks.old)) }
-        ensures sees { OnOk result (view_of self.new ≡ after (Act.Does who (Action.PassTurn number)) (view_of self.old)) }
+        ensures left { OnOk result (agenda_of tasks.new ≡ goes_on (view_of self.old) (Act.Does who (Action.OfTopic number TopicAsk.PassTurn)) (agenda_of tasks.old)) }
+        ensures sees { OnOk result (view_of self.new ≡ after (Act.Does who (Action.OfTopic number TopicAsk.PassTurn)) (view_of self.old)) }
         ensures settings { self.new.settings ≡ self.old.settings }
     {
         let next = self.producers.pass_turn(number)?;
@@ -64,8 +89,8 @@ impl Tables {
 
     /// The number of a message is drawn.
     pub(super) fn draws(&mut self, who: Who, number: u64, tasks: &mut Tasks) -> Result<(), NoMemory>
-        ensures left { OnOk result (agenda_of tasks.new ≡ goes_on (view_of self.old) (Act.Does who (Action.Draw number)) (agenda_of tasks.old)) }
-        ensures sees { OnOk result (view_of self.new ≡ after (Act.Does who (Action.Draw number)) (view_of self.old)) }
+        ensures left { OnOk result (agenda_of tasks.new ≡ goes_on (view_of self.old) (Act.Does who (Action.OfTopic number TopicAsk.Draw)) (agenda_of tasks.old)) }
+        ensures sees { OnOk result (view_of self.new ≡ after (Act.Does who (Action.OfTopic number TopicAsk.Draw)) (view_of self.old)) }
         ensures settings { self.new.settings ≡ self.old.settings }
     {
         let Some(room) = self.room_for(number) else {
@@ -92,8 +117,8 @@ impl Tables {
         number: u64,
         tasks: &mut Tasks,
     ) -> Result<(), NoMemory>
-        ensures left { OnOk result (agenda_of tasks.new ≡ goes_on (view_of self.old) (Act.Does who (Action.Recall number)) (agenda_of tasks.old)) }
-        ensures sees { OnOk result (view_of self.new ≡ after (Act.Does who (Action.Recall number)) (view_of self.old)) }
+        ensures left { OnOk result (agenda_of tasks.new ≡ goes_on (view_of self.old) (Act.Does who (Action.OfTopic number TopicAsk.Recall)) (agenda_of tasks.old)) }
+        ensures sees { OnOk result (view_of self.new ≡ after (Act.Does who (Action.OfTopic number TopicAsk.Recall)) (view_of self.old)) }
         ensures settings { self.new.settings ≡ self.old.settings }
     {
         match self.producers.recall(number)? {
@@ -106,14 +131,15 @@ impl Tables {
     pub(super) fn remakes(
         &mut self,
         who: Who,
+        number: u64,
         remade: Remade,
         tasks: &mut Tasks,
     ) -> Result<(), NoMemory>
-        ensures left { OnOk result (agenda_of tasks.new ≡ goes_on (view_of self.old) (Act.Does who (Action.Remake remade)) (agenda_of tasks.old)) }
-        ensures sees { OnOk result (view_of self.new ≡ after (Act.Does who (Action.Remake remade)) (view_of self.old)) }
+        ensures left { OnOk result (agenda_of tasks.new ≡ goes_on (view_of self.old) (Act.Does who (Action.OfTopic number (TopicAsk.Remake remade))) (agenda_of tasks.old)) }
+        ensures sees { OnOk result (view_of self.new ≡ after (Act.Does who (Action.OfTopic number (TopicAsk.Remake remade))) (view_of self.old)) }
         ensures settings { self.new.settings ≡ self.old.settings }
     {
-        self.producers.remake(remade.into_inner());
+        self.producers.remake(number, remade.into_inner());
         self.grants(who, News::Done, tasks)
     }
 
@@ -131,8 +157,8 @@ impl Tables {
 
     /// The link of a topic producer is told.
     pub(super) fn finds(&mut self, who: Who, number: u64, tasks: &mut Tasks) -> Result<(), NoMemory>
-        ensures left { OnOk result (agenda_of tasks.new ≡ goes_on (view_of self.old) (Act.Does who (Action.Find number)) (agenda_of tasks.old)) }
-        ensures sees { OnOk result (view_of self.new ≡ after (Act.Does who (Action.Find number)) (view_of self.old)) }
+        ensures left { OnOk result (agenda_of tasks.new ≡ goes_on (view_of self.old) (Act.Does who (Action.OfTopic number TopicAsk.Find)) (agenda_of tasks.old)) }
+        ensures sees { OnOk result (view_of self.new ≡ after (Act.Does who (Action.OfTopic number TopicAsk.Find)) (view_of self.old)) }
         ensures settings { self.new.settings ≡ self.old.settings }
     {
         match self.producers.link(number) {

@@ -6,7 +6,7 @@ use Rattle.std.proofs.lemmas.Bool.{cases_Bool, eqb-true}
 use Rattle.std.proofs.lemmas.Bool.Decides.{nat_tests}
 use Rattle.std.specs.List.{filter_map, flat_map}
 use Rattle.std.specs.Option.{option_map, is_some}
-use Rattle.pulsar_laws.proofs.ActWords.{Act, Alarm, Answers, Ask, Asked, Batch, below, Bytes, Call, Calls, CheckIdle, Comes, Dials, Does, Drains, Ends, Get, Heard, is_same, KeepAlive, lacks_tickets, LinkAct, Makes, next_advice, Nothing, Notice, numbers_from, opens, Opens, Outcome, Part, Pings, Polls, Procedure, Reads, Refusal, Retry, Rings, shares, Starts, StopAll, Stops, TakeBatch, Tell, TellAll, Told, ToLink, Wake, Who}
+use Rattle.pulsar_laws.proofs.ActWords.{Act, Alarm, Answers, Ask, Asked, Batch, Bytes, Call, Calls, CheckIdle, Comes, Dials, Does, Drains, Ends, Get, Heard, KeepAlive, LinkAct, Makes, Nothing, Notice, OfTopic, Opens, Outcome, Part, Pings, Polls, Procedure, Reads, Refusal, Retry, Rings, Starts, StopAll, Stops, TakeBatch, Tell, TellAll, ToLink, Told, Wake, Who, below, is_same, lacks_tickets, next_advice, numbers_from, opens, shares}
 use Rattle.pulsar_laws.proofs.PlanWords.{fails, Plan, verdict, Ways}
 use Rattle.pulsar_laws.proofs.RunWords.{after, agenda, Agenda, arranged, asks_raw, asks_topics, at_once, Begins, begun, begun_live, begun_same, builds_with, called, causes, checks, Chosen, closes, consumers_after, consumers_made, Each, each_append, each_either, each_flat, each_map, Entry, first, first_case, first_of, flushes, follows_some, from_base, gathers, In, is_live, IsRun, joins, left_with, link_got, live_begun, lost_on, may_call, none_now, notice, Options, over_each, parts_of, procedure_for, producers_made, producers_rung, produces, rest, rest_of, rules, searches, sends, shares_unless, starts, stays_some, stopped_on, tells, Then, Tickets, told_some, turned_by, unless_refused, view, View, ways_of, why_no_sends}
 use Rattle.pulsar_laws.proofs.LinkWords.{address_key, Addresses, arrival_at, Base, closing, Exhausted, got_at, Nobody, over_links, Pause, Pauses, Place, rings, Runs, Seat, Series, Serves, stop_act, tells_asker, took_some}
@@ -476,10 +476,10 @@ module _ (o : Options) (log : List Entry) (run : IsRun o log) (k : Over o log) w
   parts_on (Does who (TellAll ns)) fits is =
       goes_over (Does who (TellAll ns)) fits refl (λ w h. h) (inr (inr (inl (settling_told (v.stand who) is.1))), tt) is.0 tt (λ l. refl) k.alarms k.fine
       k.bare k.gone (λ l e. absurd cc)
-  parts_on (Does who (TakeBatch m)) fits is =
+  parts_on (Does who (OfTopic m TakeBatch)) fits is =
       let none : batch_told (v.stand who) (outcome.Granted (news.HasBatch (next_batch_at (v.producers.topics m)))) ≡ true =
       ap (λ r. batch_told (v.stand who) (outcome.Granted (news.HasBatch r))) (k.bare m) ∙ taking_told (v.stand who) is in
-      goes_over (Does who (TakeBatch m)) fits refl (λ w h. h) (inr (inr (inl none)), tt) tt tt (λ l. refl) k.alarms k.fine
+      goes_over (Does who (OfTopic m TakeBatch)) fits refl (λ w h. h) (inr (inr (inl none)), tt) tt tt (λ l. refl) k.alarms k.fine
       (λ n. bare_changed m n v.producers (k.bare n)) k.gone (λ l e. absurd cc)
   parts_on (Told n) fits is = parts_told n fits is
   parts_on a fits is = absurd is

@@ -2,7 +2,7 @@
 use Rattle.std.proofs.Common.{◌≡◌, ap, ℕ, List, [], ◌∷◌, ◌++◌, refl, Bool, true, false, cond, Option, Some, None, Result, Ok, Err}
 use Rattle.std.specs.List.{flat_map}
 use Rattle.std.specs.Option.{option_to_list}
-use Rattle.pulsar_laws.proofs.ActWords.{Act, Action, Answers, Ask, Comes, Dials, Does, Draw, Ends, FailConsumer, Find, FindConsumer, Flush, Get, Number, Outcome, PassTurn, Recall, RecallConsumer, Remake, Rest, Revive, Shut, Starts, StopAll, Stops, Store, TakeBatch, TakeFlow, TakeNumber, TakeTurn, Tell, TellAll, ticket_of, Told, ToLink, Wait, Who}
+use Rattle.pulsar_laws.proofs.ActWords.{Act, Action, Answers, Ask, Comes, Dials, Does, Draw, Ends, FailConsumer, Find, FindConsumer, Flush, Get, Number, OfTopic, Outcome, PassTurn, Recall, RecallConsumer, Remake, Rest, Revive, Shut, Starts, StopAll, Stops, Store, TakeBatch, TakeFlow, TakeNumber, TakeTurn, Tell, TellAll, ToLink, Told, Wait, Who, ticket_of}
 use Rattle.pulsar_laws.proofs.PlanWords.{Command, Drawn, News}
 use Rattle.pulsar_laws.proofs.RunWords.{Each, each_append, notice, over_each, performs, room_of, tells, View}
 use Rattle.pulsar_laws.proofs.LinkWords.{address_key, answer_at, ConnectionError, is_reachable, Nobody, over_links, Pauses, Place, Runs, Series, Serves, stop_act, told_at, Words}
@@ -24,16 +24,16 @@ use Rattle.pulsar_laws.proofs.Cases.{cond_so}
 
 -- an action grants just this
 abbrev pub GivenBy : View → Action → News → Type 0
-GivenBy v (TakeTurn n) (news.HasTurn version) = turn_taken (v.producers.topics n) ≡ Some version
-GivenBy v (PassTurn n) news.Done = Unit {0}
-GivenBy v (Draw n) (news.Drew d) = (room : Bool) × (room_of v n ≡ Some room) × (drawn room (v.producers.topics n) ≡ Some d)
-GivenBy v (Recall n) (news.Recalled c) = recalled v.producers n ≡ Some c
-GivenBy v (Remake r) news.Done = Unit {0}
+GivenBy v (OfTopic n TakeTurn) (news.HasTurn version) = turn_taken (v.producers.topics n) ≡ Some version
+GivenBy v (OfTopic n PassTurn) news.Done = Unit {0}
+GivenBy v (OfTopic n Draw) (news.Drew d) = (room : Bool) × (room_of v n ≡ Some room) × (drawn room (v.producers.topics n) ≡ Some d)
+GivenBy v (OfTopic n Recall) (news.Recalled c) = recalled v.producers n ≡ Some c
+GivenBy v (OfTopic m (Remake r)) news.Done = Unit {0}
 GivenBy v Number (news.Numbered n) = number_drawn v.producers ≡ Some n
 GivenBy v (Shut t) news.Done = Unit {0}
-GivenBy v (Store n entry) news.Done = Unit {0}
-GivenBy v (Flush n) news.Done = is_settled_at (v.producers.topics n) ≡ true
-GivenBy v (TakeBatch n) (news.HasBatch items) = next_batch_at (v.producers.topics n) ≡ items
+GivenBy v (OfTopic n (Store entry)) news.Done = Unit {0}
+GivenBy v (OfTopic n Flush) news.Done = is_settled_at (v.producers.topics n) ≡ true
+GivenBy v (OfTopic n TakeBatch) (news.HasBatch items) = next_batch_at (v.producers.topics n) ≡ items
 GivenBy v (Tell n) news.Done = Unit {0}
 GivenBy v (TellAll ns) news.Done = Unit {0}
 GivenBy v action n = ⊥
@@ -69,24 +69,24 @@ module _ (v : View) (who : Who) where
   asks_once l request (Ok (asked.Waiting place)) = says tt refl
   asks_once l request (Err e) = says tt refl
 
-  turns_once : (n : ℕ) (row : Option Topic) → v.producers.topics n ≡ row → AtOnce v who (TakeTurn n) (takes_turn who row)
+  turns_once : (n : ℕ) (row : Option Topic) → v.producers.topics n ≡ row → AtOnce v who (OfTopic n TakeTurn) (takes_turn who row)
   turns_once n None e = says tt refl
   turns_once n (Some t) e = taken_once (turn_taken (Some t)) (ap turn_taken e)
     where
       taken_once : (r : Option (Option (List ℕ))) → turn_taken (v.producers.topics n) ≡ r →
-          AtOnce v who (TakeTurn n) (flat_map (λ version. grants who (news.HasTurn version)) (option_to_list r))
+          AtOnce v who (OfTopic n TakeTurn) (flat_map (λ version. grants who (news.HasTurn version)) (option_to_list r))
       taken_once None f = nothing
       taken_once (Some version) f = says f refl
 
-  draws_once : (n : ℕ) (r : Option Bool) → room_of v n ≡ r → AtOnce v who (Draw n) (tells who (draw_outcome r (v.producers.topics n)))
+  draws_once : (n : ℕ) (r : Option Bool) → room_of v n ≡ r → AtOnce v who (OfTopic n Draw) (tells who (draw_outcome r (v.producers.topics n)))
   draws_once n None e = says tt refl
   draws_once n (Some room) e = drawn_once (drawn room (v.producers.topics n)) refl
     where
-      drawn_once : (d : Option Drawn) → drawn room (v.producers.topics n) ≡ d → AtOnce v who (Draw n) (tells who (draw_said d))
+      drawn_once : (d : Option Drawn) → drawn room (v.producers.topics n) ≡ d → AtOnce v who (OfTopic n Draw) (tells who (draw_said d))
       drawn_once None f = says tt refl
       drawn_once (Some d) f = says (room, e, f) refl
 
-  recalls_once : (n : ℕ) (r : Option Command) → recalled v.producers n ≡ r → AtOnce v who (Recall n) (recalls who r)
+  recalls_once : (n : ℕ) (r : Option Command) → recalled v.producers n ≡ r → AtOnce v who (OfTopic n Recall) (recalls who r)
   recalls_once n None e = says tt refl
   recalls_once n (Some c) e = says e refl
 
@@ -94,11 +94,11 @@ module _ (v : View) (who : Who) where
   numbers_once None e = says tt refl
   numbers_once (Some n) e = says e refl
 
-  finds_once : (n : ℕ) (r : Option ℕ) → AtOnce v who (Find n) (finds who r)
+  finds_once : (n : ℕ) (r : Option ℕ) → AtOnce v who (OfTopic n Find) (finds who r)
   finds_once n None = says tt refl
   finds_once n (Some l) = says tt refl
 
-  flushes_once : (n : ℕ) (b : Bool) → is_settled_at (v.producers.topics n) ≡ b → AtOnce v who (Flush n) (cond b (grants who news.Done) [])
+  flushes_once : (n : ℕ) (b : Bool) → is_settled_at (v.producers.topics n) ≡ b → AtOnce v who (OfTopic n Flush) (cond b (grants who news.Done) [])
   flushes_once n true e = says e refl
   flushes_once n false e = nothing
 
@@ -122,17 +122,17 @@ module _ (v : View) (who : Who) where
   performs_once (Ask l request) = asks_once l request (answer_at v.now request (v.links.live l))
   performs_once StopAll = stops_all
   performs_once (Wait delay) = nothing
-  performs_once (TakeTurn n) = turns_once n (v.producers.topics n) refl
-  performs_once (PassTurn n) = says tt refl
-  performs_once (Draw n) = draws_once n (room_of v n) refl
-  performs_once (Recall n) = recalls_once n (recalled v.producers n) refl
-  performs_once (Remake r) = says tt refl
+  performs_once (OfTopic n TakeTurn) = turns_once n (v.producers.topics n) refl
+  performs_once (OfTopic n PassTurn) = says tt refl
+  performs_once (OfTopic n Draw) = draws_once n (room_of v n) refl
+  performs_once (OfTopic n Recall) = recalls_once n (recalled v.producers n) refl
+  performs_once (OfTopic m (Remake r)) = says tt refl
   performs_once Number = numbers_once (number_drawn v.producers) refl
-  performs_once (Find n) = finds_once n (link_at (v.producers.topics n))
+  performs_once (OfTopic n Find) = finds_once n (link_at (v.producers.topics n))
   performs_once (Shut t) = says tt refl
-  performs_once (Store n entry) = says tt refl
-  performs_once (Flush n) = flushes_once n (is_settled_at (v.producers.topics n)) refl
-  performs_once (TakeBatch n) = says refl refl
+  performs_once (OfTopic n (Store entry)) = says tt refl
+  performs_once (OfTopic n Flush) = flushes_once n (is_settled_at (v.producers.topics n)) refl
+  performs_once (OfTopic n TakeBatch) = says refl refl
   performs_once (TakeNumber wanted) = numbering_once wanted (consumer.numbering v.consumers wanted)
   performs_once (FindConsumer t) = sought_once t (consumer.sought (v.consumers.rows t))
   performs_once TakeFlow = says tt refl

@@ -1,6 +1,6 @@
 -- The frame of a batch, as its topic producer asks for it.
 use Rattle.std.proofs.Common.{◌≡◌, inl, inr, ◌∙◌, sym, ap, subst, ℕ, ◌+◌, List, ◌∷◌, refl, Bool, true, false, cond, Option, Some, None, Ok}
-use Rattle.pulsar_laws.proofs.ActWords.{Action, Ask, Does, Draw, Notice, Outcome, Procedure, Producer, Rest, Starts, Told}
+use Rattle.pulsar_laws.proofs.ActWords.{Action, Ask, Does, Draw, Notice, OfTopic, Outcome, Procedure, Producer, Rest, Starts, Told}
 use Rattle.pulsar_laws.proofs.PlanWords.{action_of, Batches, Batching, begins, Deed, Drawn, Errand, Member, News, news_of, Plan, Sending as Send, Stays, told, Ways}
 use Rattle.pulsar_laws.proofs.RunWords.{Begins, draws_on, Entry, In, IsRun, notice, Options, room_of, Then, view}
 use Rattle.pulsar_laws.proofs.LinkWords.{Words}
@@ -159,7 +159,7 @@ record InSend (o : Options) (log : List Entry) (n : ℕ) (a : Action) : Type 0 w
 
 abbrev is_within : Action → Bool
 is_within (Ask l request) = true
-is_within (Draw n) = true
+is_within (OfTopic n Draw) = true
 is_within _ = false
 
 in_send : (o : Options) (log : List Entry) (n : ℕ) (a : Action) → is_within a ≡ true → IsRun o (Then (Does (Producer n) a) ∷ log) → InSend o log n a
@@ -226,7 +226,7 @@ link_of k (Ask l request) = l
 link_of k _ = k
 
 abbrev drawn_at : ℕ → Action → ℕ
-drawn_at k (Draw n) = n
+drawn_at k (OfTopic n Draw) = n
 drawn_at k _ = k
 
 abbrev sent_by : ℕ → Words → ℕ
@@ -301,10 +301,10 @@ asked_own o log n l k s name m block run i =
 
 -- THE DRAW before it
 
-draws_own : (o : Options) (log : List Entry) (n m : ℕ) → IsRun o (Then (Does (Producer n) (Draw m)) ∷ log) → m ≡ n
-draws_own o log n m run = let x = in_send o log n (Draw m) refl run in by x x.deed x.is_it x.so
+draws_own : (o : Options) (log : List Entry) (n m : ℕ) → IsRun o (Then (Does (Producer n) (OfTopic m Draw)) ∷ log) → m ≡ n
+draws_own o log n m run = let x = in_send o log n (OfTopic m Draw) refl run in by x x.deed x.is_it x.so
   where
-    by : (x : InSend o log n (Draw m)) (d : Deed) → Draw m ≡ action_of d → DeedSo x.errand x.whole (TurnTold log n) (news_of x.outcome) x.state d → m ≡ n
+    by : (x : InSend o log n (OfTopic m Draw)) (d : Deed) → OfTopic m Draw ≡ action_of d → DeedSo x.errand x.whole (TurnTold log n) (news_of x.outcome) x.state d → m ≡ n
     by x (deed.Draws j) h so = ap (drawn_at m) h ∙ so ∙ x.own
     by x (deed.Does (wish.Get p)) h so = absurd cc
     by x (deed.Does (wish.Ask l request)) h so = absurd cc
@@ -313,7 +313,7 @@ draws_own o log n m run = let x = in_send o log n (Draw m) refl run in by x x.de
 
 record WasDrawn (o : Options) (older : List Entry) (n : ℕ) (d : Drawn) : Type 0 where
   behind : List Entry
-  there : older ≡ Then (Does (Producer n) (Draw n)) ∷ behind
+  there : older ≡ Then (Does (Producer n) (OfTopic n Draw)) ∷ behind
   room : Bool
   ready : room_of (view o behind) n ≡ Some room
   row : IsDrawn room ((view o behind).producers.topics n) d
@@ -324,11 +324,11 @@ was_drawn o older n d run =
     let note : Notice = notice (Producer n) (outcome.Granted (news.Drew d)) in
     let g = granted_by o older note refl run in
     let b = draw_by (view o g.older) g.action d (grants_given o older note g (news.Drew d) refl) in
-    let there : older ≡ Then (Does (Producer n) (Draw b.0)) ∷ g.older = g.is_there ∙ ap (λ (x : Action). Then (Does (Producer n) x) ∷ g.older) b.1 in
+    let there : older ≡ Then (Does (Producer n) (OfTopic b.0 Draw)) ∷ g.older = g.is_there ∙ ap (λ (x : Action). Then (Does (Producer n) x) ∷ g.older) b.1 in
     let own : b.0 ≡ n = draws_own o g.older n b.0 (subst (IsRun o) there run.0) in
     record {
       behind = g.older;
-      there = there ∙ ap (λ m. Then (Does (Producer n) (Draw m)) ∷ g.older) own;
+      there = there ∙ ap (λ m. Then (Does (Producer n) (OfTopic m Draw)) ∷ g.older) own;
       room = b.2;
       ready = ap (room_of (view o g.older)) (sym own) ∙ b.3;
       row = subst (λ m. IsDrawn b.2 ((view o g.older).producers.topics m) d) own (is_drawn b.2 ((view o g.older).producers.topics b.0) d b.4);

@@ -3,7 +3,7 @@ use Rattle.std.proofs.Common.{◌≡◌, ◌⊎◌, inl, inr, ◌∙◌, sym, ap
 use Rattle.std.proofs.lemmas.Bool.{cases_Bool, eqb-true}
 use Rattle.std.proofs.lemmas.Bool.Decides.{nat_tests}
 use Rattle.std.specs.Option.{is_some, option_map}
-use Rattle.pulsar_laws.proofs.ActWords.{Act, Action, Alarm, Answers, Asked, Batch, Call, Calls, Comes, Does, Draw, Flush, Heard, is_same, lacks_tickets, Makes, Nothing, Notice, Number, Outcome, PassTurn, Procedure, Remake, Rings, shares, Shut, Starts, StopAll, Store, TakeBatch, TakeTurn, Told, turn_of, Verdict, Who}
+use Rattle.pulsar_laws.proofs.ActWords.{Act, Action, Alarm, Answers, Asked, Batch, Call, Calls, Comes, Does, Draw, Flush, Heard, Makes, Nothing, Notice, Number, OfTopic, Outcome, PassTurn, Procedure, Remake, Rings, Shut, Starts, StopAll, Store, TakeBatch, TakeTurn, Told, Verdict, Who, is_same, lacks_tickets, shares, turn_of}
 use Rattle.pulsar_laws.proofs.PlanWords.{Asking, Awaiting, begins, Built, fails, Gives, Plan, Producing, Stays, told, Turn}
 use Rattle.pulsar_laws.proofs.RunWords.{Answered, Begins, begun_same, counted, draws_on, each_map, Entry, In, IsRun, may_call, notice, Options, producers_made, producers_rung, room_of, started, stays, stays_some, Then, told_some, view, View}
 use Rattle.pulsar_laws.proofs.LinkWords.{Exhausted, rings}
@@ -184,14 +184,14 @@ made_row v who verdict _ e n t h = inl (same_row v.producers n t h)
 pub row_from : (v : View) (a : Act) (n : ℕ) (t : Topic) → (seen.after a v).producers.topics n ≡ Some t → WasThere v.producers n t ⊎ Joins v a n t
 row_from v (Comes (Calls asked advice)) n t h = inl (same_row v.producers n t (ap (λ f. f n) (sym (called_kept v asked advice).0) ∙ h))
 row_from v (Comes (Rings a)) n t h = inl (rung_row (rings v.now a v.alarms) a v.producers n t h)
-row_from v (Does who (TakeTurn m)) n t h = inl (changed_row m (topic.Takes (turn_of who)) v.producers n t h)
-row_from v (Does who (Store m e)) n t h = inl (changed_row m (topic.Stores (turn_of who) e) v.producers n t h)
-row_from v (Does who (Flush m)) n t h = inl (changed_row m (topic.Flushes (turn_of who)) v.producers n t h)
-row_from v (Does who (TakeBatch m)) n t h = inl (changed_row m topic.TakesBatch v.producers n t h)
+row_from v (Does who (OfTopic m TakeTurn)) n t h = inl (changed_row m (topic.Takes (turn_of who)) v.producers n t h)
+row_from v (Does who (OfTopic m (Store e))) n t h = inl (changed_row m (topic.Stores (turn_of who) e) v.producers n t h)
+row_from v (Does who (OfTopic m Flush)) n t h = inl (changed_row m (topic.Flushes (turn_of who)) v.producers n t h)
+row_from v (Does who (OfTopic m TakeBatch)) n t h = inl (changed_row m topic.TakesBatch v.producers n t h)
 row_from v (Does who StopAll) n t h = inl (map_row Halts v.producers n t (v.producers.topics n) refl h)
-row_from v (Does who (PassTurn m)) n t h = inl (changed_row m topic.Passes v.producers n t h)
-row_from v (Does who (Draw m)) n t h = inl (draws_row (room_of v m) m v.producers n t h)
-row_from v (Does who (Remake r)) n t h = inl (changed_row r.number (topic.Remakes r.link r.given) v.producers n t h)
+row_from v (Does who (OfTopic m PassTurn)) n t h = inl (changed_row m topic.Passes v.producers n t h)
+row_from v (Does who (OfTopic m Draw)) n t h = inl (draws_row (room_of v m) m v.producers n t h)
+row_from v (Does who (OfTopic m (Remake r))) n t h = inl (changed_row m (topic.Remakes r.link r.given) v.producers n t h)
 row_from v (Does who (Shut u)) n t h = inl (shut_row (numbers_at (v.producers.built u)) v.producers n t h)
 row_from v (Answers who verdict) n t h = made_row v who verdict verdict.makes refl n t h
 row_from v _ n t h = inl (same_row v.producers n t h)
@@ -234,7 +234,7 @@ next_more ps =
 pub next_after : (v : View) (a : Act) → v.producers.next ≤ (seen.after a v).producers.next
 next_after v (Comes (Calls asked advice)) = let e = (called_kept v asked advice).1 in rw e (omega arith)
 next_after v (Comes (Rings a)) = let e = rung_next (rings v.now a v.alarms) a v.producers in rw e (omega arith)
-next_after v (Does who (Draw m)) = let e = draws_next (room_of v m) m v.producers in rw e (omega arith)
+next_after v (Does who (OfTopic m Draw)) = let e = draws_next (room_of v m) m v.producers in rw e (omega arith)
 next_after v (Does who (Shut u)) = let e = next_shut (numbers_at (v.producers.built u)) v.producers in rw e (omega arith)
 next_after v (Does who Number) = next_more v.producers
 next_after v (Answers who verdict) = let e = made_next v who verdict.makes in rw e (omega arith)

@@ -6,7 +6,7 @@ use Rattle.std.specs.BTreeSet.{insert_key}
 use Rattle.std.specs.List.{list_any}
 use Rattle.std.specs.Option.{is_some}
 use Rattle.std.specs.Ordering.{nat_cmp}
-use Rattle.pulsar_laws.proofs.ActWords.{Act, Alarm, Answers, Asked, Batch, Calls, Comes, Does, Draw, lacks_tickets, Makes, Number, Rings, shares, Shut, Told, Who}
+use Rattle.pulsar_laws.proofs.ActWords.{Act, Alarm, Answers, Asked, Batch, Calls, Comes, Does, Draw, Makes, Number, OfTopic, Rings, Shut, Told, Who, lacks_tickets, shares}
 use Rattle.pulsar_laws.proofs.PlanWords.{Built}
 use Rattle.pulsar_laws.proofs.RunWords.{Begins, begun_same, draws_on, Entry, In, IsRun, may_call, notice, Options, producers_made, producers_rung, room_of, Then, View, view}
 use Rattle.pulsar_laws.proofs.LinkWords.{rings}
@@ -183,7 +183,7 @@ after_low v (Comes (Calls asked advice)) h =
     cond_so IsLow (lacks_tickets v.calls.drawn (shares asked)) v.producers (called_on (may_call v.calls) asked v.producers) h
     (cond_so IsLow (may_call v.calls) (opened_on asked v.producers) v.producers (opened_low asked v.producers h) h)
 after_low v (Comes (Rings a)) h = rung_low v (rings v.now a v.alarms) a h
-after_low v (Does who (Draw m)) h = kept_low v.producers (draws_on (room_of v m) m v.producers) (draws_kept (room_of v m) m v.producers) h
+after_low v (Does who (OfTopic m Draw)) h = kept_low v.producers (draws_on (room_of v m) m v.producers) (draws_kept (room_of v m) m v.producers) h
 after_low v (Does who (Shut u)) h =
     kept_low v.producers (shut_all (numbers_at (v.producers.built u)) v.producers) (shut_kept (numbers_at (v.producers.built u)) v.producers) h
 after_low v (Does who Number) h = numbered_low v.producers h

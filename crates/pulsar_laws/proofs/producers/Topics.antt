@@ -2,7 +2,7 @@
 use Rattle.std.proofs.Common.{◌≡◌, inl, inr, ◌∙◌, sym, ap, ℕ, ◌==◌, List, [], ◌∷◌, ◌++◌, refl, Bool, true, false, cond, Option, Some, None}
 use Rattle.std.proofs.lemmas.Bool.{cases_Bool}
 use Rattle.std.specs.Option.{is_some, option_map}
-use Rattle.pulsar_laws.proofs.ActWords.{Act, Answers, Batch, Calls, Comes, Does, Draw, Flush, Makes, PassTurn, Remake, Rings, Shut, StopAll, Store, TakeBatch, TakeTurn, turn_of, Verdict, Who}
+use Rattle.pulsar_laws.proofs.ActWords.{Act, Answers, Batch, Calls, Comes, Does, Draw, Flush, Makes, OfTopic, PassTurn, Remake, Rings, Shut, StopAll, Store, TakeBatch, TakeTurn, Verdict, Who, turn_of}
 use Rattle.pulsar_laws.proofs.PlanWords.{Built}
 use Rattle.pulsar_laws.proofs.RunWords.{Begins, begun_same, chosen_same, draws_on, Entry, IsRun, Options, producers_made, producers_rung, room_of, Then, view, View}
 use Rattle.pulsar_laws.proofs.LinkWords.{rings}
@@ -98,14 +98,14 @@ module _ (o : Options) (log : List Entry) (k : Every (Drawn o) log) (n : ℕ) (t
   pub row_as : (a : Act) → IsRun o (Then a ∷ log) → (seen.after a v).producers.topics n ≡ Some (topic_all (topic_acts v n a) t)
   row_as (Comes (Calls asked advice)) run = ap (λ f. f n) (called_kept v asked advice).0 ∙ h
   row_as (Comes (Rings (Batch m))) run = rung_as n t (rings v.now (Batch m) v.alarms) m v.producers h
-  row_as (Does who (TakeTurn m)) run = changed_as n t m (topic.Takes (turn_of who)) v.producers h
-  row_as (Does who (Store m e)) run = changed_as n t m (topic.Stores (turn_of who) e) v.producers h
-  row_as (Does who (Flush m)) run = changed_as n t m (topic.Flushes (turn_of who)) v.producers h
-  row_as (Does who (TakeBatch m)) run = changed_as n t m topic.TakesBatch v.producers h
+  row_as (Does who (OfTopic m TakeTurn)) run = changed_as n t m (topic.Takes (turn_of who)) v.producers h
+  row_as (Does who (OfTopic m (Store e))) run = changed_as n t m (topic.Stores (turn_of who) e) v.producers h
+  row_as (Does who (OfTopic m Flush)) run = changed_as n t m (topic.Flushes (turn_of who)) v.producers h
+  row_as (Does who (OfTopic m TakeBatch)) run = changed_as n t m topic.TakesBatch v.producers h
   row_as (Does who StopAll) run = ap (option_map (topic_after Halts)) h
-  row_as (Does who (PassTurn m)) run = changed_as n t m topic.Passes v.producers h
-  row_as (Does who (Draw m)) run = draws_as n t (room_of v m) m v.producers h
-  row_as (Does who (Remake r)) run = changed_as n t r.number (topic.Remakes r.link r.given) v.producers h
+  row_as (Does who (OfTopic m PassTurn)) run = changed_as n t m topic.Passes v.producers h
+  row_as (Does who (OfTopic m Draw)) run = draws_as n t (room_of v m) m v.producers h
+  row_as (Does who (OfTopic m (Remake r))) run = changed_as n t m (topic.Remakes r.link r.given) v.producers h
   row_as (Does who (Shut u)) run = shut_as (numbers_at (v.producers.built u)) n t v.producers h
   row_as (Answers who verdict) run = joined_as who verdict verdict.makes refl run
   row_as _ run = h

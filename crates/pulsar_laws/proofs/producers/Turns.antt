@@ -1,7 +1,7 @@
 -- Whose turn it is: nobody has the turn of a topic producer beside the one that it was given to, who waits for it waits for no other, and
 -- one is told of a turn once.
 use Rattle.std.proofs.Common.{◌≡◌, ◌∙◌, ap, subst, ℕ, ◌+◌, ◌==◌, arith, List, [], ◌∷◌, ◌++◌, refl, Bool, true, false, ◌&&◌, cond, Option, Some, None}
-use Rattle.pulsar_laws.proofs.ActWords.{Act, Action, Batch, below, Comes, Does, Draw, Flush, is_same, Notice, Outcome, Part, PassTurn, Remake, Rings, Shut, StopAll, Store, TakeBatch, turn_of as taken_as, TakeTurn, Told, Who}
+use Rattle.pulsar_laws.proofs.ActWords.{Act, Action, Batch, Comes, Does, Draw, Flush, Notice, OfTopic, Outcome, Part, PassTurn, Remake, Rings, Shut, StopAll, Store, TakeBatch, TakeTurn, Told, Who, below, is_same, turn_of as taken_as}
 use Rattle.pulsar_laws.proofs.RunWords.{agenda, at_once, Each, each_either, Entry, first_of, IsRun, joins, Options, performs, put_all, rest, rest_of, room_of, rules, Then, view, View}
 use Rattle.pulsar_laws.proofs.LinkWords.{rings}
 use Rattle.pulsar_run.specs.Order.{put}
@@ -99,12 +99,12 @@ pend_rest t [] [] [] [] a free h = absurd cc
 -- WHO TELLS OF TURNS
 
 abbrev pub is_take : Action → Bool
-is_take (TakeTurn n) = true
+is_take (OfTopic n TakeTurn) = true
 is_take _ = false
 
 no_turn_given : (v : View) (action : Action) (version : Option (List ℕ)) → is_take action ≡ false → GivenBy v action (news.HasTurn version) → ⊥
-no_turn_given v (TakeTurn n) version t h = absurd cc
-no_turn_given v (PassTurn n) version t h = h
+no_turn_given v (OfTopic n TakeTurn) version t h = absurd cc
+no_turn_given v (OfTopic n PassTurn) version t h = h
 no_turn_given v _ version t h = h
 
 says_none : (v : View) (action : Action) (u : Outcome) → is_take action ≡ false → SaysSo v action u → is_turn_told u ≡ false
@@ -121,11 +121,11 @@ none_by t (Told n) h = absurd cc
 none_by t _ h = refl
 
 abbrev pub takes_it : Act → Bool
-takes_it (Does who (TakeTurn n)) = true
+takes_it (Does who (OfTopic n TakeTurn)) = true
 takes_it _ = false
 
 pub once_none : (v : View) (t : Who) (a : Act) → takes_it a ≡ false → sum (turn_act t) (at_once v a) ≡ 0
-once_none v t (Does who (TakeTurn n)) h = absurd cc
+once_none v t (Does who (OfTopic n TakeTurn)) h = absurd cc
 once_none v t (Does who action) h = sum_none (GivesSo v action) (turn_act t) (performs v who action) (λ b k. gives_none v action t b refl k)
     (gives_so v who action)
 once_none v t a h = sum_none (IsRaised a) (turn_act t) (at_once v a) (λ b k. none_by t b (raised_told a b refl k)) (raises v a)
@@ -211,15 +211,15 @@ shut_left n [] = tt
 shut_left n (m ∷ ns) = each_either LeavesTurn (n == m) (Closes ∷ shut_by n ns) (shut_by n ns) (refl, shut_left n ns) (shut_left n ns)
 
 pub acts_left : (v : View) (n : ℕ) (a : Act) → takes_it a ≡ false → passes_it a ≡ false → Each LeavesTurn (topic_acts v n a)
-acts_left v n (Does who (TakeTurn m)) t p = absurd cc
-acts_left v n (Does who (PassTurn m)) t p = absurd cc
+acts_left v n (Does who (OfTopic m TakeTurn)) t p = absurd cc
+acts_left v n (Does who (OfTopic m PassTurn)) t p = absurd cc
 acts_left v n (Comes (Rings (Batch m))) t p =
     each_either LeavesTurn (n == m) (rung_by (rings v.now (Batch m) v.alarms)) [] (rung_left (rings v.now (Batch m) v.alarms)) tt
-acts_left v n (Does who (Store m e)) t p = each_either LeavesTurn (n == m) (Stores (taken_as who) e ∷ []) [] (refl, tt) tt
-acts_left v n (Does who (Flush m)) t p = each_either LeavesTurn (n == m) (Flushes (taken_as who) ∷ []) [] (refl, tt) tt
-acts_left v n (Does who (TakeBatch m)) t p = each_either LeavesTurn (n == m) (TakesBatch ∷ []) [] (refl, tt) tt
+acts_left v n (Does who (OfTopic m (Store e))) t p = each_either LeavesTurn (n == m) (Stores (taken_as who) e ∷ []) [] (refl, tt) tt
+acts_left v n (Does who (OfTopic m Flush)) t p = each_either LeavesTurn (n == m) (Flushes (taken_as who) ∷ []) [] (refl, tt) tt
+acts_left v n (Does who (OfTopic m TakeBatch)) t p = each_either LeavesTurn (n == m) (TakesBatch ∷ []) [] (refl, tt) tt
 acts_left v n (Does who StopAll) t p = (refl, tt)
-acts_left v n (Does who (Draw m)) t p = each_either LeavesTurn (n == m) (drawn_by (room_of v m)) [] (drawn_left (room_of v m)) tt
-acts_left v n (Does who (Remake r)) t p = each_either LeavesTurn (n == r.number) (Remakes r.link r.given ∷ []) [] (refl, tt) tt
+acts_left v n (Does who (OfTopic m Draw)) t p = each_either LeavesTurn (n == m) (drawn_by (room_of v m)) [] (drawn_left (room_of v m)) tt
+acts_left v n (Does who (OfTopic m (Remake r))) t p = each_either LeavesTurn (n == m) (Remakes r.link r.given ∷ []) [] (refl, tt) tt
 acts_left v n (Does who (Shut u)) t p = shut_left n (numbers_at (v.producers.built u))
 acts_left v n _ t p = tt

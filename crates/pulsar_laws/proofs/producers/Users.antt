@@ -5,7 +5,7 @@ use Rattle.std.specs.Option.{is_some}
 use Rattle.std.specs.Ordering.{match_ordering, nat_cmp}
 use Rattle.std.specs.declared.cmp.Ordering.{Ordering}
 use Rattle.std.specs.declared.cmp.Ordering.TheVariants.{Less, Equal, Greater}
-use Rattle.pulsar_laws.proofs.ActWords.{Act, Action, Batch, Call, Comes, Consumer, Does, Draw, Flush, Notice, Outcome, PassTurn, Procedure, Producer, Remake, Rings, Shut, StopAll, Store, TakeBatch, TakeTurn, TellAll, Told, turn_of, Who}
+use Rattle.pulsar_laws.proofs.ActWords.{Act, Action, Batch, Call, Comes, Consumer, Does, Draw, Flush, Notice, OfTopic, Outcome, PassTurn, Procedure, Producer, Remake, Rings, Shut, StopAll, Store, TakeBatch, TakeTurn, TellAll, Told, Who, turn_of}
 use Rattle.pulsar_laws.proofs.PlanWords.{action_of, Batches, Batching, Building as Build, Deed, Errand, Fate, Member, News, news_of, Order, Plan, Sending as Send, told_to, Ways}
 use Rattle.pulsar_laws.proofs.RunWords.{Begins, Each, each_append, each_either, Entry, In, IsRun, notice, Options, room_of, Then, View, view}
 use Rattle.pulsar_laws.proofs.LinkWords.{rings}
@@ -192,9 +192,9 @@ module _ (T P : ℕ → Type 0) where
   -- ALONG A LOG in which whoever uses a topic producer is so
 
   abbrev pub DoesSo : Act → Type 0
-  DoesSo (Does who (TakeTurn n)) = T (turn_of who)
-  DoesSo (Does who (Store n e)) = P (turn_of who)
-  DoesSo (Does who (Flush n)) = P (turn_of who)
+  DoesSo (Does who (OfTopic n TakeTurn)) = T (turn_of who)
+  DoesSo (Does who (OfTopic n (Store e))) = P (turn_of who)
+  DoesSo (Does who (OfTopic n Flush)) = P (turn_of who)
   DoesSo _ = Unit {0}
 
   abbrev pub LogSo : List Entry → Type 0
@@ -213,17 +213,17 @@ module _ (T P : ℕ → Type 0) where
   acts_by : (v : View) (n : ℕ) (a : Act) → DoesSo a → Each ActSo (topic_acts v n a)
   acts_by v n (Comes (Rings (Batch m))) k =
       each_either ActSo (n == m) (rung_by (rings v.now (Batch m) v.alarms)) [] (one_act (rings v.now (Batch m) v.alarms) topic.Cuts tt) tt
-  acts_by v n (Does who (TakeTurn m)) k = one_act (n == m) (topic.Takes (turn_of who)) k
-  acts_by v n (Does who (PassTurn m)) k = one_act (n == m) topic.Passes tt
-  acts_by v n (Does who (Draw m)) k = each_either ActSo (n == m) (drawn_by (room_of v m)) [] (drawn_so (room_of v m)) tt
+  acts_by v n (Does who (OfTopic m TakeTurn)) k = one_act (n == m) (topic.Takes (turn_of who)) k
+  acts_by v n (Does who (OfTopic m PassTurn)) k = one_act (n == m) topic.Passes tt
+  acts_by v n (Does who (OfTopic m Draw)) k = each_either ActSo (n == m) (drawn_by (room_of v m)) [] (drawn_so (room_of v m)) tt
     where
       drawn_so : (r : Option Bool) → Each ActSo (drawn_by r)
       drawn_so None = tt
       drawn_so (Some room) = (tt, tt)
-  acts_by v n (Does who (Remake r)) k = one_act (n == r.number) (topic.Remakes r.link r.given) tt
-  acts_by v n (Does who (Store m e)) k = one_act (n == m) (topic.Stores (turn_of who) e) k
-  acts_by v n (Does who (Flush m)) k = one_act (n == m) (topic.Flushes (turn_of who)) k
-  acts_by v n (Does who (TakeBatch m)) k = one_act (n == m) topic.TakesBatch tt
+  acts_by v n (Does who (OfTopic m (Remake r))) k = one_act (n == m) (topic.Remakes r.link r.given) tt
+  acts_by v n (Does who (OfTopic m (Store e))) k = one_act (n == m) (topic.Stores (turn_of who) e) k
+  acts_by v n (Does who (OfTopic m Flush)) k = one_act (n == m) (topic.Flushes (turn_of who)) k
+  acts_by v n (Does who (OfTopic m TakeBatch)) k = one_act (n == m) topic.TakesBatch tt
   acts_by v n (Does who StopAll) k = (tt, tt)
   acts_by v n (Does who (Shut t)) k = shut_so n (numbers_at (v.producers.built t))
   acts_by v n _ k = tt
@@ -254,7 +254,7 @@ module _ (T P : ℕ → Type 0) where
 
   given_so : (o : Options) (log : List Entry) (action : Action) (items : Option (List Item)) → IsRun o log → LogSo log →
       GivenBy (view o log) action (news.HasBatch items) → NewsSo (news.HasBatch items)
-  given_so o log (TakeBatch n) items run k h =
+  given_so o log (OfTopic n TakeBatch) items run k h =
       subst (λ x. NewsSo (news.HasBatch x)) h (taken_so o n log ((view o log).producers.topics n) run k refl)
   given_so o log _ items run k h = absurd h
 

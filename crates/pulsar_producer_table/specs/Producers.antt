@@ -4,6 +4,7 @@ use Rattle.std.specs.BTreeSet.{insert_key}
 use Rattle.std.specs.List.{flat_map, list_any}
 use Rattle.std.specs.Option.{is_some, option_map}
 use Rattle.std.specs.Ordering.{nat_cmp}
+use Rattle.pulsar_run.specs.Things.{row_by}
 use Rattle.pulsar_messages.specs.Content.{ProducerMessageValues}
 use Rattle.pulsar_messages.specs.Claims.{is_spent}
 use Rattle.pulsar_exchange.specs.Request.{named_producer}
@@ -54,6 +55,11 @@ topic_after act t = record { owner = t.owner; seen = topic.after act t.seen }
 abbrev pub changed : (number : ℕ) → Act → Producers → Producers
 changed number act ps =
     record ps { topics = λ n. if n == number then option_map (topic_after act) (ps.topics n) else ps.topics n }
+
+-- and several acts, the newest first
+abbrev pub done_to : (number : ℕ) → List Act → Producers → Producers
+done_to number acts ps =
+    record ps { topics = λ n. row_by topic_after (if n == number then acts else []) (ps.topics n) }
 
 -- its link, and whether it takes no sends any more
 abbrev pub link_at : Option Topic → Option ℕ
@@ -218,6 +224,11 @@ abbrev pub shut_all : List ℕ → Producers → Producers
 shut_all [] ps = ps
 shut_all (n ∷ ns) ps = shut_all ns (changed n Closes ps)
 
+-- each of them is closed
+abbrev pub shut_by : (number : ℕ) → List ℕ → List Act
+shut_by n [] = []
+shut_by n (m ∷ ms) = if n == m then Closes ∷ shut_by n ms else shut_by n ms
+
 abbrev pub shut : (ticket : ℕ) → Producers → Producers
 shut t ps = shut_all (numbers_at (ps.built t)) ps
 
@@ -266,6 +277,16 @@ with_topic owner first_number limits b ps =
 abbrev pub with_topics : (owner first_number : ℕ) → Limits → List Built → Producers → Producers
 with_topics owner first_number limits [] ps = ps
 with_topics owner first_number limits (b ∷ bs) ps = with_topics owner first_number limits bs (with_topic owner first_number limits b ps)
+
+-- the new one of a number, where one of these has it: the last
+abbrev pub last_of : Option Topic → Option Topic → Option Topic
+last_of None row = row
+last_of (Some t) row = Some t
+
+abbrev pub topic_in : (owner first_number : ℕ) → Limits → List Built → (number : ℕ) → Option Topic
+topic_in owner first_number limits [] n = None
+topic_in owner first_number limits (b ∷ bs) n =
+    last_of (topic_in owner first_number limits bs n) (if n == b.number then Some (fresh_topic owner first_number limits b) else None)
 
 abbrev pub partition_of : Built → Partition
 partition_of b = record { name = b.topic; number = b.number }

@@ -45,6 +45,6 @@ asked_sees v who n ask ps was b is before f =
 
 pub made_is : (o : Chosen) (who : Who) (m : Makes) (ps : Producers) →
     producers_made o who m ps
-    ≡ record (producers_made o who m ps) { topics = λ n. row_after topic_after (topic_of o who (building_of m) n) false [] (ps.topics n) }
+    ≡ record (producers_made o who m ps) { topics = λ n. row_after topic_after (topic_of (building_of m) who o n) false [] (ps.topics n) }
 made_is o who (Producer b) ps = joined_is (rank who).1 b o.seed o.first_number ps
 made_is o who _ ps = refl

@@ -483,12 +483,12 @@ building_of (Consumer made) = None
 building_of (RawConsumer link made) = None
 building_of (Producer made) = Some made
 
-abbrev pub topic_of : Chosen → Who → Option Building → (number : ℕ) → Option Topic
-topic_of o who None n = None
-topic_of o who (Some b) n = topic_in (rank who).1 o.first_number (limits_of b.settings) b.parts n
+abbrev pub topic_of : Option Building → Who → Chosen → (number : ℕ) → Option Topic
+topic_of None who o n = None
+topic_of (Some b) who o n = topic_in (rank who).1 o.first_number (limits_of b.settings) b.parts n
 
 abbrev pub topic_born : View → (number : ℕ) → Act → Option Topic
-topic_born v n (Answers who verdict) = topic_of v.chosen who (building_of verdict.makes) n
+topic_born v n (Answers who verdict) = topic_of (building_of verdict.makes) who v.chosen n
 topic_born v n _ = None
 
 -- what becomes of it

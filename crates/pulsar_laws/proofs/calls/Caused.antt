@@ -17,7 +17,7 @@ use Rattle.pulsar_calls.specs.declared.act.End.TheVariants.{Unopened, Lost, Brok
 use Rattle.pulsar_laws.proofs.Lists.{in_append, in_each, in_map}
 use Rattle.pulsar_laws.specs.Laws.{AttemptEnds, CutsSo, OutcomesAreCaused, LineEnds, RequestEnds, base_of, IsToldBy, GrantsSo, BuiltDue, PolledDue, RevivedDue, SaysSo}
 use Rattle.pulsar_links.specs.Links.{arrival, change_at, change_in, line_places, new_places, times_out}
-use Rattle.pulsar_acts.specs.Rules.{caused, failed_by, failed_on, gets_from, served_on, stopped_with, waiters_of, woken, draw_outcome, draw_said, finds, grants, number_said, recalls, stopped_one, takes_turn}
+use Rattle.pulsar_acts.specs.Rules.{caused, failed_by, failed_on, gets_from, served_on, stopped_with, waiters_of, woken, grants, number_said, stopped_one, says_to}
 use Rattle.pulsar_links.specs.LinkRules.{answered_by, answered_on, dropped, ended_by, ended_on, failed, failed_over, failed_so, fails_so, lost, lost_so, lost_with, moved_on, served_by, stopped_at}
 use Rattle.pulsar_producer_table.specs.Notices.{stopped_call}
 use Rattle.pulsar_acts.specs.View.{pause_for, pause_of}
@@ -49,6 +49,7 @@ use Rattle.pulsar_calls.specs.declared.act.Makes.TheVariants as makes
 use Rattle.pulsar_consumer_table.specs.Consumers as consumer
 use Rattle.pulsar_consumer.specs.Topic as reader
 use Rattle.pulsar_laws.proofs.calls.CausedLists.{IsAsker, in_alone, in_askers, in_flat, in_opened, in_told, step_map}
+use Rattle.pulsar_producer_table.specs.Asks.{draw_outcome, draw_said, grants_it, link_said, recall_said, turn_said}
 
 -- WHO IS TOLD AT ONCE
 
@@ -165,13 +166,13 @@ module _ (o : Options) (who : Who) (u : Outcome) (older : List Entry) where
   -- WHAT ONE ASKS OF A TOPIC PRODUCER, or of their numbers
 
   takes_some : (w : Who) (n : ℕ) (t : Topic) (r : Option (Option (List ℕ))) → turn_taken (v.producers.topics n) ≡ r →
-      In (Told it) (flat_map (λ version. grants w (news.HasTurn version)) (option_to_list r)) → Cause o who u (Then (Does w (OfTopic n TakeTurn))) older
+      In (Told it) (says_to w (option_map (λ version. outcome.Granted (news.HasTurn version)) r)) → Cause o who u (Then (Does w (OfTopic n TakeTurn))) older
   takes_some w n t None e h = absurd h
   takes_some w n t (Some version) e h =
       let k = told_is w (outcome.Granted (news.HasTurn version)) h in
       named (Then (Does w (OfTopic n TakeTurn))) (outcome.Granted (news.HasTurn version)) k.1 (inl (OfTopic n TakeTurn, did w (OfTopic n TakeTurn) k.0, e))
 
-  takes_caused : (w : Who) (n : ℕ) (row : Option Topic) → v.producers.topics n ≡ row → In (Told it) (takes_turn w row) →
+  takes_caused : (w : Who) (n : ℕ) (row : Option Topic) → v.producers.topics n ≡ row → In (Told it) (says_to w (turn_said row)) →
       Cause o who u (Then (Does w (OfTopic n TakeTurn))) older
   takes_caused w n None e h =
       let k = told_is w outcome.Disconnected h in
@@ -193,7 +194,7 @@ module _ (o : Options) (who : Who) (u : Outcome) (older : List Entry) where
           let k = told_is w (outcome.Granted (news.Drew d)) i in
           named (Then (Does w (OfTopic n Draw))) (outcome.Granted (news.Drew d)) k.1 (inl (OfTopic n Draw, did w (OfTopic n Draw) k.0, (room, e, f)))
 
-  recalls_caused : (w : Who) (n : ℕ) (row : Option Command) → recalled v.producers n ≡ row → In (Told it) (recalls w row) →
+  recalls_caused : (w : Who) (n : ℕ) (row : Option Command) → recalled v.producers n ≡ row → In (Told it) (says_to w (recall_said row)) →
       Cause o who u (Then (Does w (OfTopic n Recall))) older
   recalls_caused w n None e h =
       let k = told_is w outcome.Disconnected h in named (Then (Does w (OfTopic n Recall))) outcome.Disconnected k.1 (inr (inr (OfTopic n Recall, did w (OfTopic n Recall) k.0, e)))
@@ -209,7 +210,7 @@ module _ (o : Options) (who : Who) (u : Outcome) (older : List Entry) where
       let k = told_is w (outcome.Granted (news.Numbered n)) h in
       named (Then (Does w Number)) (outcome.Granted (news.Numbered n)) k.1 (inl (Number, did w Number k.0, e))
 
-  finds_caused : (w : Who) (n : ℕ) (row : Option Topic) → v.producers.topics n ≡ row → In (Told it) (finds w (link_at row)) →
+  finds_caused : (w : Who) (n : ℕ) (row : Option Topic) → v.producers.topics n ≡ row → In (Told it) (says_to w (link_said (link_at row))) →
       Cause o who u (Then (Does w (OfTopic n Find))) older
   finds_caused w n None e h =
       let k = told_is w outcome.Disconnected h in named (Then (Does w (OfTopic n Find))) outcome.Disconnected k.1 (inr (inr (OfTopic n Find, did w (OfTopic n Find) k.0, e)))
@@ -221,7 +222,7 @@ module _ (o : Options) (who : Who) (u : Outcome) (older : List Entry) where
   done_caused w action is h =
       let k = told_is w (outcome.Granted news.Done) h in named (Then (Does w action)) (outcome.Granted news.Done) k.1 (inl (action, did w action k.0, is))
 
-  settled_caused : (w : Who) (n : ℕ) (b : Bool) → is_settled_at (v.producers.topics n) ≡ b → In (Told it) (cond b (grants w news.Done) []) →
+  settled_caused : (w : Who) (n : ℕ) (b : Bool) → is_settled_at (v.producers.topics n) ≡ b → In (Told it) (says_to w (cond b (grants_it news.Done) None)) →
       Cause o who u (Then (Does w (OfTopic n Flush))) older
   settled_caused w n true e h = done_caused w (OfTopic n Flush) e h
   settled_caused w n false e h = absurd h

@@ -6,11 +6,12 @@ use Rattle.pulsar_laws.proofs.RunWords.{agenda, Agenda, at_once, Begins, begun_s
 use Rattle.pulsar_laws.proofs.LinkWords.{answer_at, told_at}
 use Rattle.pulsar_calls.specs.declared.act.Outcome.TheVariants as outcome
 use Rattle.pulsar_producer_table.specs.Producers.{link_at, next_batch_at}
-use Rattle.pulsar_acts.specs.Rules.{finds}
+use Rattle.pulsar_acts.specs.Rules.{says_to}
 use Rattle.pulsar_acts.specs.View.{stand_after}
 use Rattle.pulsar_outgoing.specs.declared.news.News.TheVariants as news
 use Rattle.pulsar_calls.specs.declared.act.Procedure.TheVariants as procedure
 use Rattle.pulsar_laws.proofs.plans.Fitting.{Fits, Holds, Keeps, Leaves, Nowhere, Reports, Spot, Stores, Usual, begins_fits, fits, is_own, is_quick, is_stop, spot, told_fits}
+use Rattle.pulsar_producer_table.specs.Asks.{link_said}
 pub use Rattle.pulsar_laws.proofs.calls.Same.{same_self, same_who}
 
 -- THE FIRST OF WHAT IS LEFT
@@ -138,7 +139,7 @@ module _ (o : Options) (w : Who) (log : List Entry) (k : SoundAt (spot_of ((view
   told_next who (Shut t) q = (outcome.Granted news.Done, refl)
   told_next who (OfTopic n Find) q = found (link_at (v.producers.topics n))
     where
-      found : (r : Option ℕ) → (u : Outcome) × (finds who r ≡ tells who u)
+      found : (r : Option ℕ) → (u : Outcome) × (says_to who (link_said r) ≡ tells who u)
       found None = (outcome.Disconnected, refl)
       found (Some l) = (outcome.GotLink l, refl)
   told_next who (Ask l request) q = (told_at (answer_at v.now request (v.links.live l)), refl)

@@ -2,7 +2,7 @@
 use Rattle.std.proofs.Common.{◌≡◌, inl, inr, ◌∙◌, sym, ap, subst, ℕ, List, ◌∷◌, refl, Bool, true, false, ◌||◌, cond, Some, None, Err}
 use Rattle.std.proofs.lemmas.Bool.{cases_Bool}
 use Rattle.std.specs.List.{list_any}
-use Rattle.pulsar_laws.proofs.ActWords.{Action, Does, Draw, Flush, Notice, Number, OfTopic, Outcome, PassTurn, Procedure, Producer, Recall, Remake, Rest, Shut, Starts, Store, TakeBatch, TakeTurn, Tell, TellAll, Told, Who, is_same}
+use Rattle.pulsar_laws.proofs.ActWords.{Action, Does, Notice, OfTopic, Outcome, Procedure, Producer, Rest, Starts, TakeBatch, Told, Who, is_same}
 use Rattle.pulsar_laws.proofs.PlanWords.{Batches, Batching, begins, Errand, Heard, Member, news_of, Plan, Sending as Send, Stays, told, Ways}
 use Rattle.pulsar_laws.proofs.RunWords.{Begins, Entry, In, IsRun, notice, Options, Then, View, view}
 use Rattle.pulsar_laws.proofs.LinkWords.{Failure}
@@ -36,18 +36,6 @@ pub never_told : (o : Options) (log : List Entry) (who : Who) (u : Outcome) → 
 never_told o log who u run = by u run
   where
     none : (v : View) (action : Action) (x : Heard) → GivenBy v action (news.Told x) → ⊥
-    none v (OfTopic n TakeTurn) x h = h
-    none v (OfTopic n PassTurn) x h = h
-    none v (OfTopic n Draw) x h = h
-    none v (OfTopic n Recall) x h = h
-    none v (OfTopic m (Remake r)) x h = h
-    none v Number x h = h
-    none v (Shut t) x h = h
-    none v (OfTopic n (Store entry)) x h = h
-    none v (OfTopic n Flush) x h = h
-    none v (OfTopic n TakeBatch) x h = h
-    none v (Tell n) x h = h
-    none v (TellAll ns) x h = h
     none v _ x h = h
 
     by : (u : Outcome) → IsRun o (Then (Told (notice who u)) ∷ log) → is_told_news u ≡ false

@@ -1,8 +1,8 @@
 -- The frame of a batch, as its topic producer asks for it.
-use Rattle.std.proofs.Common.{◌≡◌, inl, inr, ◌∙◌, sym, ap, subst, ℕ, ◌+◌, List, ◌∷◌, refl, Bool, true, false, cond, Option, Some, None, Ok}
+use Rattle.std.proofs.Common.{◌≡◌, inl, inr, ◌∙◌, sym, ap, subst, ℕ, ◌+◌, List, ◌∷◌, refl, Bool, true, false, cond, Option, Some, None, Ok, []}
 use Rattle.pulsar_laws.proofs.ActWords.{Action, Ask, Does, Draw, Notice, OfTopic, Outcome, Procedure, Producer, Rest, Starts, Told}
 use Rattle.pulsar_laws.proofs.PlanWords.{action_of, Batches, Batching, begins, Deed, Drawn, Errand, Member, News, news_of, Plan, Sending as Send, Stays, told, Ways}
-use Rattle.pulsar_laws.proofs.RunWords.{Begins, draws_on, Entry, In, IsRun, notice, Options, room_of, Then, view}
+use Rattle.pulsar_laws.proofs.RunWords.{Begins, Entry, In, IsRun, notice, Options, room_of, Then, view}
 use Rattle.pulsar_laws.proofs.LinkWords.{Words}
 use Rattle.pulsar_messages.specs.Content.{ProducerMessageValues}
 use Rattle.pulsar_messages.specs.Words as words
@@ -22,7 +22,7 @@ use Rattle.pulsar_laws.proofs.plans.Standing.{moves, run_older, stands_so}
 use Rattle.pulsar_laws.proofs.producers.BatchRun.{turn_so, AtDeed, Batched, PromptSo, StandsSo, batched_run, calm_at, deed_at, settles_all, some_batch, under_kept, was_done}
 use Rattle.pulsar_laws.specs.BatchLaws.{FramesOfBatches, under_way}
 use Rattle.pulsar_producer_table.specs.Producers.{topic_after}
-use Rattle.pulsar_laws.specs.ProducerLaws.{HasTurn}
+use Rattle.pulsar_laws.specs.ProducerLaws.{HasTurn, drawn_by}
 use Rattle.pulsar_laws.proofs.plans.Batched.{BatchSo, GoesOn, IsSending, StepTo}
 use Rattle.pulsar_laws.proofs.producers.Drawing.{here}
 use Rattle.pulsar_laws.proofs.producers.Frames.{IsDrawn, draw_by, is_drawn, message_more, recall_plain}
@@ -32,6 +32,7 @@ use Rattle.pulsar_laws.proofs.plans.Owned.{starts_own}
 use Rattle.pulsar_laws.proofs.links.Receipts.{Split, run_behind, split_in}
 use Rattle.pulsar_laws.proofs.producers.TurnActs.{changed_at}
 use Rattle.pulsar_laws.proofs.producers.TurnRun.{own_in_turn}
+use Rattle.pulsar_run.specs.Things.{row_by}
 
 -- it was told this version with its turn
 abbrev TurnTold : List Entry → ℕ → Option (List ℕ) → Type 0
@@ -349,7 +350,7 @@ frames_of_batches_lem o log n l k s name m block run =
     let now : (view o log).producers.topics n ≡ Some (topic_after Draws before) =
     ap (λ y. (view o y).producers.topics n) x.there
     ∙ ap (λ y. (view o y).producers.topics n) d.there
-    ∙ ap (λ q. (draws_on q n (view o d.behind).producers).topics n) d.ready
+    ∙ ap (λ q. row_by topic_after (cond (n == n) (drawn_by q) []) ((view o d.behind).producers.topics n)) d.ready
     ∙ changed_at Draws (view o d.behind).producers n before d.row.is_it in
     let stands : (view o log).stand (Producer n) ≡ Some (Batching x.ways x.errand (batching.Sending x.members x.count (send.Asked a.kept))) =
     x.stands ∙ ap (λ q. Some (Batching x.ways x.errand (batching.Sending x.members x.count q))) a.asked in

@@ -239,7 +239,7 @@ module _ (o : Options) (log : List Entry) (n : ℕ) (u : Outcome) (run : IsRun o
     prompt_then : (b q : Batches) (a : Action) → (agenda o later).now ≡ does (Producer n) a ++ left → StepTo w e b u q a → PromptSo o later n q
     prompt_then b batching.Resting a h k = tt
     prompt_then b batching.Taking a h k =
-        let i : a ≡ OfTopic n TakeBatch = k.0 ∙ ap OfTopic own TakeBatch in
+        let i : a ≡ OfTopic n TakeBatch = k.0 ∙ ap (λ x. OfTopic x TakeBatch) own in
         inl (OfTopic n TakeBatch, refl, left, h ∙ ap (λ x. does (Producer n) x ++ left) i)
     prompt_then b (batching.Sending ms c x) a h k = tt
     prompt_then b batching.Settling a h k =

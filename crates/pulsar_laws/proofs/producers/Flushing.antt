@@ -2,25 +2,23 @@
 use Rattle.std.proofs.Common.{◌≡◌, ◌⊎◌, inl, inr, ◌∙◌, sym, ap, subst, refl, ℕ, zero, suc, ◌-◌, ◌==◌, append-nil, append_assoc, take, List, [], ◌∷◌, ◌++◌, Bool, true, false, ◌&&◌, cond, Option, Some, None}
 use Rattle.std.proofs.lemmas.Bool.{cases_Bool, eqb-true}
 use Rattle.std.specs.Option.{option_to_list}
-use Rattle.pulsar_laws.proofs.ActWords.{Act, Batch, Comes, Does, Draw, OfTopic, PassTurn, Producer, Remake, Rings, Shut, Starts, StopAll, Store, TakeBatch, TakeTurn, TellAll, Who, is_same, turn_of}
-use Rattle.pulsar_laws.proofs.RunWords.{Begins, begun_same, Each, each_append, each_either, Entry, In, IsRun, Options, room_of, Then, view, View}
-use Rattle.pulsar_laws.proofs.LinkWords.{rings}
+use Rattle.pulsar_laws.proofs.ActWords.{Act, Does, OfTopic, Producer, Starts, TakeBatch, TellAll, Who, is_same}
+use Rattle.pulsar_laws.proofs.RunWords.{Begins, begun_same, Each, each_append, Entry, In, IsRun, Options, Then, view, View}
 use Rattle.pulsar_producer.specs.BatchLaws.{batches_of, cut_by, items_of, joined, taken_by, taken_of}
 use Rattle.pulsar_outgoing.specs.Storage.{Item, SingleMessage, Flush, is_ready, pushed, is_nothing}
 use Rattle.pulsar_producer.specs.Topic as topic
-use Rattle.pulsar_producer.specs.Topic.{Act as Deed, Takes, Passes, Remakes, Closes, Stores, Flushes, Cuts, TakesBatch, Seen, Setup, is_settled, next_batch}
+use Rattle.pulsar_producer.specs.Topic.{Act as Deed, Stores, Flushes, Cuts, TakesBatch, Seen, Setup, is_settled, next_batch}
 use Rattle.pulsar_producer.proofs.Cutting.{batches_in_order, flush_is_last, items_in_order, joined_append, joined_one}
-use Rattle.pulsar_calls.specs.declared.act.Action.TheVariants as action
 use Rattle.pulsar_producer_table.specs.declared.table.Topic.{Topic}
 use Rattle.pulsar_laws.proofs.Lists.{in_left, in_right}
 use Rattle.pulsar_laws.proofs.Cases.{none_some}
 use Rattle.pulsar_laws.specs.BatchLaws.{FlushesWait, under_way}
-use Rattle.pulsar_producer_table.specs.Producers.{next_batch_at, numbers_at}
-use Rattle.pulsar_laws.specs.ProducerLaws.{acts_on, drawn_by, rung_by, shut_by, topic_acts}
+use Rattle.pulsar_producer_table.specs.Producers.{next_batch_at}
+use Rattle.pulsar_laws.specs.ProducerLaws.{acts_on, topic_acts}
 use Rattle.pulsar_laws.proofs.producers.Drawing.{drawn_run, row_from}
 use Rattle.pulsar_laws.proofs.plans.Granted.{in_each}
 use Rattle.pulsar_laws.proofs.plans.Takers.{taken_by_own}
-use Rattle.pulsar_laws.proofs.producers.Topics.{all_after, row_as, seen_more, some_acts, topic_all, topics_alone_lem}
+use Rattle.pulsar_laws.proofs.producers.Topics.{all_after, row_as, seen_more, some_acts, topic_all, topics_alone_lem, CameFrom, acts_each}
 
 -- HISTORIES
 
@@ -109,32 +107,16 @@ taken_more s [] h k = refl
 taken_more s (d ∷ ds) h k =
     ap (λ x. taken_of s (ds ++ h) ++ x) (not_taken d (topic.seen s (ds ++ h)) k.0) ∙ append-nil (taken_of s (ds ++ h)) ∙ taken_more s ds h k.1
 
-shut_none : (n : ℕ) (ns : List ℕ) → Each NotTaking (shut_by n ns)
-shut_none n [] = tt
-shut_none n (m ∷ ns) = each_either NotTaking (n == m) (Closes ∷ shut_by n ns) (shut_by n ns) (refl, shut_none n ns) (shut_none n ns)
-
-drawn_none : (room : Option Bool) → Each NotTaking (drawn_by room)
-drawn_none None = tt
-drawn_none (Some room) = (refl, tt)
-
 abbrev takes_it : Act → Bool
 takes_it (Does who (OfTopic m TakeBatch)) = true
 takes_it _ = false
 
 acts_none : (v : View) (n : ℕ) (a : Act) → takes_it a ≡ false → Each NotTaking (topic_acts v n a)
-acts_none v n (Comes (Rings (Batch m))) t =
-    each_either NotTaking (n == m) (rung_by (rings v.now (Batch m) v.alarms)) []
-    (each_either NotTaking (rings v.now (Batch m) v.alarms) (Cuts ∷ []) [] (refl, tt) tt) tt
-acts_none v n (Does who (OfTopic m TakeTurn)) t = each_either NotTaking (n == m) (Takes (turn_of who) ∷ []) [] (refl, tt) tt
-acts_none v n (Does who (OfTopic m PassTurn)) t = each_either NotTaking (n == m) (Passes ∷ []) [] (refl, tt) tt
-acts_none v n (Does who (OfTopic m Draw)) t = each_either NotTaking (n == m) (drawn_by (room_of v m)) [] (drawn_none (room_of v m)) tt
-acts_none v n (Does who (OfTopic m (Remake r))) t = each_either NotTaking (n == m) (Remakes r.link r.given ∷ []) [] (refl, tt) tt
-acts_none v n (Does who (OfTopic m (Store e))) t = each_either NotTaking (n == m) (Stores (turn_of who) e ∷ []) [] (refl, tt) tt
-acts_none v n (Does who (action.Flush m)) t = each_either NotTaking (n == m) (Flushes (turn_of who) ∷ []) [] (refl, tt) tt
-acts_none v n (Does who (OfTopic m TakeBatch)) t = absurd cc
-acts_none v n (Does who StopAll) t = (refl, tt)
-acts_none v n (Does who (Shut u)) t = shut_none n (numbers_at (v.producers.built u))
-acts_none v n _ t = tt
+acts_none v n a t = acts_each NotTaking v n a none
+  where
+    none : (d : Deed) → CameFrom n a d → NotTaking d
+    none TakesBatch k = let e : true ≡ false = sym (ap takes_it k.1) ∙ t in absurd cc
+    none d k = refl
 
 -- ALONG A LOG
 
@@ -254,7 +236,7 @@ taken_then o log a run none k n t h = by ((view o log).producers.topics n) refl
         let x = k n u e in
         let f : Some t ≡ Some (topic_all (topic_acts (view o log) n a) u) = sym h ∙ row_as o log (drawn_run o log run.0) n u e a run in
         let same : t ≡ topic_all (topic_acts (view o log) n a) u = cc in
-        let more : acts_on o n (Then a ∷ log) ≡ topic_acts (view o log) n a ++ acts_on o n log = some_acts o log n a u e in
+        let more : acts_on o n (Then a ∷ log) ≡ topic_acts (view o log) n a ++ acts_on o n log = some_acts o log (drawn_run o log run.0) n u e a run in
         record {
           setup = x.setup;
           seen =

@@ -1,9 +1,9 @@
 -- The frames that sends ask for, along a log.
-use Rattle.std.proofs.Common.{◌≡◌, inl, inr, ◌∙◌, sym, ap, subst, ℕ, ◌+◌, List, ◌∷◌, refl, Bool, true, false, cond, Option, Some, None}
+use Rattle.std.proofs.Common.{◌≡◌, inl, inr, ◌∙◌, sym, ap, subst, ℕ, ◌+◌, List, ◌∷◌, refl, Bool, true, false, cond, Option, Some, None, []}
 use Rattle.std.proofs.lemmas.Bool.{cases_Bool}
 use Rattle.pulsar_laws.proofs.ActWords.{Action, Ask, Call, Does, Draw, Notice, OfTopic, Outcome, Procedure, Recall, Share, Starts, TakeTurn, Told}
 use Rattle.pulsar_laws.proofs.PlanWords.{begins, Command, Drawn, Errand, Leaving, news_of, Plan, Reporting, Sending as Send, Stays, told, Ways}
-use Rattle.pulsar_laws.proofs.RunWords.{Begins, draws_on, Entry, In, IsRun, notice, Options, room_of, started, Then, View, view}
+use Rattle.pulsar_laws.proofs.RunWords.{Begins, Entry, In, IsRun, notice, Options, room_of, started, Then, View, view}
 use Rattle.pulsar_messages.specs.Content.{ProducerMessageValues}
 use Rattle.pulsar_messages.specs.Words as words
 use Rattle.pulsar_messages.specs.Claims.{is_spent}
@@ -22,13 +22,14 @@ use Rattle.pulsar_laws.proofs.plans.Standing.{moves, run_older, stands_so}
 use Rattle.pulsar_laws.proofs.calls.Same.{same_self}
 use Rattle.pulsar_laws.proofs.Cases.{none_some}
 use Rattle.pulsar_producer_table.specs.Producers.{drawn, recalled_at, recalled_by, topic_after}
-use Rattle.pulsar_laws.specs.ProducerLaws.{FramesAreOfTheirSends}
+use Rattle.pulsar_laws.specs.ProducerLaws.{FramesAreOfTheirSends, drawn_by}
 use Rattle.pulsar_laws.proofs.plans.Framing.{AsksSo, KeptSo, MessageSo, NewsSo, PlanSo, Versioned, is_message, told_so}
 use Rattle.pulsar_laws.proofs.plans.Granted.{BeginsSo, GivenBy, IsGrantedBy, IsLedSo, does_from, granted_by, grants_given}
 use Rattle.pulsar_laws.proofs.producers.InTurn.{self_same, stand_told}
 use Rattle.pulsar_laws.proofs.plans.Arcs.{StaysSo}
 use Rattle.pulsar_laws.proofs.producers.TurnActs.{changed_at}
 use Rattle.pulsar_laws.proofs.producers.TurnRun.{queued_in_turn_lem}
+use Rattle.pulsar_run.specs.Things.{row_by}
 
 -- it was told this version with its turn
 abbrev pub WasTold : List Entry → ℕ → Option (List ℕ) → Type 0
@@ -230,7 +231,7 @@ was_drawn o older t w e share given d run h =
 draw_now : (o : Options) (behind : List Entry) (t n : ℕ) (room : Bool) (x : Topic) → room_of (view o behind) n ≡ Some room →
     (view o behind).producers.topics n ≡ Some x → (view o (Then (Does (Call t) (OfTopic n Draw)) ∷ behind)).producers.topics n ≡ Some (topic_after Draws x)
 draw_now o behind t n room x ready h =
-    ap (λ r. (draws_on r n (view o behind).producers).topics n) ready ∙ changed_at Draws (view o behind).producers n x h
+    ap (λ r. row_by topic_after (cond (n == n) (drawn_by r) []) ((view o behind).producers.topics n)) ready ∙ changed_at Draws (view o behind).producers n x h
 
 topic_now : (o : Options) (log older behind : List Entry) (t n : ℕ) (note : Notice) (x : Topic) → log ≡ Then (Told note) ∷ older →
     older ≡ Then (Does (Call t) (OfTopic n Draw)) ∷ behind →

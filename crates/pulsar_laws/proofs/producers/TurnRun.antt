@@ -2,7 +2,6 @@
 use Rattle.std.proofs.Common.{◌≡◌, ◌⊎◌, inl, inr, ◌∙◌, sym, ap, subst, ℕ, ◌+◌, ◌<◌, ◌≤◌, ◌==◌, arith, List, [], ◌∷◌, refl, Bool, true, false, ◌&&◌, cond, Option, Some, None}
 use Rattle.std.proofs.lemmas.Bool.{cases_Bool, eqb-true, and_parts}
 use Rattle.std.specs.BTreeSet.{insert_key}
-use Rattle.std.specs.List.{flat_map}
 use Rattle.std.specs.Option.{is_none, option_map, option_to_list}
 use Rattle.std.specs.Ordering.{nat_cmp}
 use Rattle.pulsar_laws.proofs.ActWords.{Act, Call, Consumer, Does, Heard, Notice, OfTopic, Outcome, PassTurn, Producer, Share, Starts, TakeTurn, Told, Who, is_same, turn_of as taken_as}
@@ -21,7 +20,7 @@ use Rattle.pulsar_producer_table.specs.declared.table.Topic.{Topic}
 use Rattle.pulsar_producer_table.specs.Producers.{Producers, topic_after, turn_passed}
 use Rattle.pulsar_laws.proofs.Cases.{none_some}
 use Rattle.pulsar_laws.specs.ProducerLaws.{HasTurn, PassedInTurn, QueuedInTurn, ToldInTurn, acts_on, turn_of}
-use Rattle.pulsar_acts.specs.Rules.{grants, takes_turn}
+use Rattle.pulsar_acts.specs.Rules.{says_to}
 use Rattle.pulsar_calls.specs.Who.{behind_all, in_turn}
 use Rattle.pulsar_laws.proofs.producers.Drawing.{Every, here}
 use Rattle.pulsar_laws.proofs.plans.Holding.{holds, is_turn_told}
@@ -32,6 +31,7 @@ use Rattle.pulsar_laws.proofs.plans.Servers.{is_server, server_does, server_stan
 use Rattle.pulsar_laws.proofs.plans.Consuming.{is_modest}
 use Rattle.pulsar_laws.proofs.calls.Same.{same_call, same_producer, same_test}
 use Rattle.pulsar_laws.proofs.producers.TurnActs.{Everyone, Nobody, Waits, count_more, equal_self, in_insert, left_turns, starts_turns, step_turns, changed_at, changed_from, changed_not, told_turns}
+use Rattle.pulsar_producer_table.specs.Asks.{turn_said}
 
 -- ONE TAKES ITS TURN
 
@@ -76,7 +76,7 @@ module _ (o : Options) (log : List Entry) (who : Who) (n : ℕ) (run : IsRun o (
   abbrev it : Act
   it = Does who (OfTopic n TakeTurn)
 
-  took : (w : Who) (xs : List Act) → takes_turn who (ps.topics n) ≡ xs → pending o log w + sum (turn_act w) xs + 0 ≡ 0 + pending o (Then it ∷ log) w
+  took : (w : Who) (xs : List Act) → says_to who (turn_said (ps.topics n)) ≡ xs → pending o log w + sum (turn_act w) xs + 0 ≡ 0 + pending o (Then it ∷ log) w
   took w xs e = subst (λ ys. pending o log w + sum (turn_act w) ys + 0 ≡ 0 + pending o (Then it ∷ log) w) e (pend_then o log w it run)
 
   -- there is no such topic producer
@@ -89,7 +89,7 @@ module _ (o : Options) (log : List Entry) (who : Who) (n : ℕ) (run : IsRun o (
 
     pends_same : (w : Who) → pending o log w ≡ pending o (Then it ∷ log) w
     pends_same w =
-        let e = took w (takes_turn who None) (ap (takes_turn who) none) in
+        let e = took w (says_to who (turn_said None)) (ap (λ r. says_to who (turn_said r)) none) in
         let z : turn_note w (notice who outcome.Disconnected) ≡ 0 = no_note_of w who outcome.Disconnected refl in
         omega (arith, e, z)
 
@@ -128,10 +128,10 @@ module _ (o : Options) (log : List Entry) (who : Who) (n : ℕ) (run : IsRun o (
       abbrev given : Notice
       given = notice who (outcome.Granted (news.HasTurn row.seen.given.version))
 
-      given_now : takes_turn who (ps.topics n) ≡ Told given ∷ []
+      given_now : says_to who (turn_said (ps.topics n)) ≡ Told given ∷ []
       given_now =
-          ap (takes_turn who) is
-          ∙ ap (λ h. flat_map (λ version. grants who (news.HasTurn version)) (option_to_list (cond (is_none h) (Some row.seen.given.version) None))) free
+          ap (λ r. says_to who (turn_said r)) is
+          ∙ ap (λ h. says_to who (option_map (λ version. outcome.Granted (news.HasTurn version)) (cond (is_none h) (Some row.seen.given.version) None))) free
 
       pends_more : (w : Who) → pending o log w + turn_note w given ≡ pending o (Then it ∷ log) w
       pends_more w = let e = took w (Told given ∷ []) given_now in omega (arith, e)
@@ -254,10 +254,10 @@ module _ (o : Options) (log : List Entry) (who : Who) (n : ℕ) (run : IsRun o (
 
     -- another has it
     module _ (other : ℕ) (busy : row.seen.holder ≡ Some other) where
-      nothing_now : takes_turn who (ps.topics n) ≡ []
+      nothing_now : says_to who (turn_said (ps.topics n)) ≡ []
       nothing_now =
-          ap (takes_turn who) is
-          ∙ ap (λ h. flat_map (λ version. grants who (news.HasTurn version)) (option_to_list (cond (is_none h) (Some row.seen.given.version) None))) busy
+          ap (λ r. says_to who (turn_said r)) is
+          ∙ ap (λ h. says_to who (option_map (λ version. outcome.Granted (news.HasTurn version)) (cond (is_none h) (Some row.seen.given.version) None))) busy
 
       pends_busy : (w : Who) → pending o log w ≡ pending o (Then it ∷ log) w
       pends_busy w = let e = took w [] nothing_now in omega (arith, e)

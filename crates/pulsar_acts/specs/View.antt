@@ -8,7 +8,7 @@ use Rattle.pulsar_addresses.specs.declared.options.OperationRetryOptions.{Operat
 use Rattle.pulsar_searches.specs.declared.turn.Ways.{Ways}
 use Rattle.pulsar_messages.specs.Words.{Words}
 use Rattle.pulsar_session.specs.declared.states.Stage.{Stage}
-use Rattle.pulsar_session.specs.declared.states.Stage.TheVariants.{Dialing, Handshaking}
+use Rattle.pulsar_session.specs.declared.states.Stage.TheVariants.{Dialing, Handshaking, Ready, Over}
 use Rattle.pulsar_session.specs.Link as session
 use Rattle.pulsar_session.specs.Link.{Setup, is_open}
 use Rattle.pulsar_exchange.specs.Request.{closed_consumer}
@@ -107,7 +107,9 @@ is_at test (Some seat) = test seat.seen.stage
 
 abbrev pub is_dialing : Stage → Bool
 is_dialing Dialing = true
-is_dialing _ = false
+is_dialing Handshaking = false
+is_dialing Ready = false
+is_dialing Over = false
 
 -- an event is live where it names a live link, in a state that the link is in, a consumer, or a moment that isn't before the clock; a
 -- call always is
@@ -509,8 +511,10 @@ producers_after v a = record (others_after v a) { topics = λ n. topic_row v a n
 -- WHAT A LINK IS WAITED FOR
 
 abbrev pub is_handshaking : Stage → Bool
+is_handshaking Dialing = false
 is_handshaking Handshaking = true
-is_handshaking _ = false
+is_handshaking Ready = false
+is_handshaking Over = false
 
 -- A link is open, and something waits for it: it isn't ready yet, or a request of it waits for a reply, or a subscription on it is live.
 abbrev pub Waits : (link : ℕ) → View → Type 0

@@ -113,7 +113,8 @@ impl Broker {
 
     /// A link is read on.
     fn go_on(&mut self, link: u64, reading: Reading, piece: &[u8]) -> Result<Reading, NoMemory>
-        ensures after { IfOk result (λ after. IsKept self.old.tables → (stream : List ℕ) → IsReading reading (left stream) (bad stream) → HasGoneOn (string_bytes self.old.url) link piece.now stream after self.old self.new) }
+        ensures after { IfOk result (λ after. IsKept self.old.tables → (stream : List ℕ) → IsReading reading (left stream) (bad stream)
+            → HasGoneOn (string_bytes self.old.url) link piece.now stream after self.old self.new) }
         ensures failed { self.new.failed ≡ self.old.failed }
     {
         match reading {
@@ -128,7 +129,8 @@ impl Broker {
         mut reader: FrameReader,
         piece: &[u8],
     ) -> Result<Reading, NoMemory>
-        ensures read { IfOk result (λ reading. IsKept self.old.tables → HasRead (string_bytes self.old.url) link (reader ++ piece.now) reading self.old self.new) }
+        ensures read { IfOk result (λ reading. IsKept self.old.tables
+            → HasRead (string_bytes self.old.url) link (reader ++ piece.now) reading self.old self.new) }
         ensures failed { self.new.failed ≡ self.old.failed }
     {
         reader.feed(piece)?;
@@ -141,7 +143,8 @@ impl Broker {
 
     /// All frames that stand in front are answered. The answer is whether more can be read.
     fn hear(&mut self, link: u64, reader: &mut FrameReader) -> Result<bool, NoMemory>
-        ensures heard { IfOk result (λ whole. IsKept self.old.tables → HasHeard (string_bytes self.old.url) link reader.old reader.new whole self.old self.new) }
+        ensures heard { IfOk result (λ whole. IsKept self.old.tables
+            → HasHeard (string_bytes self.old.url) link reader.old reader.new whole self.old self.new) }
         ensures failed { self.new.failed ≡ self.old.failed }
     {
         loop {
@@ -156,7 +159,8 @@ impl Broker {
 
     /// A frame is answered.
     fn answer(&mut self, link: u64, mut message: Message) -> Result<(), NoMemory>
-        ensures answered { OnOk result (IsKept self.old.tables → HasAnswered (turn (string_bytes self.old.url) link (message_values message) (state_in self.old.tables)) self.old self.new) }
+        ensures answered { OnOk result (IsKept self.old.tables
+            → HasAnswered (turn (string_bytes self.old.url) link (message_values message) (state_in self.old.tables)) self.old self.new) }
         ensures failed { self.new.failed ≡ self.old.failed }
     {
         let url = self.url.as_str();

@@ -69,7 +69,8 @@ impl Consumer {
         out: &mut Outbox,
     ) -> Result<u64, NoMemory>
         ensures cursor { IfOk result (λ n. n ≡ (serving_from cursor (consumer_in self.old) (map payload_values messages.now)).cursor) }
-        ensures after { OnOk result (consumer_in self.new ≡ record (consumer_in self.old) { spent = (serving_from cursor (consumer_in self.old) (map payload_values messages.now)).spent }) }
+        ensures after { OnOk result (consumer_in self.new ≡ record (consumer_in self.old)
+            { spent = (serving_from cursor (consumer_in self.old) (map payload_values messages.now)).spent }) }
         ensures given { OnOk result ((l : ℕ) → owed_on out.new l ≡ owed_on out.old l
             ++ flat_map (bytes_for l) (map (owed_to self.old.link) (serving_from cursor (consumer_in self.old) (map payload_values messages.now)).messages)) }
     {
@@ -92,7 +93,8 @@ impl Consumer {
         message: &Payload,
         out: &mut Outbox,
     ) -> Result<(), NoMemory>
-        ensures after { OnOk result (consumer_in self.new ≡ record (consumer_in self.old) { spent = self.old.spent + meaning.weight (payload_values message.now) }) }
+        ensures after { OnOk result (consumer_in self.new ≡ record (consumer_in self.old)
+            { spent = self.old.spent + meaning.weight (payload_values message.now) }) }
         ensures given { OnOk result ((l : ℕ) → owed_on out.new l ≡ owed_on out.old l
             ++ bytes_for l (owed_to self.old.link (meaning_answers.delivery self.old.number place (payload_values message.now)))) }
     {

@@ -69,7 +69,8 @@ impl Tables {
 
     /// The consumers of a link leave.
     fn close_all(&mut self, link: u64)
-        ensures after { IsNamed (state_in self.old) → ((n : ℕ) → (state_in self.old).producers link n ≡ None) → state_in self.new ≡ without link (state_in self.old) }
+        ensures after { IsNamed (state_in self.old) → ((n : ℕ) → (state_in self.old).producers link n ≡ None)
+            → state_in self.new ≡ without link (state_in self.old) }
         ensures kept { IsKept self.old → IsKept self.new }
     {
         while let Some(number) = first_of(&self.seat_of, link) {
@@ -86,7 +87,8 @@ impl Tables {
         payload: &mut Option<Payload>,
         out: &mut Outbox,
     ) -> Result<(), NoMemory>
-        ensures { OnOk result (IsKept self.old → IsTurned (turn url.now link (message_in command.now payload.old) (state_in self.old)) self.old self.new out.old out.new) }
+        ensures { OnOk result (IsKept self.old → IsTurned (turn url.now link (message_in command.now payload.old)
+            (state_in self.old)) self.old self.new out.old out.new) }
     {
         let due = self.answer(url, link, asked::read(&command.body), payload, out)?;
         self.serve_each(&due, out)?;
@@ -102,7 +104,8 @@ impl Tables {
         payload: &mut Option<Payload>,
         out: &mut Outbox,
     ) -> Result<Vec<u64>, NoMemory>
-        ensures { IfOk result (λ due. IsAnswered (answer url.now link (option_map payload_values payload.old) (asked_in asked.entry) (state_in self.old)) self.old self.new out.old out.new due.items) }
+        ensures { IfOk result (λ due. IsAnswered (answer url.now link (option_map payload_values payload.old) (asked_in asked.entry)
+            (state_in self.old)) self.old self.new out.old out.new due.items) }
     {
         match asked {
             Asked::Connects => Ok(self.say(link, answers::greeting(self.alloc), out)?),
@@ -146,7 +149,8 @@ impl Tables {
 
     /// An answer that changes nothing.
     fn say(&self, link: u64, message: Message, out: &mut Outbox) -> Result<Vec<u64>, NoMemory>
-        ensures { IfOk result (λ due. IsAnswered (record { state = state_in self.now; given = to link (message_values message) }) self.now self.now out.old out.new due.items) }
+        ensures { IfOk result (λ due. IsAnswered
+            (record { state = state_in self.now; given = to link (message_values message) }) self.now self.now out.old out.new due.items) }
     {
         out.post(link, message)?;
         Ok(Vec::new(self.alloc))
@@ -162,7 +166,9 @@ impl Tables {
         name: Option<&str>,
         out: &mut Outbox,
     ) -> Result<Vec<u64>, NoMemory>
-        ensures { IfOk result (λ due. (url : List ℕ) (payload : Option PayloadValues) → IsAnswered (answer url link payload (MakesProducer topic.now producer request (option_copied name.entry)) (state_in self.old)) self.old self.new out.old out.new due.items) }
+        ensures { IfOk result (λ due. (url : List ℕ) (payload : Option PayloadValues)
+            → IsAnswered (answer url link payload (MakesProducer topic.now producer request (option_copied name.entry))
+            (state_in self.old)) self.old self.new out.old out.new due.items) }
     {
         let topic = String::from_str(self.alloc, topic)?;
         set_producer(&mut self.producers, link, producer, topic)?;
@@ -179,7 +185,9 @@ impl Tables {
         request: u64,
         out: &mut Outbox,
     ) -> Result<Vec<u64>, NoMemory>
-        ensures { IfOk result (λ due. (url : List ℕ) (payload : Option PayloadValues) → IsAnswered (answer url link payload (ClosesProducer producer request) (state_in self.old)) self.old self.new out.old out.new due.items) }
+        ensures { IfOk result (λ due. (url : List ℕ) (payload : Option PayloadValues)
+            → IsAnswered (answer url link payload (ClosesProducer producer request)
+            (state_in self.old)) self.old self.new out.old out.new due.items) }
     {
         drop_producer(&mut self.producers, link, producer);
         out.post(link, answers::succeeded(request))?;
@@ -195,7 +203,8 @@ impl Tables {
         payload: Option<Payload>,
         out: &mut Outbox,
     ) -> Result<Vec<u64>, NoMemory>
-        ensures { IfOk result (λ due. IsAnswered (answer_send link producer sequence (option_map payload_values payload) ((state_in self.old).producers link producer) (state_in self.old)) self.old self.new out.old out.new due.items) }
+        ensures { IfOk result (λ due. IsAnswered (answer_send link producer sequence (option_map payload_values payload)
+            ((state_in self.old).producers link producer) (state_in self.old)) self.old self.new out.old out.new due.items) }
     {
         let Some(payload) = payload else {
             return Ok(Vec::new(self.alloc));
@@ -213,7 +222,8 @@ impl Tables {
 
     /// A consumer is granted permits: something may be there for it.
     fn grant(&mut self, link: u64, number: u64, permits: u32) -> Result<Vec<u64>, NoMemory>
-        ensures { IfOk result (λ due. (url : List ℕ) (payload : Option PayloadValues) (out : Outbox) → IsAnswered (answer url link payload (Grants number permits) (state_in self.old)) self.old self.new out out due.items) }
+        ensures { IfOk result (λ due. (url : List ℕ) (payload : Option PayloadValues) (out : Outbox)
+            → IsAnswered (answer url link payload (Grants number permits) (state_in self.old)) self.old self.new out out due.items) }
     {
         let mut due = Vec::new(self.alloc);
         let Some(seat) = seat_at(&self.seat_of, link, number) else {
@@ -237,7 +247,9 @@ impl Tables {
         position: Option<i32>,
         out: &mut Outbox,
     ) -> Result<Vec<u64>, NoMemory>
-        ensures { IfOk result (λ due. (url : List ℕ) (payload : Option PayloadValues) → IsAnswered (answer url link payload (Subscribes topic.now subscription.now number request position) (state_in self.old)) self.old self.new out.old out.new due.items) }
+        ensures { IfOk result (λ due. (url : List ℕ) (payload : Option PayloadValues)
+            → IsAnswered (answer url link payload (Subscribes topic.now subscription.now number request position)
+            (state_in self.old)) self.old self.new out.old out.new due.items) }
     {
         self.close(link, number);
         self.seat(link, number, topic, subscription, position)?;
@@ -253,7 +265,8 @@ impl Tables {
         request: u64,
         out: &mut Outbox,
     ) -> Result<Vec<u64>, NoMemory>
-        ensures { IfOk result (λ due. (url : List ℕ) (payload : Option PayloadValues) → IsAnswered (answer url link payload (ClosesConsumer number request) (state_in self.old)) self.old self.new out.old out.new due.items) }
+        ensures { IfOk result (λ due. (url : List ℕ) (payload : Option PayloadValues)
+            → IsAnswered (answer url link payload (ClosesConsumer number request) (state_in self.old)) self.old self.new out.old out.new due.items) }
     {
         self.close(link, number);
         out.post(link, answers::succeeded(request))?;
@@ -285,7 +298,8 @@ impl Tables {
         position: Option<i32>,
     ) -> Result<(), NoMemory>
         ensures after { OnOk result (state_in self.new ≡ joined link number topic.now subscription.now position (state_in self.old)) }
-        ensures listed { OnOk result ((name : List ℕ) (k : ℕ) → lists self.new.topics name k ≡ (lists self.old.topics name k || (bytes_eq topic.now name && (k == self.old.seats)))) }
+        ensures listed { OnOk result ((name : List ℕ) (k : ℕ)
+            → lists self.new.topics name k ≡ (lists self.old.topics name k || (bytes_eq topic.now name && (k == self.old.seats)))) }
     {
         let seat = self.seats;
         let Some(seats) = seat.checked_add(1) else {
@@ -309,7 +323,8 @@ impl Tables {
     /// The consumers of these seats are served, one after the other.
     fn serve_each(&mut self, seats: &[u64], out: &mut Outbox) -> Result<(), NoMemory>
         ensures after { OnOk result (state_in self.new ≡ (serve_all seats.now (state_in self.old)).state) }
-        ensures given { OnOk result ((l : ℕ) → owed_on out.new l ≡ owed_on out.old l ++ flat_map (bytes_for l) (serve_all seats.now (state_in self.old)).given) }
+        ensures given { OnOk result ((l : ℕ) → owed_on out.new l
+            ≡ owed_on out.old l ++ flat_map (bytes_for l) (serve_all seats.now (state_in self.old)).given) }
         ensures listed { OnOk result ((name : List ℕ) (k : ℕ) → lists self.new.topics name k ≡ lists self.old.topics name k) }
     {
         for seat in seats {
@@ -339,7 +354,8 @@ fn grant_at(
     permits: u32,
 ) -> Result<bool, NoMemory>
     ensures found { IfOk result (λ found. found ≡ is_some (consumers_in consumers.old seat)) }
-    ensures after { OnOk result ((k : ℕ) → consumers_in consumers.new k ≡ set_at seat (option_map (granted_more permits) (consumers_in consumers.old seat)) (consumers_in consumers.old) k) }
+    ensures after { OnOk result ((k : ℕ) → consumers_in consumers.new k
+        ≡ set_at seat (option_map (granted_more permits) (consumers_in consumers.old seat)) (consumers_in consumers.old) k) }
 {
     let Some(consumer) = consumers.get_mut(&seat) else {
         return Ok(false);

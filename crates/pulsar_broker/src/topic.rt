@@ -114,8 +114,10 @@ impl Topic {
         consumer: &mut Consumer,
         out: &mut Outbox,
     ) -> Result<(), NoMemory>
-        ensures after { OnOk result (topic_in self.new ≡ topic_behind (consumer_in consumer.old) (serving_of (consumer_in consumer.old) (topic_in self.old)) (topic_in self.old)) }
-        ensures consumer { OnOk result (consumer_in consumer.new ≡ record (consumer_in consumer.old) { spent = (serving_of (consumer_in consumer.old) (topic_in self.old)).spent }) }
+        ensures after { OnOk result (topic_in self.new ≡ topic_behind (consumer_in consumer.old)
+            (serving_of (consumer_in consumer.old) (topic_in self.old)) (topic_in self.old)) }
+        ensures consumer { OnOk result (consumer_in consumer.new
+            ≡ record (consumer_in consumer.old) { spent = (serving_of (consumer_in consumer.old) (topic_in self.old)).spent }) }
         ensures given { OnOk result ((l : ℕ) → owed_on out.new l ≡ owed_on out.old l
             ++ flat_map (bytes_for l) (map (owed_to consumer.old.link) (serving_of (consumer_in consumer.old) (topic_in self.old)).messages)) }
         ensures seats { OnOk result (self.new.seats ≡ self.old.seats) }

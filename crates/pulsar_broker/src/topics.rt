@@ -43,7 +43,8 @@ pub fn store_in(
     message: Payload,
 ) -> Result<(u64, Vec<u64>), NoMemory>
     ensures place { IfOk result (λ r. r.0 ≡ length (topics_in topics.old name.now).messages) }
-    ensures topics { OnOk result ((m : List ℕ) → topics_in topics.new m ≡ set_named name.now (stored (payload_values message) (topics_in topics.old name.now)) (topics_in topics.old) m) }
+    ensures topics { OnOk result ((m : List ℕ) → topics_in topics.new m
+        ≡ set_named name.now (stored (payload_values message) (topics_in topics.old name.now)) (topics_in topics.old) m) }
     ensures listed { OnOk result ((m : List ℕ) (k : ℕ) → lists topics.new m k ≡ lists topics.old m k) }
     ensures seats { IfOk result (λ r. (k : ℕ) → is_listed k r.1.items ≡ lists topics.old name.now k) }
     ensures ordered { IfOk result (λ r. IsStrictlySortedBy nat_cmp r.1.items) }
@@ -67,7 +68,8 @@ pub fn list_in(
     position: Option<i32>,
     seat: u64,
 ) -> Result<(), NoMemory>
-    ensures topics { OnOk result ((m : List ℕ) → topics_in topics.new m ≡ set_named name.now (opened subscription.now position (topics_in topics.old name.now)) (topics_in topics.old) m) }
+    ensures topics { OnOk result ((m : List ℕ) → topics_in topics.new m
+        ≡ set_named name.now (opened subscription.now position (topics_in topics.old name.now)) (topics_in topics.old) m) }
     ensures listed { OnOk result ((m : List ℕ) (k : ℕ) → lists topics.new m k ≡ (lists topics.old m k || (bytes_eq name.now m && (k == seat)))) }
 {
     make(alloc, topics, name)?;
@@ -98,9 +100,11 @@ pub fn serve_of(
     out: &mut Outbox,
 ) -> Result<(), NoMemory>
     ensures topics { OnOk result ((name : List ℕ) → topics_in topics.new name ≡ set_named (string_bytes consumer.old.topic)
-        (topic_behind (consumer_in consumer.old) (serving_in (consumer_in consumer.old) (topics_in topics.old)) (topics_in topics.old (string_bytes consumer.old.topic))) (topics_in topics.old) name) }
+        (topic_behind (consumer_in consumer.old) (serving_in (consumer_in consumer.old) (topics_in topics.old))
+        (topics_in topics.old (string_bytes consumer.old.topic))) (topics_in topics.old) name) }
     ensures listed { OnOk result ((name : List ℕ) (k : ℕ) → lists topics.new name k ≡ lists topics.old name k) }
-    ensures consumer { OnOk result (consumer_in consumer.new ≡ record (consumer_in consumer.old) { spent = (serving_in (consumer_in consumer.old) (topics_in topics.old)).spent }) }
+    ensures consumer { OnOk result (consumer_in consumer.new ≡ record (consumer_in consumer.old)
+        { spent = (serving_in (consumer_in consumer.old) (topics_in topics.old)).spent }) }
     ensures given { OnOk result ((l : ℕ) → owed_on out.new l ≡ owed_on out.old l
         ++ flat_map (bytes_for l) (map (owed_to consumer.old.link) (serving_in (consumer_in consumer.old) (topics_in topics.old)).messages)) }
 {

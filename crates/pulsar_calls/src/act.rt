@@ -2,9 +2,9 @@
 //! call, thing or event stands one level below them.
 
 use crate::content::{
-    Advice, Asking, Cause, Granted, Joined, Made, Notices, Numbers, Recalled, Remade, Said,
+    Advice, Asking, Granted, Joined, Made, Notices, Numbers, Recalled, Remade, Said,
 };
-use pulsar_addresses::content::{Address, Refusal as Failure};
+use pulsar_addresses::content::{Address, Cause, Refusal as Failure};
 use pulsar_exchange::content::{Received, Request, Subscribed};
 use pulsar_incoming::orders::Order as ConsumerOrder;
 use pulsar_outgoing::batch::Receipt;
@@ -166,7 +166,7 @@ pub struct Share {
 /// What is asked of each topic producer of a producer, one after the other.
 #[derive(Clone, Copy)]
 pub enum Round {
-    /// A sign of life of its link.
+    /// A ping of its link.
     Checks,
     /// What it stores.
     Flushes,
@@ -367,7 +367,7 @@ pub enum LinkAct {
     Reads,
     /// So many queued frames may be written.
     Drains(usize),
-    /// It is asked for a sign of life.
+    /// It is pinged.
     Pings,
     /// It ends.
     Ends(End),
@@ -399,7 +399,7 @@ pub enum Alarm {
     Wake(Who),
     /// What this topic producer stores has waited.
     Batch(u64),
-    /// This link is to be asked for a sign of life.
+    /// This link is to be pinged.
     KeepAlive(u64),
     /// Links that nothing uses are to be ended.
     CheckIdle,

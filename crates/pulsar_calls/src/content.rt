@@ -8,7 +8,7 @@ ghost use Rattle.pulsar_calls.specs.Content.{numbers_from};
 ghost use Rattle.pulsar_calls.specs.Content.{next_advice};
 ghost use Rattle.pulsar_calls.specs.Parts.{failed_with, outcome_at, outcomes_of, sent_from};
 ghost use Rattle.pulsar_wire.specs.declared.error.Error.{Error as Meant};
-ghost use Rattle.pulsar_wire.specs.Failures.{fault, sent};
+ghost use Rattle.pulsar_wire.specs.Failures.{sent};
 
 use crate::act::Notice;
 use crate::effect::Answer;
@@ -20,7 +20,7 @@ use pulsar_outgoing::news;
 use pulsar_outgoing::replies::Given;
 use pulsar_searches::making::Command;
 use pulsar_searches::turn::Outcome;
-use pulsar_wire::error::{ConnectionError, Error, NoMemory, ProducerError};
+use pulsar_wire::error::{Error, NoMemory, ProducerError};
 use std::alloc::Global;
 use std::collections::{BTreeMap, VecDeque};
 use std::marker::Model;
@@ -107,41 +107,6 @@ impl Said {
     {
         let Said { answer } = self;
         Box::into_inner(answer)
-    }
-}
-
-/// Why a link ended, or refused a request.
-pub struct Cause {
-    error: Box<ConnectionError>,
-}
-
-impl Drop for Cause {
-    fn drop(self) {
-        let Cause { error: _ } = self;
-    }
-}
-
-impl Model for Cause {
-    ghost use Rattle.pulsar_wire.specs.Failures.{Fault, fault};
-
-    ghost Value = { Fault };
-
-    ghost view = { λ c. fault c.error.value };
-}
-
-impl Cause {
-    pub fn new(alloc: Global, error: ConnectionError) -> Result<Cause, NoMemory>
-        ensures { IfOk result (λ c. c ≡ fault error) }
-    {
-        let error = Box::new(alloc, error)?;
-        Ok(Cause { error })
-    }
-
-    pub fn into_inner(self) -> ConnectionError
-        ensures { fault result ≡ self }
-    {
-        let Cause { error } = self;
-        Box::into_inner(error)
     }
 }
 

@@ -52,7 +52,7 @@ pub enum Call {
     Flush {
         producer: u64,
     },
-    /// Asks for a sign of life of the connection of each partition of a producer.
+    /// Pings the connection of each partition of a producer.
     CheckProducer {
         producer: u64,
     },

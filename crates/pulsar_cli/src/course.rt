@@ -26,7 +26,8 @@ pub fn go<M: Machine>(
     count: u64,
 ) -> Result<(), NoMemory>
     ensures { OnOk result (
-        Leads (λ none all. none ≡ [] → Ordered seed count all) (M.stands (defaults []) client.old) (M.stands (defaults []) client.new) seed count play.old play.new) }
+        Leads (λ none all. none ≡ [] → Ordered seed count all) (M.stands (defaults []) client.old)
+        (M.stands (defaults []) client.new) seed count play.old play.new) }
 {
     let consumer_ticket = play.tally.consumer;
     begin(client, play)?;

@@ -47,11 +47,13 @@ pub fn run<R: Threads + Wait + Sync, S: Source, K: Sink, E: Edge>(
     ensures nothing { result ≡ 2 → (source.new ≡ source.old) × (sink.new ≡ sink.old) × (edge.new ≡ edge.old) }
     ensures status { result ≤ 7 }
     ensures runs { form (map string_bytes words.now) ≡ Some Script
-        → Ran (map (λ p. routes p) policies.items) result (seen S.left S.faults source.old source.new) (seen K.holds K.faults sink.old sink.new) × (edge.new ≡ edge.old) }
+        → Ran (map (λ p. routes p) policies.items) result (seen S.left S.faults source.old source.new) (seen K.holds K.faults sink.old sink.new)
+        × (edge.new ≡ edge.old) }
     ensures shows { (seed count : ℕ) → form (map string_bytes words.now) ≡ Some (Demo seed count)
         → Shows seed count result (seen K.holds K.faults sink.old sink.new) × (source.new ≡ source.old) × (edge.new ≡ edge.old) }
     ensures works { (a : Asking) → form (map string_bytes words.now) ≡ Some (Job a)
-        → HasGone (λ o h. Good o h) a (map (λ p. routes p) policies.items) result (seen S.left S.faults source.old source.new) (seen K.holds K.faults sink.old sink.new)
+        → HasGone (λ o h. Good o h) a (map (λ p. routes p) policies.items) result (seen S.left S.faults source.old source.new)
+        (seen K.holds K.faults sink.old sink.new)
         (edge_seen E.failures E.first E.greatest edge.old edge.new) }
 {
     match Form::of(words) {
@@ -148,7 +150,8 @@ fn drive<S: Source, K: Sink>(
     sink: &mut K,
 ) -> Status
     ensures { (ps : List Policy) (o : Options) (h : List Step) (content held : Option (List ℕ)) (faults count : ℕ)
-        → Awaits ps o h reading.old feed.old (since content faults S.left S.faults source.old) (since held count K.holds K.faults sink.old) (heard found.event) found.last
+        → Awaits ps o h reading.old feed.old (since content faults S.left S.faults source.old) (since held count K.holds K.faults sink.old)
+        (heard found.event) found.last
         → o ≡ options_in ps reading.old → StandsFor (λ p. routes (p.vtable, p.value)) o client h []
         → Ran ps result (since content faults S.left S.faults source.new) (since held count K.holds K.faults sink.new) }
 {
@@ -169,7 +172,8 @@ fn steps<S: Source, K: Sink>(
     sink: &mut K,
 ) -> Status
     ensures { (ps : List Policy) (o : Options) (h : List Step) (content held : Option (List ℕ)) (faults count : ℕ)
-        → Awaits ps o h reading.old feed.old (since content faults S.left S.faults source.old) (since held count K.holds K.faults sink.old) (heard found.event) found.last
+        → Awaits ps o h reading.old feed.old (since content faults S.left S.faults source.old) (since held count K.holds K.faults sink.old)
+        (heard found.event) found.last
         → o ≡ options_in ps reading.old → StandsFor (λ p. routes (p.vtable, p.value)) o client.value h []
         → Ran ps result (since content faults S.left S.faults source.new) (since held count K.holds K.faults sink.new) }
 {

@@ -48,7 +48,7 @@ use Rattle.pulsar_calls.specs.declared.act.TopicAsk.{TopicAsk}
 use Rattle.pulsar_calls.specs.declared.act.Outcome.{Outcome}
 
 -- the plan of a call begins, that of a topic producer's batches, or that of a consumer; one does something, or ends; one is told something; an attempt begins; a link ends by what came on it, for want of use or
--- with the client, or is asked for a sign of life; and what never arises at once
+-- with the client, or is pinged; and what never arises at once
 pub data Kind : Type 0 where
   OfStart : Kind
   OfBatches : Kind

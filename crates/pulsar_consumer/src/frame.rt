@@ -124,7 +124,10 @@ fn frame_of_message(
 
 /// What a payload brings under its id.
 fn frame_of(alloc: Global, id: MessageIdData, payload: Payload) -> Result<Frame, NoMemory>
-    ensures { IfOk result (λ f. f ≡ record { weight = weight_behind (Some (payload_values payload)); items = items_of (message_id_values id) (payload_values payload) }) }
+    ensures { IfOk result (λ f. f ≡ record {
+      weight = weight_behind (Some (payload_values payload));
+      items = items_of (message_id_values id) (payload_values payload);
+    }) }
 {
     let weight = weight_of(&payload);
     Ok(Frame {

@@ -1,7 +1,7 @@
 //! What owns memory on its way to a connection and from it. It is boxed, so that what carries it is small. Contracts see it by its
 //! content.
 
-ghost use Rattle.std.specs.Prelude.{◌≡◌, ℕ, List, IfOk, string_bytes};
+ghost use Rattle.std.specs.Prelude.{◌≡◌, IfOk};
 ghost use Rattle.pulsar_frame.specs.Shown.{message_values};
 ghost use Rattle.pulsar_exchange.specs.Messages.{Reply, is_body, read};
 ghost use Rattle.pulsar_wire.specs.Failures.{fault};
@@ -18,47 +18,6 @@ use pulsar_wire::error::{ConnectionError, NoMemory};
 use pulsar_wire::key::RequestKey;
 use std::alloc::Global;
 use std::marker::Model;
-
-/// A text.
-pub struct Text {
-    text: String,
-}
-
-impl Drop for Text {
-    fn drop(self) {
-        let Text { text: _ } = self;
-    }
-}
-
-impl Model for Text {
-    ghost use Rattle.std.specs.Prelude.{ℕ, List, string_bytes};
-
-    ghost Value = { List ℕ };
-
-    ghost view = { λ t. string_bytes t.text };
-}
-
-impl Text {
-    pub fn new(text: String) -> Text
-        ensures { result ≡ string_bytes text }
-    {
-        Text { text }
-    }
-
-    pub fn copy(&self) -> Result<Text, NoMemory>
-        ensures { IfOk result (λ t. t ≡ self.now) }
-    {
-        let text = self.text.clone()?;
-        Ok(Text { text })
-    }
-
-    pub fn into_inner(self) -> String
-        ensures { string_bytes result ≡ self }
-    {
-        let Text { text } = self;
-        text
-    }
-}
 
 /// A consumer that a raw call makes, in a box.
 pub struct Subscribed {

@@ -448,7 +448,8 @@ fn copy_create_producer(
     name: &Option<String>,
     options: &ProducerOptions,
 ) -> Result<RawCall, NoMemory>
-    ensures { IfOk result (λ c. words_of c ≡ CreateProducer (string_bytes topic.now) producer_id (option_map string_bytes name.now) (producer_options_values options.now)) }
+    ensures { IfOk result (λ c. words_of c ≡ CreateProducer (string_bytes topic.now) producer_id (option_map string_bytes name.now)
+        (producer_options_values options.now)) }
 {
     Ok(RawCall::CreateProducer {
         topic: topic.clone()?,
@@ -466,7 +467,8 @@ fn copy_subscribe(
     name: &Option<String>,
     options: &ConsumerOptions,
 ) -> Result<RawCall, NoMemory>
-    ensures { IfOk result (λ c. words_of c ≡ Subscribe (string_bytes topic.now) (string_bytes subscription.now) sub_type consumer_id (option_map string_bytes name.now) (consumer_options_values options.now)) }
+    ensures { IfOk result (λ c. words_of c ≡ Subscribe (string_bytes topic.now) (string_bytes subscription.now) sub_type consumer_id
+        (option_map string_bytes name.now) (consumer_options_values options.now)) }
 {
     Ok(RawCall::Subscribe {
         topic: topic.clone()?,
@@ -486,7 +488,14 @@ fn subscription_of(
     name: &Option<String>,
     options: &ConsumerOptions,
 ) -> Result<Subscription, NoMemory>
-    ensures { IfOk result (λ s. subscribed_by s ≡ record { topic = string_bytes topic.now; subscription = string_bytes subscription.now; sub_type = sub_type; consumer = consumer; name = option_map string_bytes name.now; options = consumer_options_values options.now }) }
+    ensures { IfOk result (λ s. subscribed_by s ≡ record {
+      topic = string_bytes topic.now;
+      subscription = string_bytes subscription.now;
+      sub_type = sub_type;
+      consumer = consumer;
+      name = option_map string_bytes name.now;
+      options = consumer_options_values options.now;
+    }) }
 {
     Ok(Subscription {
         topic: topic.clone()?,

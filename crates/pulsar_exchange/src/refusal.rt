@@ -25,7 +25,8 @@ pub fn refused(alloc: Global, body: &Body) -> Result<ConnectionError, NoMemory>
 /// The error that the broker tells.
 #[tactic(auto, unfolding(pulsar_wire::specs::Views::error_values))]
 fn told_error(body: &CommandError) -> Result<ConnectionError, NoMemory>
-    ensures { IfOk result (λ e. fault e ≡ refused (read_body None [] 0 (Some (body_values (Body.Error body.now)))) (Some (written (body_values (Body.Error body.now))))) }
+    ensures { IfOk result (λ e. fault e ≡ refused (read_body None [] 0 (Some (body_values (Body.Error body.now))))
+        (Some (written (body_values (Body.Error body.now))))) }
 {
     let text = body.message.clone()?;
     Ok(ConnectionError::PulsarError(server_error(body.error), Some(text)))

@@ -216,7 +216,7 @@ event (w ∷ ws) =
 -- An option of the client: the URL of the service, the credential, how many frames of a connection may be queued and not written;
 -- how long a request waits for its reply, and before it is made again, and how often it is; how many retries follow an attempt that
 -- failed, how long the first of them waits, and each at most; how long an attempt waits for its connection, how often a connection is
--- asked for a sign of life, and how long one is kept that nothing uses; what random words are drawn from, the number of the first
+-- pinged, and how long one is kept that nothing uses; what random words are drawn from, the number of the first
 -- request of a connection, and the time of the client's start, since 1970. Times are in milliseconds.
 pub data Setting : Type 0 where
   Url : (text : List ℕ) → Setting

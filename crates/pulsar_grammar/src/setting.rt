@@ -34,7 +34,7 @@ pub enum Setting {
     MinBackoff(u64),
     /// How long a retry of an attempt waits at most, without its jitter, in milliseconds.
     MaxBackoff(u64),
-    /// How often a ready connection is asked for a sign of life, in milliseconds.
+    /// How often a ready connection is pinged, in milliseconds.
     KeepAlive(u64),
     /// How long a connection that nothing uses is kept, in milliseconds.
     MaxIdle(u64),

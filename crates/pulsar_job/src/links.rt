@@ -116,7 +116,8 @@ fn open<T: Terms, C: Machine, I: Input + Drop, O: Output + Drop>(
     ensures submits { OnOk result (Submits (Opened number) (history kept.old.traced.trace.items)
         (history kept.new.traced.trace.items) progress.old progress.new) }
     ensures links { OnOk result (map (link_now I.given I.faults O.taken O.faults) links.new.items
-        ≡ map (link_now I.given I.faults O.taken O.faults) links.old.items ++ fresh (link_seen I.given I.faults O.taken O.faults (number, input, output)) ∷ []) }
+        ≡ map (link_now I.given I.faults O.taken O.faults) links.old.items
+        ++ fresh (link_seen I.given I.faults O.taken O.faults (number, input, output)) ∷ []) }
 {
     links.push(Link {
         number,

@@ -138,7 +138,8 @@ fn perform<C: FromUrl, R: Wait, K: Sink, E: Edge>(
     policies: C::Policies,
 ) -> Job<C, E>
     ensures { Performs C.good url.now (C.routes policies) (work_in task.now) result.status (seen K.holds K.faults sink.old sink.new)
-        (edge_seen E.failures E.first E.greatest edge.old edge.new) (map (link_seen E.Input.given E.Input.faults E.Output.taken E.Output.faults) result.halves.items)
+        (edge_seen E.failures E.first E.greatest edge.old edge.new)
+        (map (link_seen E.Input.given E.Input.faults E.Output.taken E.Output.faults) result.halves.items)
         (option_map (λ t. (C.given t.client, history t.trace.items)) result.trace) }
 {
     let now = edge.now();

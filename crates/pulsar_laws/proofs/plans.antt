@@ -10,8 +10,6 @@ pub mod Batched
 pub mod Stores
 pub mod AtOnce
 pub mod Standing
-pub mod ProducerArcs
-pub mod Arcs
 pub mod Takers
 pub mod Fitting
 pub mod Spots

@@ -1,4 +1,4 @@
--- What every run has of the addresses of a client: which attempt is the next one, and when a link is idle or asked for a sign of life.
+-- What every run has of the addresses of a client: which attempt is the next one, and when a link is idle or pinged.
 use Rattle.std.specs.Prelude.{◌≡◌, ◌⊎◌, ℕ, ◌+◌, ◌-◌, ◌^◌, ◌≤◌, ◌==◌, bytes_eq, ◌&&◌, ◌||◌, not, Bool, true, false, if◌then◌else◌, List, [], ◌∷◌, ◌++◌, Option, Some, None}
 use Rattle.pulsar_run.specs.Laws.{InThisStep}
 use Rattle.pulsar_session.specs.Link.{Act as Act', ends}
@@ -95,11 +95,11 @@ abbrev pub IdleEnds : Type 0
 IdleEnds = (o : Options) (log : List Entry) (l : ℕ) → IsRun o (Then (Comes (ToLink l (Ends Idles))) ∷ log) →
     InThisStep (IsIdleAt o l) log
 
--- A link is asked for a sign of life only where the alarm for that rings, and none that it was asked for earlier is waited for.
+-- A link is pinged only where the alarm for that rings, and no earlier ping of it is waited for.
 abbrev pub IsQuietAt : Options → (link : ℕ) → Entry → List Entry → Type 0
 IsQuietAt o l e older =
     (seat : Seat) × (e ≡ Then (Comes (Rings (KeepAlive l)))) × (rings (view o older).now (KeepAlive l) (view o older).alarms ≡ true)
     × ((view o older).links.live l ≡ Some seat) × (seat.ping ≡ None)
 
-abbrev pub SignsOfLife : Type 0
-SignsOfLife = (o : Options) (log : List Entry) (l : ℕ) → IsRun o (Then (Comes (ToLink l Pings)) ∷ log) → InThisStep (IsQuietAt o l) log
+abbrev pub KeepAlivePings : Type 0
+KeepAlivePings = (o : Options) (log : List Entry) (l : ℕ) → IsRun o (Then (Comes (ToLink l Pings)) ∷ log) → InThisStep (IsQuietAt o l) log

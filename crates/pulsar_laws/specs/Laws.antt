@@ -654,7 +654,7 @@ abbrev pub AlarmsAreTicked : Type 0
 AlarmsAreTicked = (o : Options) (log : List Entry) (a : Alarm) → IsRun o (Then (Comes (Rings a)) ∷ log) → InThisStep (RingsAt o a) log
 
 -- What a tick brings comes in this order: the deadlines of links, by link; the attempts that follow others, by the link of the one before;
--- those who have waited, by their rank; the batches, by producer; the signs of life, by link; then the idle check.
+-- those who have waited, by their rank; the batches, by producer; the keep-alive pings, by link; then the idle check.
 abbrev pub part_rank : Part → ℕ × ℕ × ℕ
 part_rank (ToLink l x) = (0, 0, l)
 part_rank (Rings (Retry l)) = (1, 0, l)

@@ -3,7 +3,7 @@
 ghost use Rattle.pulsar_links.specs.Address.{KnownAddresses};
 ghost use Rattle.pulsar_client.specs.Client.{StandsFor};
 ghost use Rattle.pulsar_laws.specs.Laws.{AlarmsAreTicked, AllIsDone, AnswersOnce, BuiltIs, CallsAreMade, CausesInOrder, ClockIs, DeadlinesAreTicked, DeedsFollow, Determined, EffectsArranged, EndsOnce, FailuresAreTold, FramesAreCut, LinksAlone, OutcomesAreCaused, PlansFollow, ServedByTicket, StoppedIs, TicketsCount, TicksInOrder, WritesFollow};
-ghost use Rattle.pulsar_laws.specs.AddressLaws.{AttemptsFollow, IdleEnds, NoneAfterStop, OneLinkEach, SeriesIsNewest, SignsOfLife};
+ghost use Rattle.pulsar_laws.specs.AddressLaws.{AttemptsFollow, IdleEnds, NoneAfterStop, OneLinkEach, SeriesIsNewest, KeepAlivePings};
 ghost use Rattle.pulsar_laws.specs.Traces.{IsGood, LocalIsKnown, attempt_fails, attempt_is_retried, batch_is_sent, client_is_stopped, consumer_is_polled, deadline_comes, line_moves_up, lookup_is_redirected, message_is_sent, reply_comes_early, request_is_answered};
 ghost use Rattle.pulsar_acts.specs.Run.{Good};
 ghost use Rattle.pulsar_calls.specs.Steps.{Step};
@@ -108,7 +108,7 @@ pub fn alarms_are_ticked()
     ensures { AlarmsAreTicked }
 {}
 
-/// What a tick brings comes in order: deadlines, attempts, those who have waited, batches, signs of life, the idle
+/// What a tick brings comes in order: deadlines, attempts, those who have waited, batches, keep-alive pings, the idle
 /// check.
 pub fn ticks_in_order()
     ensures { TicksInOrder }
@@ -140,9 +140,9 @@ pub fn idle_ends()
     ensures { IdleEnds }
 {}
 
-/// A link is asked for a sign of life only where its alarm rings and no earlier ping of it waits.
-pub fn signs_of_life()
-    ensures { SignsOfLife }
+/// A link is pinged only where its alarm rings and no earlier ping of it waits.
+pub fn keep_alive_pings()
+    ensures { KeepAlivePings }
 {}
 
 /// A link that has not ended is what the calls of its connection made of it, and nothing else.

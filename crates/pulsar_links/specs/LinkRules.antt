@@ -59,7 +59,7 @@ told_at (Err e) = outcome.Refused (fault e)
 abbrev pub stop_act : ℕ → Seat → List Act
 stop_act l seat = Comes (ToLink l (Ends Stops)) ∷ []
 
--- a link is asked for a sign of life, unless the earlier ping still waits
+-- a link is pinged, unless the earlier ping still waits
 abbrev pub may_ping : Option Seat → Bool
 may_ping None = false
 may_ping (Some seat) = is_none seat.ping

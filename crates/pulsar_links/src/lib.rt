@@ -1,4 +1,5 @@
-//! The links of a client and their addresses, as tables that do nothing by themselves: what is asked and heard on each, when it is due, and which attempts follow a failure.
+//! The links of a client and their addresses, as tables that do nothing by themselves: what is asked and heard on each, when it is due, and
+//! which attempts follow a failure.
 #![tactic(auto)]
 
 pub mod address;

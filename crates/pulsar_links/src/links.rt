@@ -16,9 +16,8 @@ ghost use Rattle.pulsar_links.specs.Seats.{answer_at, arrival_at, got_at, room_a
 
 use crate::due::DueMoments;
 use crate::row::Row;
-use pulsar_addresses::content::Address;
+use pulsar_addresses::content::{Address, Cause};
 use pulsar_calls::act::{Act, Arrival, End, LinkAct, Notice, Outcome, Part, Who};
-use pulsar_calls::content::Cause;
 use pulsar_calls::effect::Effect;
 use pulsar_exchange::content::Request;
 use pulsar_session::connection::Connection;
@@ -166,7 +165,7 @@ impl Links {
         Ok(())
     }
 
-    /// A link that has not ended is to be asked for a sign of life: its earlier ping does not wait.
+    /// A link that has not ended is to be pinged: its earlier ping does not wait.
     pub fn may_ping(&self, link: u64) -> bool
         ensures { result ≡ may_ping (live_in self.now.live link) }
     {
@@ -176,7 +175,7 @@ impl Links {
         }
     }
 
-    /// A link is asked for a sign of life.
+    /// A link is pinged.
     pub fn ping(&mut self, now: u64, link: u64, out: &mut Vec<Effect>) -> Result<(), NoMemory>
         ensures out { OnOk result (map shown out.new.items ≡ map shown out.old.items ++ given_at link LinkAct.Pings now (live_in self.old.live link)) }
         ensures started { OnOk result (self.new.started ≡ self.old.started) }

@@ -18,9 +18,8 @@ ghost use Rattle.pulsar_links.specs.Kept.{seat_of, settled};
 ghost use Rattle.pulsar_links.specs.Seats.{asker_at, askers_left, got_since, is_asked, later, ping_left, place_of, room_in, seat_asked, seat_of_fresh, took};
 
 use crate::ask::ask;
-use pulsar_addresses::content::Address;
+use pulsar_addresses::content::{Address, Cause};
 use pulsar_calls::act::{Arrival, End, LinkAct, Notice, Outcome, Who};
-use pulsar_calls::content::Cause;
 use pulsar_calls::effect::{Effect, Settlement};
 use pulsar_exchange::content::{Received, Request};
 use pulsar_session::connection::Connection;
@@ -171,7 +170,7 @@ impl Row {
         tell_queued(alloc, &self.askers, before, after)
     }
 
-    /// It is asked for a sign of life.
+    /// It is pinged.
     pub fn ping(&mut self, now: u64, link: u64, out: &mut Vec<Effect>) -> Result<(), NoMemory>
         ensures out { OnOk result (map shown out.new.items ≡ map shown out.old.items ++ effects link LinkAct.Pings now self.old.connection) }
         ensures sees { OnOk result (Some (seat_of self.new) ≡ took LinkAct.Pings now (seat_of self.old)) }

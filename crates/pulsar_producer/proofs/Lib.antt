@@ -7,3 +7,4 @@ pub mod Storages
 pub mod Telling
 pub mod Turns
 pub mod Untouched
+pub mod Arcs

@@ -9,8 +9,9 @@ ghost use Rattle.pulsar_producer_table.specs.KeptProducers.{producers_of};
 ghost use Rattle.pulsar_producer_table.specs.Producers.{done_to};
 
 use crate::table::Producers;
+use pulsar_addresses::content::Cause;
 use pulsar_calls::act::{Notice, Outcome, TopicAsk, Who};
-use pulsar_calls::content::{Cause, Granted, News};
+use pulsar_calls::content::{Granted, News};
 use pulsar_calls::who::in_turn;
 use pulsar_outgoing::content::{Entry, Version};
 use pulsar_wire::error::{ConnectionError, NoMemory};

@@ -55,7 +55,8 @@ impl SerialId {
     fn attempt(&self, seat: &mut NumberSeat) -> Option<Result<u64, Exhausted>>
         requires { Belongs seat.old self.now }
         ensures same { seat.new.seat.table_id ≡ seat.old.seat.table_id }
-        ensures ok { IfSome result (λ r. IfOk r (λ n. (drawn_by seat.new ≡ drawn_by seat.old ++ n ∷ []) × Above n (drawn_by seat.old) × (seen_by seat.old ≤ n) × (seen_by seat.new ≡ n + 1) × (n < 2 ^ 64 - 1))) }
+        ensures ok { IfSome result (λ r. IfOk r (λ n. (drawn_by seat.new ≡ drawn_by seat.old ++ n ∷ []) × Above n (drawn_by seat.old)
+            × (seen_by seat.old ≤ n) × (seen_by seat.new ≡ n + 1) × (n < 2 ^ 64 - 1))) }
         ensures none { MatchOption result (drawn_by seat.new ≡ drawn_by seat.old) (λ r. OnErr r (drawn_by seat.new ≡ drawn_by seat.old)) }
         ensures top { IfSome result (λ r. OnErr r (seen_by seat.new ≡ 2 ^ 64 - 1)) }
         ensures stays { 2 ^ 64 - 1 ≤ seen_by seat.old → MatchOption result ⊥ (λ r. IsErr r) }

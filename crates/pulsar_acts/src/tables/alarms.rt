@@ -87,7 +87,7 @@ impl Tables {
         tasks.open(notices)
     }
 
-    /// A link is asked for a sign of life, unless the earlier ping still waits.
+    /// A link is pinged, unless the earlier ping still waits.
     fn keeps_alive(&mut self, link: u64, tasks: &mut Tasks) -> Result<(), NoMemory>
         ensures left { OnOk result (agenda_of tasks.new
             ≡ record (agenda_of tasks.old) { now = rung (view_of self.old) (Alarm.KeepAlive link) ++ tasks.old.now.items }) }

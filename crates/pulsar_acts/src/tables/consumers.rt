@@ -21,10 +21,10 @@ ghost use Rattle.pulsar_acts.specs.View.{after, ways_of};
 
 use crate::tables::Tables;
 use crate::tables::calls::tell;
-use pulsar_addresses::content::Refusal as Failure;
+use pulsar_addresses::content::{Cause, Refusal as Failure};
 use pulsar_agenda::agenda::Tasks;
 use pulsar_calls::act::{Action, Notice, Outcome, Part, Procedure, Refusal, Who, Word};
-use pulsar_calls::content::{Cause, Recalled};
+use pulsar_calls::content::Recalled;
 use pulsar_calls::effect::Effect;
 use pulsar_calls::who::ticket_of;
 use pulsar_consumer_table::numbers::Numbering;

@@ -45,7 +45,7 @@ impl Tables {
         }
     }
 
-    /// A link is asked for a sign of life.
+    /// A link is pinged.
     fn pings(&mut self, link: u64, out: &mut Vec<Effect>) -> Result<(), NoMemory>
         ensures out { OnOk result (map shown out.new.items ≡ map shown out.old.items
             ++ effects (view_of self.old) (Act.Comes (Part.ToLink link LinkAct.Pings))) }

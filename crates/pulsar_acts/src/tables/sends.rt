@@ -218,7 +218,7 @@ impl Tables {
         })
     }
 
-    /// The connection of each partition is asked for a sign of life.
+    /// The connection of each partition is pinged.
     pub(super) fn checks(&self, producer: u64) -> Result<Procedure, NoMemory>
         ensures { IfOk result (λ p. p ≡ rules.checks (producers_of self.now.producers) producer) }
     {

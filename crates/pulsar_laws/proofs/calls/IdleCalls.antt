@@ -5,7 +5,7 @@ use Rattle.pulsar_laws.proofs.ActWords.{Act, Action, Call, Does, is_same, Outcom
 use Rattle.pulsar_laws.proofs.PlanWords.{Plan}
 use Rattle.pulsar_laws.proofs.RunWords.{Begins, counted, Entry, IsRun, Options, start_of, started, Then, view}
 use Rattle.pulsar_calls.specs.declared.act.Procedure.TheVariants as procedure
-use Rattle.pulsar_laws.proofs.plans.Arcs.{Arc, Begun, begins_gather, begun_arc, gathers_on, told_arc}
+use Rattle.pulsar_plans.proofs.Arcs.{Arc, Begun, begins_gather, begun_arc, gathers_on, told_arc}
 use Rattle.pulsar_laws.proofs.plans.Standing.{stands_so}
 use Rattle.pulsar_laws.proofs.calls.Same.{same_self}
 use Rattle.pulsar_laws.proofs.plans.Follow.{same_is}

@@ -12,7 +12,7 @@ use Rattle.pulsar_messages.specs.Claims.{is_spent}
 use Rattle.pulsar_outgoing.specs.declared.news.News.TheVariants as news
 use Rattle.pulsar_calls.specs.declared.act.Outcome.TheVariants as outcome
 use Rattle.pulsar_calls.specs.declared.act.Procedure.TheVariants as procedure
-use Rattle.pulsar_laws.proofs.plans.Arcs.{Arc, Begun, begins_storing, begun_arc, part_stores, stored_rests, stores, told_arc}
+use Rattle.pulsar_plans.proofs.Arcs.{Arc, Begun, begins_storing, begun_arc, part_stores, stored_rests, stores, told_arc}
 use Rattle.pulsar_laws.proofs.plans.Standing.{moves, stands_so}
 use Rattle.pulsar_laws.proofs.Lists.{in_each}
 use Rattle.pulsar_laws.specs.BatchLaws.{StoredEndsByItsBatch, TellsFate, ends_with}

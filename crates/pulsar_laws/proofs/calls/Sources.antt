@@ -1,4 +1,4 @@
--- Some acts come only with a tick, with the alarm of a sign of life, or with the idle check.
+-- Some acts come only with a tick, with the alarm of a keep-alive ping, or with the idle check.
 use Rattle.std.proofs.Common.{◌≡◌, ◌⊎◌, inl, inr, sym, subst, ℕ, List, [], ◌∷◌, refl, map, Bool, true, false, cond, Option, Some, None}
 use Rattle.std.specs.List.{flat_map}
 use Rattle.std.specs.Option.{option_to_list}

@@ -15,7 +15,7 @@ use Rattle.pulsar_laws.proofs.plans.Batchers.{batcher_does}
 use Rattle.pulsar_laws.proofs.plans.Fitting.{is_settling}
 use Rattle.pulsar_laws.proofs.plans.Granted.{BeginsSo, IsCaused, IsLedSo, JoinSo, causes_inner, does_from, is_inner, joins_so}
 use Rattle.pulsar_laws.proofs.producers.InTurn.{self_same, stand_starts, stand_told}
-use Rattle.pulsar_laws.proofs.plans.Arcs.{StaysSo}
+use Rattle.pulsar_plans.proofs.Arcs.{StaysSo}
 use Rattle.pulsar_laws.proofs.calls.Once.{ends_once_lem}
 use Rattle.pulsar_laws.proofs.plans.Parted.{parts_at, parts_more, starts_part}
 use Rattle.pulsar_client.proofs.Raising.{IsRaised, raises}

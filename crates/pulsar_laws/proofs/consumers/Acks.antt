@@ -28,7 +28,7 @@ use Rattle.pulsar_client.proofs.Raising.{IsRaised, raises}
 use Rattle.pulsar_laws.proofs.Lists.{in_each}
 use Rattle.pulsar_laws.proofs.Cases.{cond_so, none_some}
 use Rattle.pulsar_laws.proofs.plans.Standing.{run_older, stands_so}
-use Rattle.pulsar_laws.proofs.plans.Arcs.{StaysSo}
+use Rattle.pulsar_plans.proofs.Arcs.{StaysSo}
 use Rattle.pulsar_laws.proofs.calls.Sources.{step_more, step_some}
 use Rattle.pulsar_laws.specs.ConsumerLaws.{AcksAreLicensed, AcksOnce, LicensedBy, Licenses, ack_of, is_ack}
 use Rattle.pulsar_laws.proofs.calls.Caused.{outcomes_are_caused_lem}

@@ -16,7 +16,7 @@ use Rattle.pulsar_consumer_table.specs.Consumers.{Member, word_if, word_of, word
 use Rattle.pulsar_acts.specs.Reading.{flow_said, tells_word}
 use Rattle.pulsar_laws.proofs.Cases.{cond_so}
 use Rattle.pulsar_laws.proofs.plans.Standing.{run_older, stands_so, starts_so}
-use Rattle.pulsar_laws.proofs.plans.Arcs.{Arc, due_takes, ended_closes, flow_asks, flowed_takes, lives_rests, lost_recalls, no_flow_rests, over_closes, recalled_fails, recalled_resumes_asks, recalled_resumes_gets, recalled_resumes_waits, recalled_revives, resumed_fails, resumed_revives, resumes_on_asks, resumes_on_gets, resumes_on_waits, serving_rests, told_arc}
+use Rattle.pulsar_plans.proofs.Arcs.{Arc, due_takes, ended_closes, flow_asks, flowed_takes, lives_rests, lost_recalls, no_flow_rests, over_closes, recalled_fails, recalled_resumes_asks, recalled_resumes_gets, recalled_resumes_waits, recalled_revives, resumed_fails, resumed_revives, resumes_on_asks, resumes_on_gets, resumes_on_waits, serving_rests, told_arc}
 use Rattle.pulsar_laws.proofs.calls.Sources.{step_more}
 use Rattle.pulsar_laws.specs.ConsumerLaws.{FlowsAreAsked, FlowsAreTaken, TakesSo}
 use Rattle.pulsar_laws.proofs.consumers.Acks.{told_so}

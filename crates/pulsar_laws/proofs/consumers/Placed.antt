@@ -31,7 +31,7 @@ use Rattle.pulsar_plans.specs.Plan.{told_service}
 use Rattle.pulsar_consumer_table.specs.Consumers as consumer
 use Rattle.pulsar_consumer_table.specs.Consumers.{Member, flow_at, member_after}
 use Rattle.pulsar_acts.specs.Reading.{flow_said}
-use Rattle.pulsar_laws.proofs.plans.Arcs.{Arc, StaysSo, due_takes, flowed_takes, is_flow, serving_rests, stays_by}
+use Rattle.pulsar_plans.proofs.Arcs.{Arc, StaysSo, due_takes, flowed_takes, is_flow, serving_rests, stays_by}
 use Rattle.pulsar_laws.proofs.Cases.{none_some, some_is}
 use Rattle.pulsar_laws.specs.ConsumerLaws.{FlowsArePlaced, done_to, place_on}
 use Rattle.pulsar_laws.proofs.consumers.Ended.{seen_made}

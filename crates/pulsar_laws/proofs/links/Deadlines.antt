@@ -1,4 +1,4 @@
--- A deadline comes to a link only in a tick at which the link was due, and an alarm only in one at which it rang. So a sign of life and
+-- A deadline comes to a link only in a tick at which the link was due, and an alarm only in one at which it rang. So a keep-alive ping and
 -- an end for want of use come only where their alarm rings.
 use Rattle.std.proofs.Common.{◌≡◌, ◌⊎◌, inl, inr, ◌∙◌, sym, ap, subst, ℕ, List, ◌∷◌, refl, map, Bool, true, false, cond, Option, Some, None, []}
 use Rattle.std.specs.Option.{is_none}
@@ -12,7 +12,7 @@ use Rattle.pulsar_links.specs.Alarms.{ringing}
 use Rattle.pulsar_calls.specs.Content.{Ticked}
 use Rattle.pulsar_laws.proofs.Lists.{in_append, in_map}
 use Rattle.pulsar_laws.specs.Laws.{AlarmsAreTicked, DeadlinesAreTicked, IsDueAt, RingsAt}
-use Rattle.pulsar_laws.specs.AddressLaws.{IdleEnds, IsIdleAt, IsQuietAt, SignsOfLife}
+use Rattle.pulsar_laws.specs.AddressLaws.{IdleEnds, IsIdleAt, IsQuietAt, KeepAlivePings}
 use Rattle.pulsar_acts.specs.Rules.{brings, idle_act, is_idle, keeps_alive, rung}
 use Rattle.pulsar_links.specs.LinkRules.{due_part, may_ping}
 use Rattle.pulsar_laws.proofs.calls.Sources.{Any, Check, Fits, Keeping, Source, Tick, arises_fits, gives, in_links, in_one, source, step_more}
@@ -168,7 +168,7 @@ idle_ends_lem o log l run =
     step_more (Arises rules o (Comes (ToLink l (Ends Idles)))) (IsIdleAt o l) (idle_at o l) log
     (acts_arise_lem _ _ _ _ _ _ _ rules o (Comes (ToLink l (Ends Idles))) log run)
 
-pub signs_of_life_lem : SignsOfLife
-signs_of_life_lem o log l run =
+pub keep_alive_pings_lem : KeepAlivePings
+keep_alive_pings_lem o log l run =
     step_more (Arises rules o (Comes (ToLink l Pings))) (IsQuietAt o l) (quiet_at o l) log
     (acts_arise_lem _ _ _ _ _ _ _ rules o (Comes (ToLink l Pings)) log run)

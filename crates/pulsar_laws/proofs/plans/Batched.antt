@@ -20,9 +20,9 @@ use Rattle.pulsar_producer.specs.declared.deed.Step.TheVariants as step
 use Rattle.pulsar_producer.specs.declared.sending.Sending.TheVariants as send
 use Rattle.pulsar_calls.specs.declared.act.Outcome.TheVariants as outcome
 use Rattle.pulsar_plans.specs.Plan.{told_batch}
-use Rattle.pulsar_laws.proofs.plans.ProducerArcs.{SendArc, draws, send_arc}
+use Rattle.pulsar_producer.proofs.Arcs.{SendArc, draws, send_arc}
 use Rattle.pulsar_laws.proofs.Cases.{cond_when}
-use Rattle.pulsar_laws.proofs.plans.Arcs.{StaysSo}
+use Rattle.pulsar_plans.proofs.Arcs.{StaysSo}
 
 -- HOW IT COMES TO A STATE, and what it does there
 

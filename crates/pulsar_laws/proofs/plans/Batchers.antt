@@ -6,7 +6,7 @@ use Rattle.pulsar_laws.proofs.RunWords.{Entry, IsRun, Options, Then, view}
 use Rattle.pulsar_producer.specs.declared.deed.Deed.TheVariants as deed
 use Rattle.pulsar_laws.proofs.plans.Granted.{BeginsSo, IsLedSo, does_from}
 use Rattle.pulsar_calls.specs.declared.act.Procedure.TheVariants as procedure
-use Rattle.pulsar_laws.proofs.plans.Arcs.{Begun, begins_batch, begun_arc, told_arc, Arc, batch_cuts, batch_halts, batches_go}
+use Rattle.pulsar_plans.proofs.Arcs.{Begun, begins_batch, begun_arc, told_arc, Arc, batch_cuts, batch_halts, batches_go}
 use Rattle.pulsar_laws.proofs.plans.Standing.{run_older, stands_so, starts_so}
 
 abbrev is_batch : Procedure → Bool

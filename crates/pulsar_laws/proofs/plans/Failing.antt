@@ -37,7 +37,7 @@ use Rattle.pulsar_plans.specs.declared.plan.At.{At as Point}
 use Rattle.pulsar_plans.specs.declared.plan.At.TheVariants as point
 use Rattle.pulsar_plans.specs.declared.plan.Plan.TheVariants.{Building, Getting, Searching, Sending, Gathering, Shutting, Stopping, Acknowledging, Departing}
 use Rattle.pulsar_calls.specs.Content.{Done, Receipt, Replies, Failed}
-use Rattle.pulsar_laws.proofs.plans.Arcs.{Arc, End, ends, by_arcs, flowed_takes, is_server, over}
+use Rattle.pulsar_plans.proofs.Arcs.{Arc, End, ends, by_arcs, flowed_takes, is_server, over}
 use Rattle.pulsar_laws.proofs.Cases.{cond_so}
 use Rattle.pulsar_laws.specs.Laws.{Deed, Acted, FailsSo, IsRefused, IsRefusedShare, IsTold, IsTurned, IsDenied, IsUnexpected, IsInProducer, IsUnexpectedInProducer, IsSettled, IsPartial, IsAnswered, DeniesSo, acted, course, fails_in_producer, has_failed, number_in, ways_in, IsInUse, IsOfSeveral, IsClosed}
 use Rattle.pulsar_calls.specs.Parts.{failed_with, outcomes_of, sent_from}

@@ -17,8 +17,8 @@ use Rattle.pulsar_producer.specs.declared.sending.Sending.TheVariants as send
 use Rattle.pulsar_calls.specs.declared.act.Outcome.TheVariants as outcome
 use Rattle.pulsar_calls.specs.declared.act.Procedure.TheVariants as procedure
 use Rattle.pulsar_plans.specs.declared.plan.At.TheVariants as at
-use Rattle.pulsar_laws.proofs.plans.Arcs.{Arc, BatchArc, Begun, batch_cuts, batch_sends, batch_settles, batches_go, begins_send, begins_stop, builds_on, by_arcs, by_begun, part_sends, sends, taken_settles}
-use Rattle.pulsar_laws.proofs.plans.ProducerArcs.{BuildArc, SendArc, draws, naming_rests, queued, sent_rests}
+use Rattle.pulsar_plans.proofs.Arcs.{Arc, BatchArc, Begun, batch_cuts, batch_sends, batch_settles, batches_go, begins_send, begins_stop, builds_on, by_arcs, by_begun, part_sends, sends, taken_settles}
+use Rattle.pulsar_producer.proofs.Arcs.{BuildArc, SendArc, draws, naming_rests, queued, sent_rests}
 
 -- where it stands: it tells that it was queued, or leaves behind what it tells, or is stored; it holds what it is told of at once, or stores it; or
 -- it stands elsewhere, but nowhere as a queued part

@@ -32,8 +32,8 @@ use Rattle.pulsar_producer.specs.declared.sending.Sending.TheVariants as send
 use Rattle.pulsar_calls.specs.declared.act.Outcome.TheVariants as outcome
 use Rattle.pulsar_plans.specs.declared.plan.Plan.TheVariants.{Sending}
 use Rattle.pulsar_plans.specs.Plan.{wished}
-use Rattle.pulsar_laws.proofs.plans.Arcs.{Arc, StaysSo, part_fails, part_halts, part_sends, part_tells, reports_on, sends, stays_by}
-use Rattle.pulsar_laws.proofs.plans.ProducerArcs.{SendArc, StepSo as ArcsTo, asked_recalls, asks, drawn_recalls, draws, looked_makes, looking_rests, looks_on_asks, looks_on_gets, looks_on_waits, made_remakes, makes_on_asks, makes_on_gets, makes_on_waits, making_rests, recalled_looks_asks, recalled_looks_gets, recalled_looks_waits, recalled_makes, remade_draws, send_arcs, stands}
+use Rattle.pulsar_plans.proofs.Arcs.{Arc, StaysSo, part_fails, part_halts, part_sends, part_tells, reports_on, sends, stays_by}
+use Rattle.pulsar_producer.proofs.Arcs.{SendArc, StepSo as ArcsTo, asked_recalls, asks, drawn_recalls, draws, looked_makes, looking_rests, looks_on_asks, looks_on_gets, looks_on_waits, made_remakes, makes_on_asks, makes_on_gets, makes_on_waits, making_rests, recalled_looks_asks, recalled_looks_gets, recalled_looks_waits, recalled_makes, remade_draws, send_arcs, stands}
 
 -- PLANS WITHIN PLANS ASK FOR NO MESSAGE
 

@@ -16,9 +16,9 @@ use Rattle.pulsar_plans.specs.Plan.{waits}
 use Rattle.pulsar_producer.specs.Batching.{is_sent_send}
 use Rattle.pulsar_laws.proofs.Cases.{none_some}
 use Rattle.pulsar_laws.specs.ProducerLaws.{turn_in, turn_of}
-use Rattle.pulsar_laws.proofs.plans.Arcs.{Arc, BatchArc, Begun, StaysSo, answered_turns, asked_passes, asks_not, batch_cuts, batch_halts, batch_sends, batches_go, begins_by, begins_checks, begins_send, builds_on, finds_not, found_asks, line_passes, part_fails, part_halts, part_sends, part_tells, reports_on, sends, settled_turns, stays_by, taken_starts, turned_finds}
+use Rattle.pulsar_plans.proofs.Arcs.{Arc, BatchArc, Begun, StaysSo, answered_turns, asked_passes, asks_not, batch_cuts, batch_halts, batch_sends, batches_go, begins_by, begins_checks, begins_send, builds_on, finds_not, found_asks, line_passes, part_fails, part_halts, part_sends, part_tells, reports_on, sends, settled_turns, stays_by, taken_starts, turned_finds}
 use Rattle.pulsar_laws.proofs.plans.Natures.{is_leaving}
-use Rattle.pulsar_laws.proofs.plans.ProducerArcs.{BuildArc, SendArc, asked_ends, drawn_ends, draws, looked_ends, made_ends, naming_rests, queued, recalled_ends, remade_ends, sent_rests}
+use Rattle.pulsar_producer.proofs.Arcs.{BuildArc, SendArc, asked_ends, drawn_ends, draws, looked_ends, made_ends, naming_rests, queued, recalled_ends, remade_ends, sent_rests}
 
 -- what one has the turn of; a part of a call that is queued has it until it has told so
 abbrev pub holds_in : Errand → Send → Option ℕ

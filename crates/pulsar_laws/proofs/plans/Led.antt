@@ -4,7 +4,7 @@ use Rattle.pulsar_laws.proofs.ActWords.{Act, Action, Answers, Asked, Call, Calls
 use Rattle.pulsar_laws.proofs.PlanWords.{begins, fails, Gives, Plan, Stays, told, Turn}
 use Rattle.pulsar_laws.proofs.RunWords.{agenda, Answered, at_once, Begins, Each, each_map, Entry, first_case, follows, follows_some, is_served, IsRun, left_with, Options, performs, rest, starts, Then, told_some, view, View, ways_of}
 use Rattle.pulsar_laws.proofs.LinkWords.{Exhausted}
-use Rattle.pulsar_laws.proofs.plans.Arcs.{begun_arc, told_arc}
+use Rattle.pulsar_plans.proofs.Arcs.{begun_arc, told_arc}
 use Rattle.pulsar_laws.specs.Laws.{Deed, Acted, ComesLate, DeedsFollow, IsToldSo, Leads, StartsSo, act_of}
 use Rattle.pulsar_client.proofs.Acts.{late}
 use Rattle.pulsar_laws.proofs.plans.Follow.{NoDeed, follows_run, is_deed, left_no_deed, left_plain, performs_none, quiet_no_deed, starts_none}

@@ -32,8 +32,8 @@ use Rattle.pulsar_plans.specs.declared.service.Service.{Service}
 use Rattle.pulsar_plans.specs.declared.service.Service.TheVariants as service
 use Rattle.pulsar_plans.specs.Plan.{asks_of}
 use Rattle.pulsar_laws.specs.ConsumerLaws.{is_ack}
-use Rattle.pulsar_laws.proofs.plans.ProducerArcs.{BuildArc, SendArc, asks, building_rests, builds_on_asks, builds_on_gets, builds_on_waits, built_closes, closes_on, looked_makes, looking_rests, looks_on_asks, looks_on_gets, looks_on_waits, makes_on_asks, makes_on_gets, makes_on_waits, making_rests, names_on_asks, numbered_closes, numbered_makes, recalled_looks_asks, recalled_looks_gets, recalled_looks_waits, recalled_makes}
-use Rattle.pulsar_laws.proofs.plans.Arcs.{Arc, BatchArc, Begun, StaysSo, batch_sends, batches_go, begins_acknowledge, begins_asking, begins_by, begins_getting, begins_produce_asks, begins_search_asks, begins_search_gets, begins_search_waits, begins_subscribe_asks, builds_on, departs_asks, ended_closes, flow_asks, found_asks, got_asks, over_closes, part_sends, recalled_resumes_asks, recalled_resumes_gets, recalled_resumes_waits, resumes_on_asks, resumes_on_gets, resumes_on_waits, search_rests, searches_asks, searches_gets, searches_waits, sends, serving_rests, stays_by, subscribed_numbers, subscribed_rests, subscribes_on_asks, subscribes_on_gets, subscribes_on_waits, subscribing_rests}
+use Rattle.pulsar_producer.proofs.Arcs.{BuildArc, SendArc, asks, building_rests, builds_on_asks, builds_on_gets, builds_on_waits, built_closes, closes_on, looked_makes, looking_rests, looks_on_asks, looks_on_gets, looks_on_waits, makes_on_asks, makes_on_gets, makes_on_waits, making_rests, names_on_asks, numbered_closes, numbered_makes, recalled_looks_asks, recalled_looks_gets, recalled_looks_waits, recalled_makes}
+use Rattle.pulsar_plans.proofs.Arcs.{Arc, BatchArc, Begun, StaysSo, batch_sends, batches_go, begins_acknowledge, begins_asking, begins_by, begins_getting, begins_produce_asks, begins_search_asks, begins_search_gets, begins_search_waits, begins_subscribe_asks, builds_on, departs_asks, ended_closes, flow_asks, found_asks, got_asks, over_closes, part_sends, recalled_resumes_asks, recalled_resumes_gets, recalled_resumes_waits, resumes_on_asks, resumes_on_gets, resumes_on_waits, search_rests, searches_asks, searches_gets, searches_waits, sends, serving_rests, stays_by, subscribed_numbers, subscribed_rests, subscribes_on_asks, subscribes_on_gets, subscribes_on_waits, subscribing_rests}
 use Rattle.pulsar_laws.proofs.plans.MildSearches.{Any, IsMildCommand, IsMildWish, MildSearch, MildSought, MildTurn, and_mild, look_mild, made_mild, names_begun, names_mild, own_ack, search_begun, search_mild}
 
 -- A SEND

@@ -9,8 +9,8 @@ use Rattle.pulsar_outgoing.specs.declared.news.News.TheVariants as news
 use Rattle.pulsar_calls.specs.declared.act.Outcome.TheVariants as outcome
 use Rattle.pulsar_plans.specs.declared.plan.Plan.TheVariants.{Gathering}
 use Rattle.pulsar_plans.specs.Plan.{told_of}
-use Rattle.pulsar_laws.proofs.plans.Arcs.{Arc, BatchArc, Begun, batch_cuts, batch_sends, batch_settles, batches_go, begins_leaving, builds_on, part_fails, part_halts, part_sends, part_stores, part_tells, sends, taken_settles}
-use Rattle.pulsar_laws.proofs.plans.ProducerArcs.{BuildArc, SendArc, draws, naming_rests}
+use Rattle.pulsar_plans.proofs.Arcs.{Arc, BatchArc, Begun, batch_cuts, batch_sends, batch_settles, batches_go, begins_leaving, builds_on, part_fails, part_halts, part_sends, part_stores, part_tells, sends, taken_settles}
+use Rattle.pulsar_producer.proofs.Arcs.{BuildArc, SendArc, draws, naming_rests}
 use Rattle.pulsar_outgoing.specs.Batch.{member_of, reports}
 
 -- KINDS

@@ -5,7 +5,7 @@ use Rattle.pulsar_laws.proofs.PlanWords.{action_of, Deed, Plan, Stays, told, Tur
 use Rattle.pulsar_laws.proofs.RunWords.{Entry, IsRun, notice, Options, Then, view}
 use Rattle.pulsar_searches.specs.declared.turn.Action.TheVariants as wish
 use Rattle.pulsar_producer.specs.declared.deed.Deed.TheVariants as deed
-use Rattle.pulsar_laws.proofs.plans.Arcs.{begun_arc, told_arc, Arc, Begun, begins_build, got_asks}
+use Rattle.pulsar_plans.proofs.Arcs.{begun_arc, told_arc, Arc, Begun, begins_build, got_asks}
 use Rattle.pulsar_laws.proofs.plans.Standing.{run_older, stands_so}
 use Rattle.pulsar_laws.proofs.plans.Batchers.{batcher_does}
 use Rattle.pulsar_laws.proofs.plans.Granted.{BeginsSo, IsLedSo, does_from}

@@ -4,10 +4,10 @@ use Rattle.pulsar_laws.proofs.ActWords.{Action, Consumer, Does, Nothing, Outcome
 use Rattle.pulsar_laws.proofs.PlanWords.{begins, Gives, Plan, told}
 use Rattle.pulsar_laws.proofs.RunWords.{Entry, IsRun, Options, Then, view}
 use Rattle.pulsar_calls.specs.declared.act.Procedure.TheVariants as procedure
-pub use Rattle.pulsar_laws.proofs.plans.Arcs.{is_server}
+pub use Rattle.pulsar_plans.proofs.Arcs.{is_server}
 use Rattle.pulsar_laws.proofs.plans.Granted.{BeginsSo, IsLedSo, does_from}
 use Rattle.pulsar_laws.proofs.plans.Consuming.{is_modest}
-use Rattle.pulsar_laws.proofs.plans.Arcs.{Begun, begins_serve, begun_arc, told_arc, Arc, End, ends, flowed_takes, over, told_end}
+use Rattle.pulsar_plans.proofs.Arcs.{Begun, begins_serve, begun_arc, told_arc, Arc, End, ends, flowed_takes, over, told_end}
 use Rattle.pulsar_laws.proofs.plans.Standing.{run_older, stands_so, starts_so}
 
 abbrev is_serve : Procedure → Bool

@@ -6,8 +6,8 @@ use Rattle.pulsar_calls.specs.declared.act.Outcome.TheVariants as outcome
 use Rattle.pulsar_calls.specs.declared.act.Procedure.TheVariants as procedure
 use Rattle.pulsar_plans.specs.declared.plan.Plan.TheVariants.{Sending}
 use Rattle.pulsar_laws.proofs.Cases.{none_some}
-use Rattle.pulsar_laws.proofs.plans.Arcs.{Arc, BatchArc, Begun, StaysSo, batch_sends, batches_go, begins_by, begins_leaving, begins_send, begins_storing, builds_on, part_fails, part_halts, part_sends, part_stores, part_tells, sends, stays_by}
-use Rattle.pulsar_laws.proofs.plans.ProducerArcs.{BuildArc, SendArc, draws, naming_rests}
+use Rattle.pulsar_plans.proofs.Arcs.{Arc, BatchArc, Begun, StaysSo, batch_sends, batches_go, begins_by, begins_leaving, begins_send, begins_storing, builds_on, part_fails, part_halts, part_sends, part_stores, part_tells, sends, stays_by}
+use Rattle.pulsar_producer.proofs.Arcs.{BuildArc, SendArc, draws, naming_rests}
 
 -- of which call a plan is a part
 abbrev pub shares_of : Plan → Option Share

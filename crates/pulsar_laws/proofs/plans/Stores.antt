@@ -22,8 +22,8 @@ use Rattle.pulsar_producer_table.specs.Producers.{Producers, advice, batches_in,
 use Rattle.pulsar_acts.specs.Rules.{call_part}
 use Rattle.pulsar_laws.proofs.plans.Granted.{BeginsSo, does_from, in_each}
 use Rattle.pulsar_laws.proofs.calls.Made.{calls_are_made_lem}
-use Rattle.pulsar_laws.proofs.plans.Arcs.{Arc, BatchArc, Begun, StaysSo, batch_sends, batches_go, begins_storing, builds_on, by_begun, part_sends, sends as sends_on, stays_by}
-use Rattle.pulsar_laws.proofs.plans.ProducerArcs.{BuildArc, SendArc, draws, naming_rests}
+use Rattle.pulsar_plans.proofs.Arcs.{Arc, BatchArc, Begun, StaysSo, batch_sends, batches_go, begins_storing, builds_on, by_begun, part_sends, sends as sends_on, stays_by}
+use Rattle.pulsar_producer.proofs.Arcs.{BuildArc, SendArc, draws, naming_rests}
 use Rattle.pulsar_laws.proofs.plans.Consuming.{humble_call, is_humble}
 
 abbrev is_store : Action → Bool

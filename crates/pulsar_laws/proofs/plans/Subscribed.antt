@@ -29,7 +29,7 @@ use Rattle.pulsar_plans.specs.declared.service.Service.TheVariants as service
 use Rattle.pulsar_plans.specs.declared.states.Resubscribing.{Resubscribing}
 use Rattle.pulsar_plans.specs.Plan.{consumer_news_of, in_recalling, in_resting, in_resuming, in_reviving, in_subscribing, in_taking, makes_of, resting_hears, resubscribes, subscribes, told_service, wished}
 use Rattle.pulsar_laws.proofs.Cases.{cond_so}
-use Rattle.pulsar_laws.proofs.plans.Arcs.{Arc, Begun, BegunEnd, End, answers, batches_go, begins_asking, begins_none, begins_not, builds_on, by_arcs, by_begun, departs_asks, got_asks, part_sends, queued_waits, sends, stands_on}
+use Rattle.pulsar_plans.proofs.Arcs.{Arc, Begun, BegunEnd, End, answers, batches_go, begins_asking, begins_none, begins_not, builds_on, by_arcs, by_begun, departs_asks, got_asks, part_sends, queued_waits, sends, stands_on}
 use Rattle.pulsar_laws.proofs.plans.Servers.{is_server}
 
 -- THE LINK on which a plan subscribes, and that on which it has subscribed a consumer again

@@ -6,9 +6,9 @@ use Rattle.pulsar_laws.proofs.RunWords.{Entry, IsRun, notice, Options, Then}
 use Rattle.pulsar_laws.proofs.plans.Batched.{takes_where}
 use Rattle.pulsar_laws.proofs.producers.BatchRun.{batched_run, deed_at}
 use Rattle.pulsar_laws.proofs.plans.Granted.{does_from}
-use Rattle.pulsar_laws.proofs.plans.Arcs.{StaysSo, Arc, Begun, batch_cuts, batches_go, begins_build, begins_by, builds_on, part_sends, sends, stays_by}
+use Rattle.pulsar_plans.proofs.Arcs.{StaysSo, Arc, Begun, batch_cuts, batches_go, begins_build, begins_by, builds_on, part_sends, sends, stays_by}
 use Rattle.pulsar_laws.proofs.plans.Natures.{is_batching}
-use Rattle.pulsar_laws.proofs.plans.ProducerArcs.{BuildArc, SendArc, draws, naming_rests}
+use Rattle.pulsar_producer.proofs.Arcs.{BuildArc, SendArc, draws, naming_rests}
 use Rattle.pulsar_laws.proofs.plans.Unbatched.{calls_unbatched}
 use Rattle.pulsar_laws.proofs.plans.Consuming.{is_modest}
 use Rattle.pulsar_laws.proofs.plans.Servers.{server_does}

@@ -3,7 +3,7 @@ use Rattle.std.proofs.Common.{◌≡◌, ap, ℕ, List, ◌∷◌, refl, false, 
 use Rattle.pulsar_laws.proofs.ActWords.{Action, Call, Outcome, Procedure, Starts}
 use Rattle.pulsar_laws.proofs.PlanWords.{Plan}
 use Rattle.pulsar_laws.proofs.RunWords.{Entry, IsRun, Options, started, Then, view}
-use Rattle.pulsar_laws.proofs.plans.Arcs.{Arc, Begun, batch_cuts, batch_halts, batches_go, begins_batch, begun_arc, told_arc}
+use Rattle.pulsar_plans.proofs.Arcs.{Arc, Begun, batch_cuts, batch_halts, batches_go, begins_batch, begun_arc, told_arc}
 use Rattle.pulsar_laws.proofs.plans.Standing.{run_older, stands_so}
 use Rattle.pulsar_laws.proofs.calls.Same.{same_self}
 use Rattle.pulsar_laws.proofs.plans.Natures.{is_batching}

@@ -1,8 +1,8 @@
 -- The batches of a topic producer along a log.
 use Rattle.std.proofs.Common.{◌≡◌, ◌⊎◌, inl, inr, ◌∙◌, sym, ap, subst, ℕ, ◌+◌, List, [], ◌∷◌, ◌++◌, refl, length, map, Bool, true, false, cond, Option, Some, None, Ok}
 use Rattle.std.proofs.lemmas.Bool.{cases_Bool}
-use Rattle.pulsar_laws.proofs.plans.ProducerArcs.{SendArc, draws}
-use Rattle.pulsar_laws.proofs.plans.Arcs.{Arc, BatchArc, batch_cuts, batch_sends, batch_settles, batch_takes, batches_go, settled_takes, taken_settles, told_arc, StaysSo}
+use Rattle.pulsar_producer.proofs.Arcs.{SendArc, draws}
+use Rattle.pulsar_plans.proofs.Arcs.{Arc, BatchArc, batch_cuts, batch_sends, batch_settles, batch_takes, batches_go, settled_takes, taken_settles, told_arc, StaysSo}
 use Rattle.pulsar_laws.proofs.plans.Batchers.{batcher_stands, is_batcher}
 use Rattle.pulsar_laws.proofs.plans.Standing.{moves, run_older, stands_so}
 use Rattle.pulsar_laws.proofs.producers.Drawing.{every_run, Every, here}

@@ -20,7 +20,7 @@ use Rattle.pulsar_laws.proofs.plans.Batched.{BatchSo, IsSending, StepTo, batch_g
 use Rattle.pulsar_laws.proofs.producers.BatchRun.{Batched, PromptSo, StandsSo, batched_run, row_then, self_same, was_done}
 use Rattle.pulsar_laws.proofs.producers.Drawing.{here}
 use Rattle.pulsar_laws.proofs.plans.Follow.{same_is}
-use Rattle.pulsar_laws.proofs.plans.Arcs.{StaysSo}
+use Rattle.pulsar_plans.proofs.Arcs.{StaysSo}
 use Rattle.pulsar_laws.proofs.plans.Owned.{starts_own}
 
 -- how often it may be told so still

@@ -26,7 +26,7 @@ use Rattle.pulsar_laws.specs.ProducerLaws.{FramesAreOfTheirSends, drawn_by}
 use Rattle.pulsar_laws.proofs.plans.Framing.{AsksSo, KeptSo, MessageSo, NewsSo, PlanSo, Versioned, is_message, told_so}
 use Rattle.pulsar_laws.proofs.plans.Granted.{BeginsSo, GivenBy, IsGrantedBy, IsLedSo, does_from, granted_by, grants_given}
 use Rattle.pulsar_laws.proofs.producers.InTurn.{self_same, stand_told}
-use Rattle.pulsar_laws.proofs.plans.Arcs.{StaysSo}
+use Rattle.pulsar_plans.proofs.Arcs.{StaysSo}
 use Rattle.pulsar_laws.proofs.producers.TurnActs.{changed_at}
 use Rattle.pulsar_laws.proofs.producers.TurnRun.{queued_in_turn_lem}
 use Rattle.pulsar_run.specs.Things.{row_by}

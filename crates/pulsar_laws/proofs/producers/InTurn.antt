@@ -21,7 +21,7 @@ use Rattle.pulsar_laws.proofs.producers.Drawing.{Every, began_on, here}
 use Rattle.pulsar_laws.proofs.plans.Granted.{BeginsSo, IsLedSo, does_from}
 use Rattle.pulsar_laws.proofs.plans.Holding.{GoesSo, begins_holds, holds, holds_in, told_holds}
 use Rattle.pulsar_laws.proofs.plans.Holding as holding
-use Rattle.pulsar_laws.proofs.plans.Arcs.{StaysSo}
+use Rattle.pulsar_plans.proofs.Arcs.{StaysSo}
 use Rattle.pulsar_laws.proofs.plans.Natures.{is_leaving}
 use Rattle.pulsar_laws.proofs.calls.Once.{ends_once_lem}
 use Rattle.pulsar_laws.proofs.plans.Owned.{starts_own}

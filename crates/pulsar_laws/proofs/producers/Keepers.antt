@@ -19,7 +19,7 @@ use Rattle.pulsar_calls.specs.declared.act.Outcome.TheVariants as outcome
 use Rattle.pulsar_producer_table.specs.declared.table.Topic.{Topic}
 use Rattle.pulsar_laws.proofs.Lists.{in_append, in_each}
 use Rattle.pulsar_laws.proofs.plans.Standing.{stood_begun}
-use Rattle.pulsar_laws.proofs.plans.Arcs.{Arc, BatchArc, Begun, batch_sends, batches_go, begins_batch, by_arcs, by_begun, taken_starts}
+use Rattle.pulsar_plans.proofs.Arcs.{Arc, BatchArc, Begun, batch_sends, batches_go, begins_batch, by_arcs, by_begun, taken_starts}
 use Rattle.pulsar_laws.proofs.Cases.{cond_so, none_some}
 use Rattle.pulsar_laws.specs.ProducerLaws.{acts_on, topic_acts}
 use Rattle.pulsar_producer_table.specs.Producers.{next_batch_at}

@@ -13,8 +13,8 @@ use Rattle.pulsar_calls.specs.declared.act.Makes.TheVariants.{Producer}
 use Rattle.pulsar_calls.specs.declared.act.Outcome.TheVariants as outcome
 use Rattle.pulsar_plans.specs.Plan.{makes_of}
 use Rattle.pulsar_messages.specs.Words as words
-use Rattle.pulsar_laws.proofs.plans.Arcs.{Arc, Begun, BegunEnd, End, answers, begins_asking, begins_none, builds_on, by_arcs, by_begun, departs_asks, got_asks, produced, queued_waits, stands_on}
-use Rattle.pulsar_laws.proofs.plans.ProducerArcs.{BuildArc, BuildEnd, build_done, building_rests, builds_on_asks, builds_on_gets, builds_on_waits, built_numbers, none_named, numbered_makes}
+use Rattle.pulsar_plans.proofs.Arcs.{Arc, Begun, BegunEnd, End, answers, begins_asking, begins_none, builds_on, by_arcs, by_begun, departs_asks, got_asks, produced, queued_waits, stands_on}
+use Rattle.pulsar_producer.proofs.Arcs.{BuildArc, BuildEnd, build_done, building_rests, builds_on_asks, builds_on_gets, builds_on_waits, built_numbers, none_named, numbered_makes}
 
 -- WHAT A PLAN HAS DRAWN
 

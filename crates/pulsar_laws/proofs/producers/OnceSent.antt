@@ -7,8 +7,8 @@ use Rattle.pulsar_laws.proofs.RunWords.{Begins, begun_same, counted, Entry, Opti
 use Rattle.pulsar_producer.specs.declared.sending.Sending.TheVariants as send
 use Rattle.pulsar_calls.specs.declared.act.Outcome.TheVariants as outcome
 use Rattle.pulsar_plans.specs.declared.plan.Plan.TheVariants.{Sending}
-use Rattle.pulsar_laws.proofs.plans.Arcs.{Arc, by_arcs, part_sends, sends}
-use Rattle.pulsar_laws.proofs.plans.ProducerArcs.{SendArc, sent_rests}
+use Rattle.pulsar_plans.proofs.Arcs.{Arc, by_arcs, part_sends, sends}
+use Rattle.pulsar_producer.proofs.Arcs.{SendArc, sent_rests}
 use Rattle.pulsar_laws.specs.ProducerLaws.{SentOnce, asks_send, is_queued, queued_times}
 use Rattle.pulsar_laws.proofs.calls.Once.{ends_once_lem}
 

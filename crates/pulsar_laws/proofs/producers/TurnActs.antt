@@ -19,7 +19,7 @@ use Rattle.pulsar_laws.proofs.plans.Follow.{same_is}
 use Rattle.pulsar_laws.proofs.plans.Holding.{GoesSo, begins_holds, holds, is_past, is_turn_told, told_holds}
 use Rattle.pulsar_laws.proofs.plans.Holding as holding
 use Rattle.pulsar_laws.proofs.producers.InTurn.{AllTurns, IsAt, IsPending, IsTicket, Turns, leaving_gives, leaving_none, not_begun}
-use Rattle.pulsar_laws.proofs.plans.Arcs.{StaysSo}
+use Rattle.pulsar_plans.proofs.Arcs.{StaysSo}
 use Rattle.pulsar_laws.proofs.plans.Natures.{is_batching, is_leaving}
 use Rattle.pulsar_laws.proofs.producers.Topics.{row_as, topic_all}
 use Rattle.pulsar_laws.proofs.plans.Unbatched.{calls_unbatched}

@@ -21,12 +21,12 @@ use Rattle.pulsar_calls.specs.declared.act.Outcome.TheVariants as outcome
 use Rattle.pulsar_producer_table.specs.declared.table.Topic.{Topic}
 use Rattle.pulsar_laws.proofs.Lists.{in_each}
 use Rattle.pulsar_laws.proofs.Cases.{cond_so}
-use Rattle.pulsar_laws.proofs.plans.Arcs.{BatchArc, batch_sends, batch_settles, begun_arc, taken_settles, taken_starts, told_arc, Arc, Begun, batch_cuts, batches_go, begins_build, builds_on, part_sends, sends}
+use Rattle.pulsar_plans.proofs.Arcs.{BatchArc, batch_sends, batch_settles, begun_arc, taken_settles, taken_starts, told_arc, Arc, Begun, batch_cuts, batches_go, begins_build, builds_on, part_sends, sends}
 use Rattle.pulsar_laws.proofs.plans.Standing.{run_older, stands_so}
 use Rattle.pulsar_laws.specs.ProducerLaws.{acts_on, topic_acts}
 use Rattle.pulsar_producer_table.specs.Producers.{next_batch_at}
 use Rattle.pulsar_laws.proofs.plans.Granted.{GivenBy, IsGrantedBy, IsLedSo, does_from, granted_by, grants_given}
-use Rattle.pulsar_laws.proofs.plans.ProducerArcs.{BuildArc, SendArc, draws, naming_rests}
+use Rattle.pulsar_producer.proofs.Arcs.{BuildArc, SendArc, draws, naming_rests}
 use Rattle.pulsar_laws.proofs.producers.Topics.{topics_alone_lem, CameFrom, acts_each, each_since}
 use Rattle.pulsar_acts.specs.View.{topic_born}
 

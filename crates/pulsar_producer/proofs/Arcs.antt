@@ -1,8 +1,26 @@
 -- The arcs of the machines of producers: from which state they come to which, at what news, and what they do there. Each machine is walked
 -- once, here; what holds of its steps is read off its arcs.
 use Rattle.std.proofs.Common.{◌≡◌, subst, ℕ, List, [], ◌∷◌, ◌++◌, refl, Bool, true, false, cond, Option, Some, None, Result, Ok, Err}
-use Rattle.pulsar_laws.proofs.PlanWords.{Building as Build, Built, Command, Deed, Drawn, Errand, Heard, Looking, Making, Naming, News, Order, SearchTurn, Sending as Send, Served, Ways, Wish}
-use Rattle.pulsar_laws.proofs.LinkWords.{Failure, Fault, Named, OfConnection, Place, Words}
+use Rattle.pulsar_addresses.specs.Address.{Named, Place}
+use Rattle.pulsar_messages.specs.Words.{Words}
+use Rattle.pulsar_outgoing.specs.declared.content.Built.{Built}
+use Rattle.pulsar_outgoing.specs.declared.news.Drawn.{Drawn}
+use Rattle.pulsar_outgoing.specs.declared.orders.Errand.{Errand}
+use Rattle.pulsar_outgoing.specs.declared.orders.Order.{Order}
+use Rattle.pulsar_producer.specs.News.{News}
+use Rattle.pulsar_producer.specs.declared.building.Building.{Building as Build}
+use Rattle.pulsar_producer.specs.declared.deed.Deed.{Deed}
+use Rattle.pulsar_producer.specs.declared.sending.Sending.{Sending as Send}
+use Rattle.pulsar_searches.specs.declared.look.Looking.{Looking}
+use Rattle.pulsar_searches.specs.declared.making.Command.{Command}
+use Rattle.pulsar_searches.specs.declared.making.Making.{Making}
+use Rattle.pulsar_searches.specs.declared.making.Served.{Served}
+use Rattle.pulsar_searches.specs.declared.names.Naming.{Naming}
+use Rattle.pulsar_searches.specs.declared.turn.Action.{Action as Wish}
+use Rattle.pulsar_searches.specs.declared.turn.Outcome.{Outcome as Heard}
+use Rattle.pulsar_searches.specs.declared.turn.Turn.{Turn as SearchTurn}
+use Rattle.pulsar_searches.specs.declared.turn.Ways.{Ways}
+use Rattle.pulsar_wire.specs.Failures.{Failure, Fault, OfConnection}
 use Rattle.pulsar_messages.specs.Content.{ProducerMessageValues}
 use Rattle.pulsar_frame.specs.Reply.{Reply}
 use Rattle.pulsar_searches.specs.Plans as search

@@ -2,9 +2,43 @@
 -- of a step is read off its arcs, by clauses for those that matter and one for all others.
 use Rattle.std.proofs.Common.{◌≡◌, ◌⊎◌, inl, inr, subst, ℕ, ◌-◌, List, [], ◌∷◌, refl, map, Bool, true, false, cond, Option, Some, None, Result, Ok, Err, ◌==◌}
 use Rattle.std.specs.Prelude.{◌&&◌, not}
-use Rattle.pulsar_laws.proofs.ActWords.{Action, Ask, Checks, FailConsumer, Find, FindConsumer, Flush, Flushes, Get, Link, Nothing, Number, OfTopic, Outcome, PassTurn, Procedure, RecallConsumer, Refusal, Rest, Revive, Said, Share, Shut, StopAll, Store, TakeFlow, TakeNumber, TakeTurn, TellAll, Verdict, Wait}
-use Rattle.pulsar_laws.proofs.PlanWords.{action_of, Asking, Awaiting, Batches, batches_on, Batching, begins, Building as Build, Built, Command, Deed, Errand, Fate, Gives, is_answer, Leaving, Member, Naming, News, news_in, news_of, Order, overrides, Plan, Producing, Reporting, SearchTurn, Sending as Send, Serving, Sought, Stays, Stored, Storing, Subscribing, told, told_to, Turn, verdict, Visiting, Ways, Wish}
-use Rattle.pulsar_laws.proofs.LinkWords.{Failure, Named, Place, Reply, Words}
+use Rattle.pulsar_addresses.specs.Address.{Named, Place}
+use Rattle.pulsar_calls.specs.Content.{Said}
+use Rattle.pulsar_calls.specs.declared.act.Action.{Action}
+use Rattle.pulsar_calls.specs.declared.act.Action.TheVariants.{Ask, FailConsumer, FindConsumer, Get, Number, OfTopic, RecallConsumer, Rest, Revive, Shut, StopAll, TakeFlow, TakeNumber, TellAll, Wait}
+use Rattle.pulsar_calls.specs.declared.act.Makes.TheVariants.{Nothing}
+use Rattle.pulsar_calls.specs.declared.act.Outcome.{Outcome}
+use Rattle.pulsar_calls.specs.declared.act.Place.TheVariants.{Link}
+use Rattle.pulsar_calls.specs.declared.act.Procedure.{Procedure}
+use Rattle.pulsar_calls.specs.declared.act.Refusal.{Refusal}
+use Rattle.pulsar_calls.specs.declared.act.Round.TheVariants.{Checks, Flushes}
+use Rattle.pulsar_calls.specs.declared.act.Share.{Share}
+use Rattle.pulsar_calls.specs.declared.act.TopicAsk.TheVariants.{Find, Flush, PassTurn, Store, TakeTurn}
+use Rattle.pulsar_calls.specs.declared.act.Verdict.{Verdict}
+use Rattle.pulsar_exchange.specs.Messages.{Reply}
+use Rattle.pulsar_messages.specs.Words.{Words}
+use Rattle.pulsar_outgoing.specs.declared.batch.Fate.{Fate}
+use Rattle.pulsar_outgoing.specs.declared.batch.Member.{Member}
+use Rattle.pulsar_outgoing.specs.declared.content.Built.{Built}
+use Rattle.pulsar_outgoing.specs.declared.orders.Errand.{Errand}
+use Rattle.pulsar_outgoing.specs.declared.orders.Order.{Order}
+use Rattle.pulsar_plans.specs.Plan.{action_of, batches_on, begins, is_answer, news_in, news_of, overrides, told, told_to, verdict}
+use Rattle.pulsar_plans.specs.declared.plan.Plan.{Plan}
+use Rattle.pulsar_plans.specs.declared.plan.Plan.TheVariants.{Asking, Awaiting, Batching, Leaving, Producing, Reporting, Serving, Stored, Storing, Subscribing, Visiting}
+use Rattle.pulsar_plans.specs.declared.plan.Turn.{Turn}
+use Rattle.pulsar_plans.specs.declared.plan.Turn.TheVariants.{Gives, Stays}
+use Rattle.pulsar_producer.specs.News.{News}
+use Rattle.pulsar_producer.specs.declared.batching.Batching.{Batching as Batches}
+use Rattle.pulsar_producer.specs.declared.building.Building.{Building as Build}
+use Rattle.pulsar_producer.specs.declared.deed.Deed.{Deed}
+use Rattle.pulsar_producer.specs.declared.sending.Sending.{Sending as Send}
+use Rattle.pulsar_searches.specs.declared.making.Command.{Command}
+use Rattle.pulsar_searches.specs.declared.names.Naming.{Naming}
+use Rattle.pulsar_searches.specs.declared.plan.Procedure.{Procedure as Sought}
+use Rattle.pulsar_searches.specs.declared.turn.Action.{Action as Wish}
+use Rattle.pulsar_searches.specs.declared.turn.Turn.{Turn as SearchTurn}
+use Rattle.pulsar_searches.specs.declared.turn.Ways.{Ways}
+use Rattle.pulsar_wire.specs.Failures.{Failure}
 use Rattle.pulsar_frame.specs.Batch.{EntryValues}
 use Rattle.pulsar_messages.specs.Content.{ProducerMessageValues}
 use Rattle.pulsar_messages.specs.Words as words
@@ -53,7 +87,7 @@ use Rattle.pulsar_plans.specs.declared.service.Service.{Service}
 use Rattle.pulsar_plans.specs.declared.service.Service.TheVariants as service
 use Rattle.pulsar_plans.specs.declared.states.Resubscribing.{Resubscribing}
 use Rattle.pulsar_plans.specs.Plan.{asks_of, builds, consumer_news_of, goes, goes_on_sending, goes_round, halted, in_subscribing, is_settled, parted, resubscribes, resubscribing, subscribes, tells, told_at, told_service, wanted, wished, built_of, consumer_of, replied}
-use Rattle.pulsar_laws.proofs.plans.ProducerArcs.{BuildArc, BuildEnd, BuildTo, SendArc, StepSo, build_arcs, send_arcs}
+use Rattle.pulsar_producer.proofs.Arcs.{BuildArc, BuildEnd, BuildTo, SendArc, StepSo, build_arcs, send_arcs}
 use Rattle.pulsar_calls.specs.Content.{Done}
 use Rattle.pulsar_calls.specs.declared.act.Makes.TheVariants.{Client}
 use Rattle.pulsar_consumer.specs.declared.building.Built.{Built as ConsumerBuilt}

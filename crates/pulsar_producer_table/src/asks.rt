@@ -34,8 +34,10 @@ impl Producers {
         ask: TopicAsk,
     ) -> Result<Given, NoMemory>
         ensures says { IfOk result (λ g. g.says ≡ (asked_in (producers_of self.old) number turn room ask).says) }
-        ensures serves { IfOk result (λ g. option_to_list g.serves ≡ (asked_in (producers_of self.old) number turn room ask).serves) }
-        ensures after { OnOk result (producers_of self.new ≡ done_to number (asked_in (producers_of self.old) number turn room ask).acts (producers_of self.old)) }
+        ensures serves { IfOk result (λ g. option_to_list g.serves
+            ≡ (asked_in (producers_of self.old) number turn room ask).serves) }
+        ensures after { OnOk result (producers_of self.new
+            ≡ done_to number (asked_in (producers_of self.old) number turn room ask).acts (producers_of self.old)) }
     {
         match ask {
             TopicAsk::TakeTurn => self.gives_turn(number, turn),
@@ -60,7 +62,8 @@ impl Producers {
     fn gives_turn(&mut self, number: u64, turn: u64) -> Result<Given, NoMemory>
         ensures says { IfOk result (λ g. g.says ≡ (asked_in (producers_of self.old) number turn None TopicAsk.TakeTurn).says) }
         ensures serves { IfOk result (λ g. g.serves ≡ None) }
-        ensures after { OnOk result (producers_of self.new ≡ done_to number (asked_in (producers_of self.old) number turn None TopicAsk.TakeTurn).acts (producers_of self.old)) }
+        ensures after { OnOk result (producers_of self.new
+            ≡ done_to number (asked_in (producers_of self.old) number turn None TopicAsk.TakeTurn).acts (producers_of self.old)) }
     {
         if !self.is_used(number) {
             return Ok(lost());
@@ -74,8 +77,10 @@ impl Producers {
     /// The turn is over: the next one who waits for it has it.
     fn passes_on(&mut self, number: u64) -> Result<Given, NoMemory>
         ensures says { IfOk result (λ g. g.says ≡ (asked_in (producers_of self.old) number 0 None TopicAsk.PassTurn).says) }
-        ensures serves { IfOk result (λ g. option_to_list g.serves ≡ (asked_in (producers_of self.old) number 0 None TopicAsk.PassTurn).serves) }
-        ensures after { OnOk result (producers_of self.new ≡ done_to number (asked_in (producers_of self.old) number 0 None TopicAsk.PassTurn).acts (producers_of self.old)) }
+        ensures serves { IfOk result (λ g. option_to_list g.serves
+            ≡ (asked_in (producers_of self.old) number 0 None TopicAsk.PassTurn).serves) }
+        ensures after { OnOk result (producers_of self.new
+            ≡ done_to number (asked_in (producers_of self.old) number 0 None TopicAsk.PassTurn).acts (producers_of self.old)) }
     {
         let next = self.pass_turn(number)?;
         let serves = next_notice(self.alloc, number, next)?;
@@ -86,7 +91,8 @@ impl Producers {
     fn draws(&mut self, number: u64, room: Option<bool>) -> Result<Given, NoMemory>
         ensures says { IfOk result (λ g. g.says ≡ (asked_in (producers_of self.old) number 0 room TopicAsk.Draw).says) }
         ensures serves { IfOk result (λ g. g.serves ≡ None) }
-        ensures after { OnOk result (producers_of self.new ≡ done_to number (asked_in (producers_of self.old) number 0 room TopicAsk.Draw).acts (producers_of self.old)) }
+        ensures after { OnOk result (producers_of self.new
+            ≡ done_to number (asked_in (producers_of self.old) number 0 room TopicAsk.Draw).acts (producers_of self.old)) }
     {
         let Some(room) = room else {
             return refused(self.alloc, ConnectionError::Disconnected);
@@ -112,8 +118,10 @@ impl Producers {
     /// A message is stored.
     fn stores(&mut self, number: u64, turn: u64, entry: Entry) -> Result<Given, NoMemory>
         ensures says { IfOk result (λ g. g.says ≡ (asked_in (producers_of self.old) number turn None (TopicAsk.Store entry)).says) }
-        ensures serves { IfOk result (λ g. option_to_list g.serves ≡ (asked_in (producers_of self.old) number turn None (TopicAsk.Store entry)).serves) }
-        ensures after { OnOk result (producers_of self.new ≡ done_to number (asked_in (producers_of self.old) number turn None (TopicAsk.Store entry)).acts (producers_of self.old)) }
+        ensures serves { IfOk result (λ g. option_to_list g.serves
+            ≡ (asked_in (producers_of self.old) number turn None (TopicAsk.Store entry)).serves) }
+        ensures after { OnOk result (producers_of self.new
+            ≡ done_to number (asked_in (producers_of self.old) number turn None (TopicAsk.Store entry)).acts (producers_of self.old)) }
     {
         let is_ready = self.store(number, turn, entry)?;
         let serves = ready_some(self.alloc, number, is_ready)?;
@@ -123,8 +131,10 @@ impl Producers {
     /// All that it has taken is to be settled. That is so at once where nothing waits for it.
     fn flushes(&mut self, number: u64, turn: u64) -> Result<Given, NoMemory>
         ensures says { IfOk result (λ g. g.says ≡ (asked_in (producers_of self.old) number turn None TopicAsk.Flush).says) }
-        ensures serves { IfOk result (λ g. option_to_list g.serves ≡ (asked_in (producers_of self.old) number turn None TopicAsk.Flush).serves) }
-        ensures after { OnOk result (producers_of self.new ≡ done_to number (asked_in (producers_of self.old) number turn None TopicAsk.Flush).acts (producers_of self.old)) }
+        ensures serves { IfOk result (λ g. option_to_list g.serves
+            ≡ (asked_in (producers_of self.old) number turn None TopicAsk.Flush).serves) }
+        ensures after { OnOk result (producers_of self.new
+            ≡ done_to number (asked_in (producers_of self.old) number turn None TopicAsk.Flush).acts (producers_of self.old)) }
     {
         let is_settled = self.is_settled(number);
         let is_ready = self.flush(number, turn)?;

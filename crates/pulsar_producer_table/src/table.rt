@@ -181,7 +181,7 @@ impl Producers {
     }
 
     /// One wants its turn at a topic producer. It has it at once where nobody has it: then this is the version of the schema.
-    pub fn take_turn(
+    pub(crate) fn take_turn(
         &mut self,
         number: u64,
         ticket: u64,
@@ -199,7 +199,10 @@ impl Producers {
     }
 
     /// The turn at a topic producer is over: the ticket of the one who has it now, and the version of the schema.
-    pub fn pass_turn(&mut self, number: u64) -> Result<Option<(u64, Option<Version>)>, NoMemory>
+    pub(crate) fn pass_turn(
+        &mut self,
+        number: u64,
+    ) -> Result<Option<(u64, Option<Version>)>, NoMemory>
         ensures next { IfOk result (λ r. r ≡ meaning.turn_passed ((producers_of self.old).topics number)) }
         ensures after { OnOk result (producers_of self.new ≡ meaning.changed number topic.Passes (producers_of self.old)) }
     {
@@ -213,7 +216,7 @@ impl Producers {
     }
 
     /// The number of a message is drawn, for a link with room or without. There is none where the numbers are spent.
-    pub fn draw(&mut self, number: u64, room: bool) -> Result<Option<Drawn>, NoMemory>
+    pub(crate) fn draw(&mut self, number: u64, room: bool) -> Result<Option<Drawn>, NoMemory>
         ensures drawn { IfOk result (λ d. d ≡ meaning.drawn room ((producers_of self.old).topics number)) }
         ensures after { OnOk result (producers_of self.new ≡ meaning.changed number topic.Draws (producers_of self.old)) }
     {
@@ -232,7 +235,7 @@ impl Producers {
     }
 
     /// The command by which a topic producer is made again.
-    pub fn recall(&self, number: u64) -> Result<Option<Command>, NoMemory>
+    pub(crate) fn recall(&self, number: u64) -> Result<Option<Command>, NoMemory>
         ensures { IfOk result (λ c. c ≡ meaning.recalled (producers_of self.now) number) }
     {
         let Some(topic) = self.topics.get(&number) else {
@@ -245,7 +248,7 @@ impl Producers {
     }
 
     /// A topic producer was made again.
-    pub fn remake(&mut self, number: u64, remaking: Remaking)
+    pub(crate) fn remake(&mut self, number: u64, remaking: Remaking)
         ensures { producers_of self.new ≡ meaning.changed number (topic.Remakes remaking.link remaking.given) (producers_of self.old) }
     {
         let Remaking { link, given } = remaking;
@@ -413,7 +416,7 @@ impl Producers {
     }
 
     /// All that a topic producer has taken is settled.
-    pub fn is_settled(&self, number: u64) -> bool
+    pub(crate) fn is_settled(&self, number: u64) -> bool
         ensures { result ≡ meaning.is_settled_at ((producers_of self.now).topics number) }
     {
         match self.topics.get(&number) {
@@ -423,7 +426,7 @@ impl Producers {
     }
 
     /// A topic producer stores a message. It has a batch to send, and none was under way.
-    pub fn store(&mut self, number: u64, turn: u64, entry: Entry) -> Result<bool, NoMemory>
+    pub(crate) fn store(&mut self, number: u64, turn: u64, entry: Entry) -> Result<bool, NoMemory>
         ensures woken { IfOk result (λ w. w ≡ meaning.is_woken (topic.Stores turn entry) ((producers_of self.old).topics number)) }
         ensures after { OnOk result (producers_of self.new ≡ meaning.changed number (topic.Stores turn entry) (producers_of self.old)) }
     {
@@ -437,7 +440,7 @@ impl Producers {
     }
 
     /// All that a topic producer has taken is to be settled. It has a batch to send, and none was under way.
-    pub fn flush(&mut self, number: u64, turn: u64) -> Result<bool, NoMemory>
+    pub(crate) fn flush(&mut self, number: u64, turn: u64) -> Result<bool, NoMemory>
         ensures woken { IfOk result (λ w. w ≡ meaning.is_woken (topic.Flushes turn) ((producers_of self.old).topics number)) }
         ensures after { OnOk result (producers_of self.new ≡ meaning.changed number (topic.Flushes turn) (producers_of self.old)) }
     {
@@ -459,7 +462,7 @@ impl Producers {
     }
 
     /// The batch that a topic producer sends next.
-    pub fn take_batch(&mut self, number: u64) -> Option<Batch>
+    pub(crate) fn take_batch(&mut self, number: u64) -> Option<Batch>
         ensures batch { result ≡ meaning.next_batch_at ((producers_of self.old).topics number) }
         ensures after { producers_of self.new ≡ meaning.changed number topic.TakesBatch (producers_of self.old) }
     {

@@ -39,7 +39,8 @@ impl Tables {
         let fills = fills(&ask);
         let was_bare = self.producers.is_bare(number);
         let room = self.room_for(number);
-        let Given { says, serves } = self.producers.ask(number, turn_of(who), room, ask)?;
+        let given = self.producers.ask(number, turn_of(who), room, ask)?;
+        let Given { says, serves } = given;
         self.waits_if(fills, number, was_bare)?;
         join_some(serves, tasks)?;
         tell_some(who, says, tasks)

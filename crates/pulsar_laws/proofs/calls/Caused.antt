@@ -186,7 +186,8 @@ module _ (o : Options) (who : Who) (u : Outcome) (older : List Entry) where
       named (Then (Does w (OfTopic n Draw))) (outcome.Refused Disconnected) k.1 (inr (OfTopic n Draw, did w (OfTopic n Draw) k.0, e))
   draws_caused w n (Some room) e h = by (drawn room (v.producers.topics n)) refl h
     where
-      by : (d : Option Drawn) → drawn room (v.producers.topics n) ≡ d → In (Told it) (tells w (draw_said d)) → Cause o who u (Then (Does w (OfTopic n Draw))) older
+      by : (d : Option Drawn) → drawn room (v.producers.topics n) ≡ d → In (Told it) (tells w (draw_said d)) →
+          Cause o who u (Then (Does w (OfTopic n Draw))) older
       by None f i =
           let k = told_is w (outcome.Refused Exhausted) i in
           named (Then (Does w (OfTopic n Draw))) (outcome.Refused Exhausted) k.1 (inr (OfTopic n Draw, did w (OfTopic n Draw) k.0, (room, e, f)))
@@ -197,7 +198,8 @@ module _ (o : Options) (who : Who) (u : Outcome) (older : List Entry) where
   recalls_caused : (w : Who) (n : ℕ) (row : Option Command) → recalled v.producers n ≡ row → In (Told it) (says_to w (recall_said row)) →
       Cause o who u (Then (Does w (OfTopic n Recall))) older
   recalls_caused w n None e h =
-      let k = told_is w outcome.Disconnected h in named (Then (Does w (OfTopic n Recall))) outcome.Disconnected k.1 (inr (inr (OfTopic n Recall, did w (OfTopic n Recall) k.0, e)))
+      let k = told_is w outcome.Disconnected h in
+      named (Then (Does w (OfTopic n Recall))) outcome.Disconnected k.1 (inr (inr (OfTopic n Recall, did w (OfTopic n Recall) k.0, e)))
   recalls_caused w n (Some c) e h =
       let k = told_is w (outcome.Granted (news.Recalled c)) h in
       named (Then (Does w (OfTopic n Recall))) (outcome.Granted (news.Recalled c)) k.1 (inl (OfTopic n Recall, did w (OfTopic n Recall) k.0, e))
@@ -213,7 +215,8 @@ module _ (o : Options) (who : Who) (u : Outcome) (older : List Entry) where
   finds_caused : (w : Who) (n : ℕ) (row : Option Topic) → v.producers.topics n ≡ row → In (Told it) (says_to w (link_said (link_at row))) →
       Cause o who u (Then (Does w (OfTopic n Find))) older
   finds_caused w n None e h =
-      let k = told_is w outcome.Disconnected h in named (Then (Does w (OfTopic n Find))) outcome.Disconnected k.1 (inr (inr (OfTopic n Find, did w (OfTopic n Find) k.0, e)))
+      let k = told_is w outcome.Disconnected h in
+      named (Then (Does w (OfTopic n Find))) outcome.Disconnected k.1 (inr (inr (OfTopic n Find, did w (OfTopic n Find) k.0, e)))
   finds_caused w n (Some t) e h =
       let k = told_is w (outcome.GotLink t.seen.link) h in
       named (Then (Does w (OfTopic n Find))) (outcome.GotLink t.seen.link) k.1 (inr (inr (OfTopic n Find, did w (OfTopic n Find) k.0, ap link_at e)))

@@ -396,8 +396,10 @@ turn_other t (Producer n) unspent other e = let f : false ≡ true = sym unspent
 mute_does : (t : ℕ) → is_spent t ≡ false → (a : Act) → MuteBy t a → DoesSo (Other t) (Other t) a
 mute_does t unspent (Does who (OfTopic n TakeTurn)) mute =
     turn_other t who unspent (other_does t who (OfTopic n TakeTurn) mute (λ e. (let no : OfTopic n TakeTurn ≡ Rest = e in cc)))
-mute_does t unspent (Does who (OfTopic n (Store x))) mute = turn_other t who unspent (other_does t who (OfTopic n (Store x)) mute (λ e. (let no : OfTopic n (Store x) ≡ Rest = e in cc)))
-mute_does t unspent (Does who (OfTopic n Flush)) mute = turn_other t who unspent (other_does t who (OfTopic n Flush) mute (λ e. (let no : OfTopic n Flush ≡ Rest = e in cc)))
+mute_does t unspent (Does who (OfTopic n (Store x))) mute =
+    turn_other t who unspent (other_does t who (OfTopic n (Store x)) mute (λ e. (let no : OfTopic n (Store x) ≡ Rest = e in cc)))
+mute_does t unspent (Does who (OfTopic n Flush)) mute =
+    turn_other t who unspent (other_does t who (OfTopic n Flush) mute (λ e. (let no : OfTopic n Flush ≡ Rest = e in cc)))
 mute_does t unspent _ mute = tt
 
 -- and one that is idle takes no turn

@@ -93,7 +93,8 @@ new_row : (owner f : ℕ) (limits : Limits) (n : ℕ) (bs : List Built) (t : Top
 new_row owner f limits n [] t h = absurd cc
 new_row owner f limits n (b ∷ bs) t h = by (topic_in owner f limits bs n) refl (λ e. new_row owner f limits n bs t e) h
   where
-    by : (r : Option Topic) → topic_in owner f limits bs n ≡ r → (topic_in owner f limits bs n ≡ Some t → IsNew owner f limits n bs t) → last_of r (cond (n == b.number) (Some (fresh_topic owner f limits b)) None) ≡ Some t →
+    by : (r : Option Topic) → topic_in owner f limits bs n ≡ r → (topic_in owner f limits bs n ≡ Some t → IsNew owner f limits n bs t) →
+        last_of r (cond (n == b.number) (Some (fresh_topic owner f limits b)) None) ≡ Some t →
         IsNew owner f limits n (b ∷ bs) t
     by (Some u) e rest k =
         let i = rest (e ∙ k) in record { built = i.built; listed = inr i.listed; number = i.number; is_it = i.is_it }

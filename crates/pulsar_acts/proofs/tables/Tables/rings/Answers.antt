@@ -50,7 +50,11 @@ pub returns-in-Batch-clause-sees : goal.returns-in-Batch-clause-sees
 returns-in-Batch-clause-sees c =
     let v = view_of c.args.self.now in
     let h : rings v.now (Batch c.in-Batch.number) v.alarms ≡ true = ap (λ a. rings v.now a v.alarms) (sym c.in-Batch.is) ∙ sym c.rings.ensures ∙ c.if-not-rings.false in
-    rw c.in-Batch.is (on_ok_weaker c.cuts.result (λ sees. sees ∙ (λ i. record (rung_view (Batch c.in-Batch.number) v) { producers = changed_is c.in-Batch.number Cuts v.producers i }) ∙ ring_sees v (Batch c.in-Batch.number) h) c.cuts.ensures.sees)
+    let n = c.in-Batch.number in
+    rw c.in-Batch.is
+    (on_ok_weaker c.cuts.result
+    (λ sees. sees ∙ (λ i. record (rung_view (Batch n) v) { producers = changed_is n Cuts v.producers i }) ∙ ring_sees v (Batch n) h)
+    c.cuts.ensures.sees)
 
 pub returns-in-KeepAlive-clause-left : goal.returns-in-KeepAlive-clause-left
 returns-in-KeepAlive-clause-left c =

@@ -18,9 +18,13 @@ returns-clause-left c =
     let v = view_of c.args.self.now in
     let g = agenda_of c.args.tasks.now in
     let who = c.args.who in
-    let given = λ i. asked_in v.producers c.args.number (c.turn_of.ensures i) (c.room_for-room.ensures i) c.args.ask in
-    let says = c.in_ok-given.ensures.says ∙ (λ i. (given i).says) in
-    let serves = c.in_ok-given.ensures.serves ∙ (λ i. (given i).serves) in
+    let n = c.args.number in
+    let says =
+    c.in_ok-given.ensures.says ∙ (λ i. (asked_in v.producers n (c.turn_of.ensures i) (c.room_for-room.ensures i) c.args.ask).says)
+    in
+    let serves =
+    c.in_ok-given.ensures.serves ∙ (λ i. (asked_in v.producers n (c.turn_of.ensures i) (c.room_for-room.ensures i) c.args.ask).serves)
+    in
     on_ok_weaker c.tell_some.result
     (λ told. told
     ∙ ap (λ (x : Agenda). record x { now = says_to who c.in_ok-given.given.says ++ x.now }) c.in_ok-join_some.ensures

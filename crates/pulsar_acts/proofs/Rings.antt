@@ -68,7 +68,7 @@ never_rung CheckIdle l row = refl
 never_cut : (a : Alarm) (ps : Producers) → record ps { topics = λ n. row_by topic_after (topic_rung false a n) (ps.topics n) } ≡ ps
 never_cut (Retry k) ps = refl
 never_cut (Wake who) ps = refl
-never_cut (Batch m) ps i = record ps { topics = λ n. sym (row_same (n == m) (ps.topics n)) i }
+never_cut (Batch m) ps = λ i. record ps { topics = λ n. sym (row_same (n == m) (ps.topics n)) i }
 never_cut (KeepAlive k) ps = refl
 never_cut CheckIdle ps = refl
 

@@ -218,7 +218,7 @@ closes ps t = if is_some (ps.built t) then procedure.Close t (numbers_at (ps.bui
 -- a raw call leaves the numbers of the client's producers and consumers alone
 abbrev pub is_taken : Producers → Option ℕ → Bool
 is_taken ps None = false
-is_taken ps (Some number) = is_some (ps.topics number)
+is_taken ps (Some number) = is_used ps number
 
 abbrev pub taken_by : (by_producer by_consumer : Bool) → Option Refusal
 taken_by true by_consumer = Some refusal.NumberInUse
@@ -316,6 +316,7 @@ performs v who StopAll = stops who v.links
 performs v who (Wait delay) = []
 performs v who (OfTopic n ask) = says_to who (asked_of v who n ask).says
 performs v who Number = tells who (number_said (number_drawn v.producers))
+performs v who (Hold l n) = grants who news.Done
 performs v who (Shut t) = grants who news.Done
 performs v who (TakeNumber wanted) = tells who (numbering_said (consumer.numbering v.consumers wanted))
 performs v who (FindConsumer t) = sought_said who (consumer.sought (v.consumers.rows t))

@@ -502,7 +502,8 @@ abbrev pub others_after : View → Act → Producers
 others_after v (Comes (Calls asked advice)) =
     if lacks_tickets v.calls.drawn (shares asked) then v.producers else called_on (may_call v.calls) asked v.producers
 others_after v (Does who Number) = numbered v.producers
-others_after v (Answers who verdict) = producers_made v.chosen who verdict.makes v.producers
+others_after v (Does who (Hold l n)) = holding (rank who).1 l n v.producers
+others_after v (Answers who verdict) = freed (rank who).1 (producers_made v.chosen who verdict.makes v.producers)
 others_after v _ = v.producers
 
 abbrev pub producers_after : View → Act → Producers

@@ -296,6 +296,8 @@ pub enum Action {
     OfTopic { number: u64, ask: TopicAsk },
     /// Draw the number of a new topic producer.
     Number,
+    /// A topic producer of this number was made on the link for the call whose plan it is, which still makes others.
+    Hold { link: u64, number: u64 },
     /// The producer of this ticket takes no sends from now on.
     Shut(u64),
     /// Take this number for a new consumer, or draw one.

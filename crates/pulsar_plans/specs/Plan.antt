@@ -12,7 +12,7 @@ use Rattle.pulsar_exchange.specs.Messages.{Reply, Written, is_body}
 use Rattle.pulsar_exchange.specs.Refusals.{refused}
 use Rattle.pulsar_exchange.specs.Request.{Subscribed, answer_of, is_answered, request_number, subscribed}
 use Rattle.pulsar_calls.specs.declared.act.Action.{Action}
-use Rattle.pulsar_calls.specs.declared.act.Action.TheVariants.{OfTopic, Get, Ask, Wait, Number, Shut, TakeNumber, FindConsumer, TakeFlow, RecallConsumer, Revive, FailConsumer, Tell, TellAll, StopAll, Rest}
+use Rattle.pulsar_calls.specs.declared.act.Action.TheVariants.{OfTopic, Get, Ask, Wait, Number, Hold, Shut, TakeNumber, FindConsumer, TakeFlow, RecallConsumer, Revive, FailConsumer, Tell, TellAll, StopAll, Rest}
 use Rattle.pulsar_calls.specs.declared.act.TopicAsk.TheVariants.{TakeTurn, PassTurn, Draw, Recall, Remake, Find, Store, Flush, TakeBatch}
 use Rattle.pulsar_calls.specs.declared.act.Makes.{Makes}
 use Rattle.pulsar_calls.specs.declared.act.Makes.TheVariants.{Nothing, Client, Consumer, RawConsumer, Producer}
@@ -255,6 +255,7 @@ action_of (deed.PassesTurn n) = OfTopic n PassTurn
 action_of (deed.Recalls n) = OfTopic n Recall
 action_of (deed.Remakes n link given) = OfTopic n (Remake (record { link = link; given = given }))
 action_of deed.Numbers = Number
+action_of (deed.Holds link n) = Hold link n
 action_of (deed.ClosesProducer link n) = Ask link (words.CloseProducer n)
 action_of (deed.TakesBatch n) = OfTopic n TakeBatch
 action_of (deed.Settles reports) = TellAll (map told_to reports)

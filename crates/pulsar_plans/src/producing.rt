@@ -149,6 +149,7 @@ pub fn action_of(alloc: Global, deed: Deed) -> Result<Action, NoMemory>
             Ok(of_topic(number, TopicAsk::Remake(remade)))
         }
         Deed::Numbers => Ok(Action::Number),
+        Deed::Holds { link, number } => Ok(Action::Hold { link, number }),
         Deed::ClosesProducer { link, number } => Ok(Action::Ask {
             link,
             request: closes(alloc, number)?,

@@ -33,18 +33,19 @@ use Rattle.pulsar_calls.specs.Content.{Asked, sent_by}
 use Rattle.pulsar_calls.specs.Who.{in_turn}
 
 -- The producers, by the tickets of the calls that built them; their topic producers by number, and these numbers in the order in which they
--- were made; the numbers that raw calls have named, in order; and the number from which on the next one is drawn.
+-- were made; those that were made for calls that still make others; the numbers that raw calls have named, in order; and the number from which on the next one is drawn.
 pub record Producers : Type 0 where
   pub built : (ticket : ℕ) → Option producer.Seen
   pub topics : (number : ℕ) → Option Topic
   pub numbers : List ℕ
+  pub held : List Held
   pub named : List ℕ
   pub next : ℕ
 
 -- at first
 abbrev pub none : (first_number : ℕ) → Producers
 none first_number =
-    record { built = λ t. None; topics = λ n. None; numbers = []; named = []; next = first_number }
+    record { built = λ t. None; topics = λ n. None; numbers = []; held = []; named = []; next = first_number }
 
 -- TOPIC PRODUCERS
 
@@ -75,7 +76,18 @@ is_open_on l None = false
 is_open_on l (Some t) = not t.seen.is_closed && (t.seen.link == l)
 
 abbrev pub is_held : Producers → (link : ℕ) → Bool
-is_held ps l = list_any (λ n. is_open_on l (ps.topics n)) ps.numbers
+is_held ps l = list_any (λ n. is_open_on l (ps.topics n)) ps.numbers || list_any (λ h. h.link == l) ps.held
+
+-- a topic producer has this number, also where its producer is still made
+abbrev pub is_used : Producers → (number : ℕ) → Bool
+is_used ps n = is_some (ps.topics n) || list_any (λ h. h.number == n) ps.held
+
+-- one was made for a call that still makes others; once that call has ended it counts no more by itself
+abbrev pub holding : (owner link number : ℕ) → Producers → Producers
+holding owner link number ps = record ps { held = ps.held ++ record { owner = owner; link = link; number = number } ∷ [] }
+
+abbrev pub freed : (owner : ℕ) → Producers → Producers
+freed owner ps = record ps { held = filter (λ h. not (h.owner == owner)) ps.held }
 
 -- the version of its schema for one that has its turn at once
 abbrev pub turn_in : Topic → Option (Option (List ℕ))

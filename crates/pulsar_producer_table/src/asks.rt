@@ -65,7 +65,7 @@ impl Producers {
         ensures after { OnOk result (producers_of self.new
             ≡ done_to number (asked_in (producers_of self.old) number turn None TopicAsk.TakeTurn).acts (producers_of self.old)) }
     {
-        if !self.is_used(number) {
+        if !self.knows(number) {
             return Ok(lost());
         }
         match self.take_turn(number, turn)? {

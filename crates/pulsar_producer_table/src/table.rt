@@ -45,13 +45,23 @@ impl Drop for Topic {
     }
 }
 
+/// A topic producer that was made on this link for a call of this ticket, which still makes others.
+#[derive(Clone, Copy)]
+pub struct Held {
+    pub owner: u64,
+    pub link: u64,
+    pub number: u64,
+}
+
 /// The producers of a client, by the tickets of the calls that built them; their topic producers, by number, and the numbers in the order
-/// in which they were made; the numbers that raw calls have named; and the number from which on the next is drawn.
+/// in which they were made; those that were made for calls that still make others; the numbers that raw calls have named; and the number from
+/// which on the next is drawn.
 pub struct Producers {
     pub alloc: Global,
     pub built: BTreeMap<u64, Producer>,
     pub topics: BTreeMap<u64, Topic>,
     pub numbers: Vec<u64>,
+    pub held: Vec<Held>,
     pub named: BTreeSet<u64>,
     pub next: u64,
 }
@@ -63,6 +73,7 @@ impl Drop for Producers {
             built: _,
             topics: _,
             numbers: _,
+            held: _,
             named: _,
             next: _,
         } = self;
@@ -79,6 +90,7 @@ impl Producers {
             built: BTreeMap::new(alloc),
             topics: BTreeMap::new(alloc),
             numbers: Vec::new(alloc),
+            held: Vec::new(alloc),
             named: BTreeSet::new(alloc),
             next: first_number,
         }
@@ -114,11 +126,37 @@ impl Producers {
         }
     }
 
-    /// A producer of the client has this number.
-    pub fn is_used(&self, number: u64) -> bool
+    /// There is a topic producer of this number.
+    pub(crate) fn knows(&self, number: u64) -> bool
         ensures { result ≡ is_some ((producers_of self.now).topics number) }
     {
         self.topics.contains_key(&number)
+    }
+
+    /// A topic producer of the client has this number, also where its producer is still made.
+    pub fn is_used(&self, number: u64) -> bool
+        ensures { result ≡ meaning.is_used (producers_of self.now) number }
+    {
+        self.knows(number) || self.held.iter().any(|held| held.number == number)
+    }
+
+    /// A topic producer was made for a call, which still makes others.
+    pub fn hold(&mut self, owner: u64, link: u64, number: u64) -> Result<(), NoMemory>
+        ensures { OnOk result (producers_of self.new ≡ meaning.holding owner link number (producers_of self.old)) }
+    {
+        self.held.push(Held {
+            owner,
+            link,
+            number,
+        })?;
+        Ok(())
+    }
+
+    /// A call has ended, and makes no topic producers any more.
+    pub fn free(&mut self, owner: u64)
+        ensures { producers_of self.new ≡ meaning.freed owner (producers_of self.old) }
+    {
+        self.held.retain(|held| held.owner != owner);
     }
 
     /// A raw call has named a number.
@@ -346,6 +384,7 @@ impl Producers {
         ensures { result ≡ meaning.is_held (producers_of self.now) link }
     {
         is_held(&self.numbers, &self.topics, link)
+            || self.held.iter().any(|held| held.link == link)
     }
 
     /// Those that wait for a turn, or for a batch that is not under way, are told that the client is stopped.

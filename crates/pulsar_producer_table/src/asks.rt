@@ -4,6 +4,7 @@
 ghost use Rattle.std.specs.Prelude.{◌≡◌, [], ◌∷◌, IfOk, None, OnOk, Some, if◌then◌else◌};
 ghost use Rattle.std.specs.Option.{option_map, option_to_list};
 ghost use Rattle.pulsar_wire.specs.Failures.{fault};
+ghost use Rattle.pulsar_outgoing.specs.declared.news.News.TheVariants.{Done};
 ghost use Rattle.pulsar_producer_table.specs.Asks.{asked_in, grants_it, link_said, ready_notice, recall_said, turn_notice};
 ghost use Rattle.pulsar_producer_table.specs.KeptProducers.{producers_of};
 ghost use Rattle.pulsar_producer_table.specs.Producers.{done_to};
@@ -161,7 +162,7 @@ fn grants(alloc: Global, news: News, serves: Option<Notice>) -> Result<Given, No
 
 /// What it asked is done.
 fn done(alloc: Global, serves: Option<Notice>) -> Result<Given, NoMemory>
-    ensures says { IfOk result (λ g. g.says ≡ grants_it News.Done) }
+    ensures says { IfOk result (λ g. g.says ≡ grants_it Done) }
     ensures serves { IfOk result (λ g. g.serves ≡ serves) }
 {
     grants(alloc, News::Done, serves)

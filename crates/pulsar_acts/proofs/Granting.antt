@@ -11,13 +11,14 @@ use Rattle.pulsar_calls.specs.declared.act.Makes.TheVariants.{Producer}
 use Rattle.pulsar_calls.specs.declared.act.TopicAsk.{TopicAsk}
 use Rattle.pulsar_calls.specs.declared.act.TopicAsk.TheVariants.{Store, Flush}
 use Rattle.pulsar_calls.specs.declared.act.Who.{Who}
+use Rattle.pulsar_calls.specs.declared.act.Who.TheVariants as who
 use Rattle.pulsar_calls.specs.Who.{rank, turn_of}
-use Rattle.pulsar_producer_table.specs.Producers.{Producers, done_to, is_bare, topic_after}
+use Rattle.pulsar_producer_table.specs.Producers.{Producers, done_to, freed, is_bare, topic_after}
 use Rattle.pulsar_producer_table.proofs.Asking.{joined_is}
 use Rattle.pulsar_agenda.specs.Agenda.{Agenda}
 use Rattle.pulsar_machine.specs.Options.{Chosen}
 use Rattle.pulsar_acts.specs.Tables.{fills, waiting_from}
-use Rattle.pulsar_acts.specs.View.{View, after, asked_of, building_of, producers_made, topic_of}
+use Rattle.pulsar_acts.specs.View.{View, after, asked_of, building_of, producers_left, producers_made, topic_of}
 use Rattle.pulsar_acts.proofs.Storing.{waits_on}
 
 -- what comes at once stands in front
@@ -43,8 +44,18 @@ asked_sees v who n ask ps was b is before f =
 
 -- THOSE THAT A VERDICT MAKES
 
-pub made_is : (o : Chosen) (who : Who) (m : Makes) (ps : Producers) →
+made_is : (o : Chosen) (who : Who) (m : Makes) (ps : Producers) →
     producers_made o who m ps
     ≡ record (producers_made o who m ps) { topics = λ n. row_after topic_after (topic_of (building_of m) who o n) false [] (ps.topics n) }
 made_is o who (Producer b) ps = joined_is (rank who).1 b o.seed o.first_number ps
 made_is o who _ ps = refl
+
+-- and the call makes none any more
+pub left_is : (o : Chosen) (who : Who) (m : Makes) (ps : Producers) →
+    producers_left who (producers_made o who m ps)
+    ≡ record (producers_left who (producers_made o who m ps)) {
+      topics = λ n. row_after topic_after (topic_of (building_of m) who o n) false [] (ps.topics n);
+    }
+left_is o (who.Call t) m ps = ap (freed t) (made_is o (who.Call t) m ps)
+left_is o (who.Consumer n t) m ps = made_is o (who.Consumer n t) m ps
+left_is o (who.Producer n) m ps = made_is o (who.Producer n) m ps

@@ -12,7 +12,7 @@ use Rattle.pulsar_session.specs.Link.{is_ready}
 use Rattle.pulsar_calls.specs.declared.act.Act.{Act}
 use Rattle.pulsar_calls.specs.declared.act.Act.TheVariants.{Comes, Starts, Told, Does, Answers, Dials}
 use Rattle.pulsar_calls.specs.declared.act.Action.{Action}
-use Rattle.pulsar_calls.specs.declared.act.Action.TheVariants.{OfTopic, Get, Ask, Wait, Number, Shut, TakeNumber, FindConsumer, TakeFlow, RecallConsumer, Revive, FailConsumer, Tell, TellAll, StopAll, Rest}
+use Rattle.pulsar_calls.specs.declared.act.Action.TheVariants.{OfTopic, Get, Ask, Wait, Number, Hold, Shut, TakeNumber, FindConsumer, TakeFlow, RecallConsumer, Revive, FailConsumer, Tell, TellAll, StopAll, Rest}
 use Rattle.pulsar_calls.specs.declared.act.Alarm.{Alarm}
 use Rattle.pulsar_calls.specs.declared.act.Alarm.TheVariants.{Retry, Wake, Batch, KeepAlive, CheckIdle}
 use Rattle.pulsar_calls.specs.declared.act.Arrival.{Arrival}
@@ -72,7 +72,7 @@ use Rattle.pulsar_links.specs.Links.{Change, Remains, Becomes, IsOver}
 use Rattle.pulsar_plans.specs.Plan.{begins, closed_notice, fails}
 pub use Rattle.pulsar_producer_table.specs.Asks.{readied, ready_notice, turn_notice}
 use Rattle.pulsar_producer_table.specs.Notices.{stopped_all}
-use Rattle.pulsar_producer_table.specs.Producers.{Producers, advice, batches_in, errand_of, is_held, number_drawn, numbers_at, routed, stored_by, why_not}
+use Rattle.pulsar_producer_table.specs.Producers.{Producers, advice, batches_in, errand_of, is_held, is_used as is_used_number, number_drawn, numbers_at, routed, stored_by, why_not}
 use Rattle.pulsar_calls.specs.Content.{next_advice}
 use Rattle.pulsar_acts.specs.View.{Tickets, Turned, View, asked_of, is_live, may_call, told_some, turned, ways_of}
 use Rattle.pulsar_machine.specs.Options.{Chosen, Options}
@@ -218,7 +218,7 @@ closes ps t = if is_some (ps.built t) then procedure.Close t (numbers_at (ps.bui
 -- a raw call leaves the numbers of the client's producers and consumers alone
 abbrev pub is_taken : Producers → Option ℕ → Bool
 is_taken ps None = false
-is_taken ps (Some number) = is_used ps number
+is_taken ps (Some number) = is_used_number ps number
 
 abbrev pub taken_by : (by_producer by_consumer : Bool) → Option Refusal
 taken_by true by_consumer = Some refusal.NumberInUse

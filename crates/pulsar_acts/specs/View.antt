@@ -14,7 +14,7 @@ use Rattle.pulsar_session.specs.Link.{Setup, is_open}
 use Rattle.pulsar_exchange.specs.Request.{closed_consumer}
 use Rattle.pulsar_calls.specs.declared.act.Act.{Act}
 use Rattle.pulsar_calls.specs.declared.act.Act.TheVariants.{Comes, Starts, Told, Does, Answers, Dials}
-use Rattle.pulsar_calls.specs.declared.act.Action.TheVariants.{OfTopic, Get, Ask, Wait, Number, Shut, TakeNumber, FindConsumer, TakeFlow, Revive, FailConsumer, StopAll}
+use Rattle.pulsar_calls.specs.declared.act.Action.TheVariants.{OfTopic, Get, Ask, Wait, Number, Hold, Shut, TakeNumber, FindConsumer, TakeFlow, Revive, FailConsumer, StopAll}
 use Rattle.pulsar_calls.specs.declared.act.TopicAsk.{TopicAsk}
 use Rattle.pulsar_calls.specs.declared.act.TopicAsk.TheVariants.{Store, Flush}
 use Rattle.pulsar_calls.specs.declared.act.Alarm.{Alarm}
@@ -46,7 +46,7 @@ use Rattle.pulsar_outgoing.specs.Storage.{limits_of}
 use Rattle.pulsar_calls.specs.declared.content.Building.{Building}
 use Rattle.pulsar_producer_table.specs.Asks.{Around, Given, around_in, given}
 use Rattle.pulsar_producer_table.specs.declared.table.Topic.{Topic}
-use Rattle.pulsar_producer_table.specs.Producers.{Producers, called_on, is_bare, joined, link_at, none, numbered, numbers_at, shut_by, timeout_at, topic_after, topic_in}
+use Rattle.pulsar_producer_table.specs.Producers.{Producers, called_on, freed, holding, is_bare, joined, link_at, none, numbered, numbers_at, shut_by, timeout_at, topic_after, topic_in}
 use Rattle.pulsar_producer.specs.Topic as topic
 use Rattle.pulsar_consumer_table.specs.Consumers as consumer
 use Rattle.pulsar_consumer_table.specs.Consumers.{Consumers, IsHeard, Member}
@@ -449,6 +449,12 @@ producers_made o who (Consumer made) ps = ps
 producers_made o who (RawConsumer link made) ps = ps
 producers_made o who (Producer made) ps = joined (rank who).1 made o.seed o.first_number ps
 
+-- and a call that has ended makes none any more
+abbrev pub producers_left : Who → Producers → Producers
+producers_left (who.Call t) ps = freed t ps
+producers_left (who.Consumer n t) ps = ps
+producers_left (who.Producer n) ps = ps
+
 -- WHAT IS DONE TO A TOPIC PRODUCER
 
 -- what is around one that is asked, and what it gives
@@ -502,8 +508,8 @@ abbrev pub others_after : View → Act → Producers
 others_after v (Comes (Calls asked advice)) =
     if lacks_tickets v.calls.drawn (shares asked) then v.producers else called_on (may_call v.calls) asked v.producers
 others_after v (Does who Number) = numbered v.producers
-others_after v (Does who (Hold l n)) = holding (rank who).1 l n v.producers
-others_after v (Answers who verdict) = freed (rank who).1 (producers_made v.chosen who verdict.makes v.producers)
+others_after v (Does who (Hold l n)) = holding (ticket_of who) l n v.producers
+others_after v (Answers who verdict) = producers_left who (producers_made v.chosen who verdict.makes v.producers)
 others_after v _ = v.producers
 
 abbrev pub producers_after : View → Act → Producers

@@ -30,7 +30,7 @@ use Rattle.pulsar_links.specs.Alarms.{ringing, rings}
 use Rattle.pulsar_calls.specs.declared.act.Act.{Act}
 use Rattle.pulsar_calls.specs.declared.act.Act.TheVariants.{Comes, Starts, Told, Does, Answers, Dials}
 use Rattle.pulsar_calls.specs.declared.act.Action.{Action}
-use Rattle.pulsar_calls.specs.declared.act.Action.TheVariants.{OfTopic, Get, Ask, Number, Shut, TakeNumber, FindConsumer, TakeFlow, RecallConsumer, Revive, FailConsumer, Tell, TellAll, StopAll, Rest}
+use Rattle.pulsar_calls.specs.declared.act.Action.TheVariants.{OfTopic, Get, Ask, Number, Hold, Shut, TakeNumber, FindConsumer, TakeFlow, RecallConsumer, Revive, FailConsumer, Tell, TellAll, StopAll, Rest}
 use Rattle.pulsar_calls.specs.declared.act.TopicAsk.TheVariants.{TakeTurn, PassTurn, Draw, Recall, Remake, Find, Store, Flush, TakeBatch}
 use Rattle.pulsar_calls.specs.declared.act.Alarm.{Alarm}
 use Rattle.pulsar_calls.specs.declared.act.Alarm.TheVariants.{Retry, Wake, Batch, KeepAlive, CheckIdle}
@@ -317,6 +317,7 @@ GrantsSo (news.Recalled c) (OfTopic n Recall) v = recalled v.producers n ≡ Som
 GrantsSo (news.Numbered number) Number v = number_drawn v.producers ≡ Some number
 GrantsSo news.Done (OfTopic n PassTurn) v = Unit {0}
 GrantsSo news.Done (OfTopic m (Remake r)) v = Unit {0}
+GrantsSo news.Done (Hold l n) v = Unit {0}
 GrantsSo news.Done (Shut t) v = Unit {0}
 GrantsSo (news.HasBatch items) (OfTopic n TakeBatch) v = next_batch_at (v.producers.topics n) ≡ items
 GrantsSo news.Done (OfTopic n (Store e)) v = Unit {0}

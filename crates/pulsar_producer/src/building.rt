@@ -161,12 +161,7 @@ fn names(alloc: Global, turn: Turn<Naming, Result<Names, Refusal>>) -> Result<Bu
             Building::Naming(naming),
             Deed::Does(action),
         )),
-        Turn::Gives(Ok(names)) => next(
-            alloc,
-            Left::new(names),
-            Parts::new(alloc),
-            Deed::Numbers,
-        ),
+        Turn::Gives(Ok(names)) => next(alloc, Left::new(names), Parts::new(alloc), Deed::Numbers),
         Turn::Gives(Err(refusal)) => Ok(Step::Gives(Err(refusal))),
     }
 }

@@ -27,6 +27,7 @@ use Rattle.pulsar_calls.specs.declared.act.Refusal.{Refusal}
 use Rattle.pulsar_calls.specs.declared.act.Refusal.TheVariants as refusal
 use Rattle.pulsar_calls.specs.declared.content.Building.{Building}
 use Rattle.pulsar_calls.specs.declared.act.Who.{Who}
+use Rattle.pulsar_producer_table.specs.declared.table.Held.{Held}
 use Rattle.pulsar_producer_table.specs.declared.table.Topic.{Topic}
 use Rattle.pulsar_calls.specs.Content as content
 use Rattle.pulsar_calls.specs.Content.{Asked, sent_by}

@@ -383,8 +383,7 @@ impl Producers {
     pub fn holds(&self, link: u64) -> bool
         ensures { result ≡ meaning.is_held (producers_of self.now) link }
     {
-        is_held(&self.numbers, &self.topics, link)
-            || self.held.iter().any(|held| held.link == link)
+        is_held(&self.numbers, &self.topics, link) || self.held.iter().any(|held| held.link == link)
     }
 
     /// Those that wait for a turn, or for a batch that is not under way, are told that the client is stopped.

@@ -291,6 +291,7 @@ impl Tables {
             Action::Wait(delay) => self.alarms.set(Alarm::Wake(who), later(self.clock, delay)),
             Action::OfTopic { number, ask } => self.asks_topic(who, number, ask, tasks),
             Action::Number => self.numbers(who, tasks),
+            Action::Hold { link, number } => self.holds(who, link, number, tasks),
             Action::Shut(producer) => self.shuts(who, producer, tasks),
             Action::TakeNumber(wanted) => self.takes_number(who, wanted, tasks),
             Action::FindConsumer(consumer) => self.finds_consumer(who, consumer, tasks),

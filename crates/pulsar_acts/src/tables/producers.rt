@@ -18,7 +18,7 @@ use pulsar_addresses::content::Cause;
 use pulsar_agenda::agenda::Tasks;
 use pulsar_calls::act::{Action, Outcome, TopicAsk, Who};
 use pulsar_calls::content::Granted;
-use pulsar_calls::who::turn_of;
+use pulsar_calls::who::{ticket_of, turn_of};
 use pulsar_producer::deed::News;
 use pulsar_producer_table::asks::Given;
 use pulsar_wire::error::{ConnectionError, NoMemory};
@@ -64,6 +64,22 @@ impl Tables {
             Some(number) => self.grants(who, News::Numbered(number), tasks),
             None => self.refuses(who, ConnectionError::Exhausted, tasks),
         }
+    }
+
+    /// A topic producer was made for a call, which still makes others.
+    pub(super) fn holds(
+        &mut self,
+        who: Who,
+        link: u64,
+        number: u64,
+        tasks: &mut Tasks,
+    ) -> Result<(), NoMemory>
+        ensures left { OnOk result (agenda_of tasks.new ≡ goes_on (view_of self.old) (Act.Does who (Action.Hold link number)) (agenda_of tasks.old)) }
+        ensures sees { OnOk result (view_of self.new ≡ after (Act.Does who (Action.Hold link number)) (view_of self.old)) }
+        ensures settings { self.new.settings ≡ self.old.settings }
+    {
+        self.producers.hold(ticket_of(who), link, number)?;
+        self.grants(who, News::Done, tasks)
     }
 
     /// A producer takes no sends from now on. Those whose messages it stores are told so.

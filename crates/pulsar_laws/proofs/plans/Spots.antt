@@ -1,6 +1,6 @@
 -- Along a run, one whose plan reports does so next, and no plan stands where a queued part of a call has not reported.
 use Rattle.std.proofs.Common.{◌≡◌, ◌∙◌, sym, ap, subst, ℕ, List, ◌∷◌, ◌++◌, refl, Bool, true, false, ◌&&◌, cond, Option, Some, None, []}
-use Rattle.pulsar_laws.proofs.ActWords.{Act, Action, Ask, Does, Find, Notice, OfTopic, Outcome, Part, PassTurn, Procedure, Rest, Shut, Starts, StopAll, Store, TakeBatch, Tell, TellAll, Told, Verdict, Who, is_same}
+use Rattle.pulsar_laws.proofs.ActWords.{Act, Action, Ask, Does, Find, Hold, Notice, OfTopic, Outcome, Part, PassTurn, Procedure, Rest, Shut, Starts, StopAll, Store, TakeBatch, Tell, TellAll, Told, Verdict, Who, is_same}
 use Rattle.pulsar_laws.proofs.PlanWords.{begins, Gives, Plan, Stays, told, Turn}
 use Rattle.pulsar_laws.proofs.RunWords.{agenda, Agenda, at_once, Begins, begun_same, does, Entry, first, first_of, follows, follows_some, IsRun, none_now, Options, rest, rules, stays, stays_some, tells, Then, told_some, view, View}
 use Rattle.pulsar_laws.proofs.LinkWords.{answer_at, told_at}
@@ -136,6 +136,7 @@ module _ (o : Options) (w : Who) (log : List Entry) (k : SoundAt (spot_of ((view
   told_next who (TellAll ns) q = (outcome.Granted news.Done, refl)
   told_next who (OfTopic n TakeBatch) q = (outcome.Granted (news.HasBatch (next_batch_at (v.producers.topics n))), refl)
   told_next who (OfTopic n (Store entry)) q = (outcome.Granted news.Done, refl)
+  told_next who (Hold l n) q = (outcome.Granted news.Done, refl)
   told_next who (Shut t) q = (outcome.Granted news.Done, refl)
   told_next who (OfTopic n Find) q = found (link_at (v.producers.topics n))
     where

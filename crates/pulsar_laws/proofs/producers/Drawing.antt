@@ -16,6 +16,8 @@ use Rattle.pulsar_producer.specs.Topic.{Act as Deed, fresh}
 use Rattle.pulsar_outgoing.specs.declared.storage.Limits.{Limits}
 use Rattle.pulsar_outgoing.specs.declared.news.News.TheVariants as news
 use Rattle.pulsar_calls.specs.declared.act.Makes.TheVariants.{Producer}
+use Rattle.pulsar_calls.specs.declared.act.Who.TheVariants as by
+use Rattle.pulsar_acts.specs.View.{producers_left}
 use Rattle.pulsar_calls.specs.declared.act.Outcome.TheVariants as outcome
 use Rattle.pulsar_calls.specs.declared.act.Who.TheVariants as one
 use Rattle.pulsar_calls.specs.declared.content.Building.{Building}
@@ -192,6 +194,11 @@ made_next v who (Producer b) =
     ∙ next_joined (rank who).1 v.chosen.first_number (limits_of b.settings) b.parts v.producers
 made_next v who _ = refl
 
+left_next : (who : Who) (ps : Producers) → (producers_left who ps).next ≡ ps.next
+left_next (by.Call t) ps = refl
+left_next (by.Consumer n t) ps = refl
+left_next (by.Producer n) ps = refl
+
 next_more : (ps : Producers) → ps.next ≤ (numbered ps).next
 next_more ps =
     let e : ps.next ≤ next_free ps = free_more ps.named ps.next in
@@ -200,7 +207,8 @@ next_more ps =
 pub next_after : (v : View) (a : Act) → v.producers.next ≤ (seen.after a v).producers.next
 next_after v (Comes (Calls asked advice)) = let e = called_kept v asked advice in rw e (omega arith)
 next_after v (Does who Number) = next_more v.producers
-next_after v (Answers who verdict) = let e = made_next v who verdict.makes in rw e (omega arith)
+next_after v (Answers who verdict) =
+    let e = left_next who (producers_made v.chosen who verdict.makes v.producers) ∙ made_next v who verdict.makes in rw e (omega arith)
 next_after v _ = omega arith
 
 -- ALONG A LOG

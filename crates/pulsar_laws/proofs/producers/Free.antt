@@ -17,6 +17,8 @@ use Rattle.pulsar_outgoing.specs.Storage.{limits_of}
 use Rattle.pulsar_outgoing.specs.declared.storage.Limits.{Limits}
 use Rattle.pulsar_outgoing.specs.declared.news.News.TheVariants as news
 use Rattle.pulsar_calls.specs.declared.act.Makes.TheVariants.{Producer}
+use Rattle.pulsar_calls.specs.declared.act.Who.TheVariants as by
+use Rattle.pulsar_acts.specs.View.{producers_left}
 use Rattle.pulsar_calls.specs.declared.act.Outcome.TheVariants as outcome
 use Rattle.pulsar_calls.specs.Content as content
 use Rattle.pulsar_producer_table.specs.Producers.{Producers, all_routed, called_on, free_from, made_of, names_in, next_free, numbered, opened_on, routed, sent_on, why_not, with_built, with_topic, with_topics}
@@ -153,6 +155,11 @@ made_low v who (Producer b) h =
     (kept_low v.producers ps (joined_kept (rank who).1 f (limits_of b.settings) b.parts v.producers) h)
 made_low v who _ h = h
 
+left_low : (who : Who) (ps : Producers) → IsLow ps → IsLow (producers_left who ps)
+left_low (by.Call t) ps h = h
+left_low (by.Consumer n t) ps h = h
+left_low (by.Producer n) ps h = h
+
 numbered_low : (ps : Producers) → IsLow ps → IsLow (numbered ps)
 numbered_low ps h = (
   h.0,
@@ -168,7 +175,7 @@ after_low v (Comes (Calls asked advice)) h =
     cond_so IsLow (lacks_tickets v.calls.drawn (shares asked)) v.producers (called_on (may_call v.calls) asked v.producers) h
     (cond_so IsLow (may_call v.calls) (opened_on asked v.producers) v.producers (opened_low asked v.producers h) h)
 after_low v (Does who Number) h = numbered_low v.producers h
-after_low v (Answers who verdict) h = made_low v who verdict.makes h
+after_low v (Answers who verdict) h = left_low who (producers_made v.chosen who verdict.makes v.producers) (made_low v who verdict.makes h)
 after_low v _ h = h
 
 low_run : (o : Options) (log : List Entry) → o.chosen.first_number < 2 ^ 64 → IsLow (view o log).producers

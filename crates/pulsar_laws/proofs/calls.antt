@@ -19,3 +19,4 @@ pub mod Telling
 pub mod Gathering
 pub mod IdleCalls
 pub mod Idlers
+pub mod Whereabouts

@@ -21,3 +21,4 @@ pub mod Rise
 pub mod TurnActs
 pub mod TurnRun
 pub mod Users
+pub mod Whence

@@ -1,44 +1,30 @@
 -- Where one waits: for the link of an address, for what it asked for, for a moment, or for the link of a consumer. What others do leaves it there,
 -- or takes it from there.
-use Rattle.std.proofs.Common.{◌≡◌, ◌⊎◌, inl, inr, ◌∙◌, sym, ap, subst, ℕ, ◌+◌, ◌≤◌, ◌==◌, List, [], ◌∷◌, ◌++◌, refl, Bool, true, false, cond, not, Option, Some, None}
+use Rattle.std.proofs.Common.{◌≡◌, inl, inr, ◌∙◌, sym, subst, ℕ, List, [], ◌∷◌, refl, Bool, true, false, cond, not, Option, Some, None, ◌++◌, ◌==◌}
 use Rattle.std.proofs.lemmas.Bool.{cases_Bool}
 use Rattle.std.specs.BTreeMap.{insert_entry}
-use Rattle.std.specs.Map.{lookup}
 use Rattle.std.specs.Option.{option_map}
 use Rattle.std.specs.Ordering.{match_ordering}
 use Rattle.std.specs.declared.cmp.Ordering.{Ordering}
 use Rattle.std.specs.declared.cmp.Ordering.TheVariants.{Less, Equal, Greater}
-use Rattle.pulsar_laws.proofs.ActWords.{Act, Action, Alarm, Answers, Arrival, Ask, Batch, Bytes, Call, Calls, CheckIdle, Comes, Consumer, Dials, Does, Drains, Draw, Ends, FailConsumer, Find, FindConsumer, Flush, Get, Heard, is_same, KeepAlive, lacks_tickets, LinkAct, Makes, Number, Opens, Outcome, Pings, Polls, Producer, Reads, Recall, RecallConsumer, Rest, Retry, Revive, Rings, shares, Shut, StopAll, Store, TakeFlow, TakeNumber, TakeTurn, Tell, TellAll, ticket_of, Told, ToLink, turn_of, Wait, Wake, Who, Word}
-use Rattle.pulsar_laws.proofs.PlanWords.{News}
-use Rattle.pulsar_laws.proofs.RunWords.{after, Begins, begun, begun_live, Cause, Chosen, consumers_after, consumers_made, counted, Each, Entry, In, InThisStep, is_live, IsRun, link_got, live_begun, may_call, member_on, notice, Options, setup_of, start_of, Then, turned, Turned, view, View}
-use Rattle.pulsar_laws.proofs.LinkWords.{Addresses, arrival_at, Base, Becomes, Change, closing, Exhausted, Failure, Fault, got_at, is_body, IsOver, Nobody, Pause, Pauses, Place, Remains, Reply, rings, Runs, Seat, seat_asked, seat_fed, seat_got, Series, Serves, took_end, took_some, url_at, Words}
-use Rattle.pulsar_wire.specs.Failures.{Disconnected}
-use Rattle.pulsar_messages.specs.Claims.{is_spent}
+use Rattle.pulsar_laws.proofs.ActWords.{Act, Action, Alarm, Answers, Arrival, Ask, Batch, Bytes, Call, Calls, CheckIdle, Comes, Consumer, Dials, Does, Drains, Ends, FailConsumer, FindConsumer, Flush, Get, Heard, is_same, KeepAlive, lacks_tickets, LinkAct, Makes, Opens, Pings, Polls, Producer, Reads, Retry, Revive, Rings, shares, Shut, StopAll, Store, TakeFlow, TakeNumber, ticket_of, ToLink, turn_of, Wait, Wake, Who}
+use Rattle.pulsar_laws.proofs.RunWords.{after, begun, begun_live, Chosen, consumers_after, consumers_made, Each, In, is_live, link_got, live_begun, may_call, member_on, setup_of, turned, Turned, View}
+use Rattle.pulsar_laws.proofs.LinkWords.{Addresses, arrival_at, Base, Becomes, Change, closing, Fault, got_at, is_body, IsOver, Nobody, Pause, Pauses, Remains, Reply, rings, Runs, Seat, seat_asked, seat_fed, seat_got, Series, Serves, took_end, took_some, url_at, Words}
 use Rattle.pulsar_producer.specs.Topic as topic
 use Rattle.pulsar_producer.specs.Topic.{Act as TopicAct}
 use Rattle.pulsar_outgoing.specs.declared.news.News.TheVariants as news
-use Rattle.pulsar_requests.specs.Soonest.{has_come}
 use Rattle.pulsar_calls.specs.declared.act.Outcome.TheVariants as outcome
 use Rattle.pulsar_calls.specs.declared.act.Procedure.TheVariants as procedure
 use Rattle.pulsar_producer_table.specs.declared.table.Topic.{Topic}
-use Rattle.pulsar_links.specs.Alarms.{alarm_cmp, clear, is_same_alarm, moment_of, set}
-use Rattle.pulsar_laws.proofs.Lists.{in_append, in_each}
+use Rattle.pulsar_links.specs.Alarms.{alarm_cmp, clear, is_same_alarm, set}
+use Rattle.pulsar_laws.proofs.Lists.{in_append}
 use Rattle.pulsar_laws.proofs.Cases.{cond_so, none_some}
-use Rattle.pulsar_laws.specs.Laws.{Acts, AttemptEnds, BecomesReady, DrawsNone, Finds, GetsTurn, GrantsSo, IsDropped, IsReady, IsReplied, IsToldBy, IsUnknown, IsWoken, LineEnds, MovesUp, RequestEnds, IsServedAs, SaysSo, WordComes}
-use Rattle.pulsar_producer_table.specs.Producers.{is_bare, numbers_at, stored_at, timeout_at, topic_after, turn_passed}
+use Rattle.pulsar_producer_table.specs.Producers.{is_bare, numbers_at, timeout_at, topic_after}
 use Rattle.pulsar_acts.specs.View.{alarms_after, alarms_on, alarms_on_topic, alarms_over, alarms_rung, alarms_turned, alarms_waiting, base_after, base_on, clear_all, live_after, waits_for, waits_from, waits_on, hears_ask, joins_as}
 use Rattle.pulsar_links.specs.Seats.{asker_at, base_turned, nobody}
-use Rattle.pulsar_calls.specs.Who.{behind_all, in_turn}
-use Rattle.pulsar_laws.proofs.calls.Caused.{outcomes_are_caused_lem}
-use Rattle.pulsar_laws.proofs.plans.Fitting.{is_said}
-use Rattle.pulsar_laws.proofs.calls.Gathered.{GatherTold}
-use Rattle.pulsar_laws.proofs.plans.Granted.{tell_said}
-use Rattle.pulsar_laws.proofs.calls.Once.{ends_once_lem}
 use Rattle.pulsar_links.proofs.Ringing.{is_this}
-use Rattle.pulsar_laws.proofs.calls.Sources.{step_some}
 use Rattle.pulsar_laws.proofs.plans.Spots.{same_self}
-use Rattle.pulsar_laws.proofs.calls.Begun.{has_begun}
-use Rattle.pulsar_laws.proofs.producers.Users.{DoesSo, LogSo, NoticeSo, stored_so, tells_so, waits_so}
+use Rattle.pulsar_laws.proofs.producers.Users.{waits_so}
 use Rattle.pulsar_calls.specs.declared.act.Arrival.TheVariants as arrivals
 use Rattle.pulsar_calls.specs.declared.act.Makes.TheVariants as makes
 use Rattle.pulsar_calls.specs.declared.act.Word.TheVariants as word
@@ -51,7 +37,6 @@ use Rattle.pulsar_consumer_table.specs.Consumers.{Member}
 use Rattle.pulsar_consumer_table.specs.declared.row.Sought.{Sought}
 use Rattle.pulsar_consumer_table.specs.declared.row.Sought.TheVariants.{Found, Gone, Later}
 use Rattle.pulsar_laws.proofs.consumers.Members.{called_rows, left_rows, numbered_rows}
-use Rattle.pulsar_laws.proofs.calls.IdleCalls.{Mute, MuteBy, mute_older, only_start, mute_run}
 
 -- what brings one somewhere
 abbrev pub goes_nowhere : Action → Bool

@@ -13,5 +13,3 @@ pub mod Taken
 pub mod Answered
 pub mod Finished
 pub mod Due
-pub mod Rested
-pub mod Tended

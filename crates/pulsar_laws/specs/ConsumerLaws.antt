@@ -1,11 +1,11 @@
 -- What follows of consumers, in plain words.
 use Rattle.std.specs.Prelude.{◌≡◌, ℕ, ◌+◌, ◌-◌, ◌≤◌, nat_lt, ◌==◌, ◌&&◌, ◌||◌, Bool, true, false, if◌then◌else◌, List, [], ◌∷◌, ◌++◌, length, map, Option, Some, None, Ok}
 use Rattle.std.specs.List.{filter, flat_map, list_any, sum, sum_by}
-use Rattle.std.specs.Option.{is_some, option_map, option_or, option_to_list}
+use Rattle.std.specs.Option.{is_some, option_map, option_to_list}
 use Rattle.url.specs.Parts.{Parts}
 use Rattle.pulsar_messages.specs.Words as words
 use Rattle.pulsar_messages.specs.Words.{Words}
-use Rattle.pulsar_run.specs.Laws.{InThisStep}
+use Rattle.pulsar_run.specs.Laws.{Arises, InThisStep}
 use Rattle.pulsar_wire.specs.Failures.{Fault}
 use Rattle.pulsar_session.specs.Link.{Seen as Connection, has_room}
 use Rattle.pulsar_session.specs.declared.states.Asked.{Asked as Placed}
@@ -36,9 +36,6 @@ use Rattle.pulsar_calls.specs.declared.act.Who.TheVariants.{Call, Consumer}
 use Rattle.pulsar_calls.specs.Content as content
 use Rattle.pulsar_calls.specs.Content.{Asked, Heard, Poll, Shown, Hands, Faults, FindsNothing, FindsEnd}
 use Rattle.pulsar_calls.specs.Who.{is_same, ticket_of}
-use Rattle.pulsar_plans.specs.declared.plan.Plan.{Plan}
-use Rattle.pulsar_plans.specs.declared.plan.Plan.TheVariants as plan
-use Rattle.pulsar_plans.specs.declared.service.Service.TheVariants as service
 use Rattle.pulsar_consumer_table.specs.Consumers as consumer
 use Rattle.pulsar_consumer_table.specs.Consumers.{Member, is_closed_by}
 use Rattle.pulsar_links.specs.Links.{line_places}
@@ -46,7 +43,7 @@ use Rattle.pulsar_acts.specs.View.{View, setup_of}
 use Rattle.pulsar_machine.specs.Options.{Options}
 use Rattle.pulsar_links.specs.Seats.{Seat, answer_at, arrival_at, closing, is_asked, place_of, url_at}
 use Rattle.pulsar_acts.specs.Rules.{call_part, notice}
-use Rattle.pulsar_acts.specs.Run.{Entry, Begins, Then, IsRun, Rests, agenda, steps, view}
+use Rattle.pulsar_acts.specs.Run.{Entry, Begins, Then, IsRun, Rests, agenda, rules, steps, view}
 use Rattle.pulsar_calls.specs.Steps.{Step}
 use Rattle.pulsar_agenda.specs.Agenda.{first}
 use Rattle.pulsar_laws.specs.Laws.{counted}
@@ -331,28 +328,16 @@ FlowsAreCounted = (o : Options) (log : List Entry) (t l : ℕ) (m : Member) (s :
     (permits_of (flows_since o t log) ≤ asked_since s (done_to o t log))
     × (Rests o log → permits_of (flows_since o t log) ≡ asked_since s (done_to o t log))
 
--- the plan of a consumer rests: its subscription is made, and nothing is under way
-abbrev pub is_resting : Plan → Bool
-is_resting (plan.Serving w n service.Resting) = true
-is_resting _ = false
+abbrev pub was_due : Option Member → Bool
+was_due None = false
+was_due (Some m) = reader.is_due m.seen
 
--- At the end of a step no flow is due at a consumer whose plan rests: each one that fell due was taken and asked for (FlowsAreAsked).
-abbrev pub NoFlowIsDue : Type 0
-NoFlowIsDue = (o : Options) (log : List Entry) (t : ℕ) (m : Member) (p : Plan) (l : Live) → IsRun o log → Rests o log →
-    (view o log).consumers.rows t ≡ Some m → (view o log).stand (consumer.who_of t m) ≡ Some p → is_resting p ≡ true → m.seen.engine.live ≡ Some l →
-    l.due ≡ []
-
--- So what remains of its permits is then the sum of the flows that were asked for since its subscription was made, less what the frames weigh that were
--- begun since then. It is at most the batch size; and where each arrival is finished, half of the batch size, rounded up, and all that was spent
--- is at most all that was granted.
-abbrev pub PermitsAreGranted : Type 0
-PermitsAreGranted = (o : Options) (log : List Entry) (t : ℕ) (m : Member) (p : Plan) (l : Live) → IsRun o log → Rests o log →
-    (view o log).consumers.rows t ≡ Some m → (view o log).stand (consumer.who_of t m) ≡ Some p → is_resting p ≡ true → m.seen.is_raw ≡ false →
-    m.seen.engine.live ≡ Some l →
-    (s : Setup) × (made_with t log ≡ Some s)
-    × (permits_of (flows_since o t log) + weighed_before s (done_to o t log) ≤ batch_size m.seen.config + weights (begun s (done_to o t log)))
-    × (IsFinished s (done_to o t log) → half (batch_size m.seen.config) + weights (begun s (done_to o t log))
-    ≤ permits_of (flows_since o t log) + weighed_before s (done_to o t log))
+-- A flow that falls due at an act, and was not due before, is told to the plan of its consumer: that arises from the act, so it is done in that
+-- step (AllIsDone), and a plan that rests takes the flow then and asks for it (FlowsAreTaken, FlowsAreAsked).
+abbrev pub FlowsAreTold : Type 0
+FlowsAreTold = (o : Options) (log : List Entry) (a : Act) (t : ℕ) (m : Member) → IsRun o (Then a ∷ log) →
+    (view o (Then a ∷ log)).consumers.rows t ≡ Some m → reader.is_due m.seen ≡ true → was_due ((view o log).consumers.rows t) ≡ false →
+    Arises rules o (Told (record { who = consumer.who_of t m; outcome = outcome.Word word.Due })) (Then a) log
 
 -- ACKNOWLEDGEMENTS
 

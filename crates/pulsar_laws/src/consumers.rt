@@ -1,6 +1,6 @@
 //! What follows of consumers from the definition of a good run: each contract is a law, and its body is empty.
 
-ghost use Rattle.pulsar_laws.specs.ConsumerLaws.{AcksAreLicensed, AcksOnce, ConsumersAlone, ConsumersEnd, ConsumersRemain, EachPollIsAnswered, FlowsAreAsked, FlowsAreCounted, FlowsArePlaced, FlowsAreQueued, FlowsAreTaken, NoFlowIsDue, PermitsAreGranted, PermitsAreKept, PollsAreAnswered, PollsComeFirst, PollsFollow};
+ghost use Rattle.pulsar_laws.specs.ConsumerLaws.{AcksAreLicensed, AcksOnce, ConsumersAlone, ConsumersEnd, ConsumersRemain, EachPollIsAnswered, FlowsAreAsked, FlowsAreCounted, FlowsArePlaced, FlowsAreQueued, FlowsAreTaken, FlowsAreTold, PermitsAreKept, PollsAreAnswered, PollsComeFirst, PollsFollow};
 
 /// A consumer is what was done to it since it was made, and nothing else.
 pub fn consumers_alone()
@@ -32,7 +32,7 @@ pub fn consumers_end()
 {}
 
 /// What remains of the permits of a live subscription is within its bounds, and each flow that its plan asks for was taken from it, and is
-/// queued or stands in the line. At the end of a step none is due where its plan rests: what was granted is what was asked for.
+/// queued or stands in the line. Each that falls due is told to its plan in that step.
 pub fn permits_are_kept()
     ensures bounds { PermitsAreKept }
     ensures flows { FlowsAreTaken }
@@ -40,8 +40,7 @@ pub fn permits_are_kept()
     ensures placed { FlowsArePlaced }
     ensures queued { FlowsAreQueued }
     ensures counted { FlowsAreCounted }
-    ensures none_due { NoFlowIsDue }
-    ensures granted { PermitsAreGranted }
+    ensures told { FlowsAreTold }
 {}
 
 /// A frame that acknowledges is asked for by a call for just this, and at most once for each.

@@ -7,7 +7,7 @@ use Rattle.std.specs.Option.{is_some, option_map, option_to_list}
 use Rattle.std.specs.Ordering.{match_ordering, nat_cmp}
 use Rattle.std.specs.declared.cmp.Ordering.TheVariants.{Less, Equal, Greater}
 use Rattle.pulsar_laws.proofs.ActWords.{Act, Answers, Arrival, Ask, Asked, Call, Calls, Comes, Consumer, Does, Ends, FailConsumer, FindConsumer, is_same, lacks_tickets, Makes, Notice, opens, Polls, Producer, Reads, Revive, shares, StopAll, TakeFlow, TakeNumber, ticket_of, Told, ToLink, Verdict, Who, Word}
-use Rattle.pulsar_laws.proofs.RunWords.{Arises, Begins, begun_same, consumers_after, consumers_made, Entry, In, InOne, joins, may_call, member_on, Options, rules, Then, turned, view, View}
+use Rattle.pulsar_laws.proofs.RunWords.{Arises, Begins, begun_same, consumers_after, consumers_made, EndsOnce, Entry, In, InOne, joins, may_call, member_on, Options, rules, Then, turned, view, View}
 use Rattle.pulsar_laws.proofs.LinkWords.{answer_at, arrival_at, closed_consumer, closing, Failure, Fault, is_asked, is_body, Reply, Seat, url_at}
 use Rattle.url.specs.Parts.{Parts}
 use Rattle.pulsar_exchange.specs.Request.{named_consumer}
@@ -33,10 +33,11 @@ use Rattle.pulsar_acts.specs.View.{consumers_left, joins_as, setup_of}
 use Rattle.pulsar_links.specs.LinkRules.{answered_on}
 use Rattle.pulsar_laws.proofs.Cases.{none_some, some_is}
 use Rattle.pulsar_laws.proofs.Lists.{in_right, into_flat}
-use Rattle.pulsar_laws.proofs.consumers.Lone.{applied, arrival_done, joins_here, none_after}
+use Rattle.pulsar_laws.proofs.calls.Ticketed.{consumer_ticket}
+use Rattle.pulsar_laws.proofs.consumers.Lone.{IsKept, IsMade, IsNone, RowFrom, applied, arrival_done, joins_here, none_after, row_from}
 use Rattle.pulsar_laws.proofs.calls.Same.{same_self}
 use Rattle.pulsar_laws.proofs.consumers.Members.{either_number, left_rows, lost_gone, polled_number}
-use Rattle.pulsar_laws.specs.ConsumerLaws.{does_to, loss_does, subscription_does}
+use Rattle.pulsar_laws.specs.ConsumerLaws.{FlowsAreTold, does_to, loss_does, subscription_does, was_due}
 
 -- THE TICKETS of all consumers are known
 
@@ -162,7 +163,7 @@ module _ (t : ℕ) where
       ]
   has_on v a k n h = other_has v a (λ who verdict f. absurd cc) k n h
 
-  pub has_ticket : (o : Options) (log : List Entry) (m : Member) → (view o log).consumers.rows t ≡ Some m → In t (view o log).consumers.tickets
+  has_ticket : (o : Options) (log : List Entry) (m : Member) → (view o log).consumers.rows t ≡ Some m → In t (view o log).consumers.tickets
   has_ticket o [] m h = absurd (none_some h)
   has_ticket o (Begins e ∷ log) m h =
       let same = begun_same (λ v. v.consumers) e (view o log) refl in
@@ -182,7 +183,7 @@ after_number (Over why) v = refl
 after_number (Polled clock) v = polled_number clock v
 after_number Asks v = refl
 
-pub applied_number : (xs : List Done) (s : Seen) → (applied xs s).number ≡ s.number
+applied_number : (xs : List Done) (s : Seen) → (applied xs s).number ≡ s.number
 applied_number [] s = refl
 applied_number (x ∷ xs) s = after_number x (applied xs s) ∙ applied_number xs s
 
@@ -224,13 +225,13 @@ falls_asks s h = by s.engine.live h
     by (Some l) k = by_due l.due k
 
 -- the acts that may make one due
-abbrev pub is_waker : Act → Bool
+abbrev is_waker : Act → Bool
 is_waker (Comes (ToLink l Reads)) = true
 is_waker (Comes (Polls t)) = true
 is_waker (Does who (Revive l)) = true
 is_waker _ = false
 
-pub falls_due : (v : View) (t : ℕ) (m : Member) (a : Act) → is_waker a ≡ false → is_due (applied (does_to v t m a) m.seen) ≡ true → is_due m.seen ≡ true
+falls_due : (v : View) (t : ℕ) (m : Member) (a : Act) → is_waker a ≡ false → is_due (applied (does_to v t m a) m.seen) ≡ true → is_due m.seen ≡ true
 falls_due v t m (Comes (ToLink l Reads)) w h = absurd cc
 falls_due v t m (Comes (Polls u)) w h = absurd cc
 falls_due v t m (Does who (Revive l)) w h = absurd cc
@@ -249,7 +250,7 @@ falls_due v t m a w h = h
 
 -- WHERE ONE FALLS DUE its plan is told so
 
-abbrev pub due_to_plan : (number ticket : ℕ) → Act
+abbrev due_to_plan : (number ticket : ℕ) → Act
 due_to_plan n t = Told (record { who = Consumer n t; outcome = outcome.Word word.Due })
 
 told_in : (n : Notice) (ns : List Notice) → In n ns → In (Told n) (map Told ns)
@@ -350,7 +351,7 @@ module _ (o : Options) (log : List Entry) (t : ℕ) (m : Member) (there : (view 
         inl (subst (λ x. Arises rules o (due_to_plan m.seen.number t) (Then (Comes (Polls x))) log) (eqb-true t u e) (inr (inl i))))
   ]
 
-  pub revived_due : (who : Who) (l : ℕ) → (t == ticket_of who) ≡ true → is_due (applied (subscription_does l (url_at (v.links.live l))) m.seen) ≡ true →
+  revived_due : (who : Who) (l : ℕ) → (t == ticket_of who) ≡ true → is_due (applied (subscription_does l (url_at (v.links.live l))) m.seen) ≡ true →
       Arises rules o (due_to_plan m.seen.number t) (Then (Does who (Revive l))) log
   revived_due who l e h =
       let url : Option Parts = url_at (v.links.live l) in
@@ -377,7 +378,7 @@ module _ (o : Options) (log : List Entry) (t : ℕ) (m : Member) (there : (view 
     | inl e ↦ inl (revived_due who l e (sym (ap (λ b. is_due (applied (cond b (subscription_does l (url_at (v.links.live l))) []) m.seen)) e) ∙ h))
   ]
 
-  pub rises : (a : Act) → is_waker a ≡ true → is_due (applied (does_to v t m a) m.seen) ≡ true → Rises a
+  rises : (a : Act) → is_waker a ≡ true → is_due (applied (does_to v t m a) m.seen) ≡ true → Rises a
   rises (Comes (ToLink l Reads)) w h = reads_due l (ap is_due (arrival_done l (arrival_at (v.links.live l)) m) ∙ h)
   rises (Comes (Polls u)) w h = polls_due u h
   rises (Does who (Revive l)) w h = revive_due who l h
@@ -403,7 +404,7 @@ raw_none live l made h = by (url_at (live l)) h
     by None k = cc
     by (Some u) k = cc
 
-pub made_due_so : (v : View) (t : ℕ) (who : Who) (verdict : Verdict) (n : Member) → v.consumers.rows t ≡ None →
+made_due_so : (v : View) (t : ℕ) (who : Who) (verdict : Verdict) (n : Member) → v.consumers.rows t ≡ None →
     (consumers_after v (Answers who verdict)).rows t ≡ Some n → is_due n.seen ≡ true →
     In (due_to_plan n.seen.number t) (map Told (joins v (Answers who verdict)))
 made_due_so v t who verdict n none is h =
@@ -444,10 +445,29 @@ made_due_so v t who verdict n none is h =
     by makes.Client made e = old e
     by (makes.Producer b) made e = old e
 
-pub built_due : (v : View) (t : ℕ) (verdict : Verdict) (j : Joining) (n : Member) → verdict.makes ≡ makes.Consumer j →
-    (consumers_after v (Answers (Call t) verdict)).rows t ≡ Some n → is_due n.seen ≡ true →
-    In (due_to_plan n.seen.number t) (map Told (joins v (Answers (Call t) verdict)))
-built_due v t verdict j n made is h =
-    call_due v t verdict j n made
-    (ap (λ x. (consumers_made v.links.live (Call t) x v.consumers).rows t) (sym made)
-    ∙ sym (ap (λ f. f t) (left_rows (Call t) (consumers_made v.links.live (Call t) verdict.makes v.consumers))) ∙ is) h
+-- SO IT IS TOLD
+
+pub flows_are_told_lem : EndsOnce → FlowsAreTold
+flows_are_told_lem once o log a t m run is due before = by (row_from o log t once a (consumer_ticket o (Then a ∷ log) t m run is) run)
+  where
+    made_on : (a : Act) → (view o log).consumers.rows t ≡ None → (view o (Then a ∷ log)).consumers.rows t ≡ Some m →
+        Arises rules o (due_to_plan m.seen.number t) (Then a) log
+    made_on (Answers w verdict) none h = inr (inl (made_due_so (view o log) t w verdict m none h due))
+    made_on a none h = absurd (none_some (sym (none_after (view o log) t a (λ w x g. absurd cc) none) ∙ h))
+
+    was : (n : Member) → (view o log).consumers.rows t ≡ Some n → is_due n.seen ≡ true → ⊥
+    was n e h = let f : true ≡ false = sym h ∙ sym (ap was_due e) ∙ before in cc
+
+    kept_on : (b : Bool) → is_waker a ≡ b → (n : Member) → (view o log).consumers.rows t ≡ Some n →
+        is_due (applied (does_to (view o log) t n a) n.seen) ≡ true → Arises rules o (due_to_plan n.seen.number t) (Then a) log
+    kept_on true w n e d = elim (rises o log t n e a w d) [ inl i ↦ i | inr old ↦ absurd (was n e old) ]
+    kept_on false w n e d = absurd (was n e (falls_due (view o log) t n a w d))
+
+    by : RowFrom o log a t → Arises rules o (due_to_plan m.seen.number t) (Then a) log
+    by (IsNone e f) = absurd (none_some (sym f ∙ is))
+    by (IsMade s l e f how did) = made_on a e is
+    by (IsKept n e r how did) =
+        let same : r.row ≡ m = some_is (sym r.is_it ∙ is) in
+        let seen : m.seen ≡ applied (does_to (view o log) t n a) n.seen = sym (ap (λ (y : Member). y.seen) same) ∙ r.seen in
+        let number : n.seen.number ≡ m.seen.number = sym (ap (λ (s : Seen). s.number) seen ∙ applied_number (does_to (view o log) t n a) n.seen) in
+        subst (λ k. Arises rules o (due_to_plan k t) (Then a) log) number (kept_on (is_waker a) refl n e (sym (ap is_due seen) ∙ due))

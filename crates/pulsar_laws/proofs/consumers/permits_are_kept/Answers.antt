@@ -4,7 +4,7 @@ use Rattle.pulsar_laws.proofs.calls.Once.{ends_once_lem}
 use Rattle.pulsar_laws.proofs.consumers.Placed.{flows_are_placed_lem}
 use Rattle.pulsar_laws.proofs.consumers.Queueing.{flows_are_queued_lem}
 use Rattle.pulsar_laws.proofs.consumers.Taken.{flows_are_counted_lem}
-use Rattle.pulsar_laws.proofs.consumers.Tended.{no_flow_is_due_lem, permits_are_granted_lem}
+use Rattle.pulsar_laws.proofs.consumers.Due.{flows_are_told_lem}
 use Rattle.pulsar_laws.proofs.consumers.permits_are_kept.Goals as goal
 
 pub returns-clause-bounds : goal.returns-clause-bounds
@@ -25,9 +25,5 @@ returns-clause-queued c = λ o log t l m run is on. flows_are_queued_lem ends_on
 pub returns-clause-counted : goal.returns-clause-counted
 returns-clause-counted c = λ o log t l m s run is on made. flows_are_counted_lem ends_once_lem o log t l m s run is on made
 
-pub returns-clause-none_due : goal.returns-clause-none_due
-returns-clause-none_due c = λ o log t m p l run ends is stood rests live. no_flow_is_due_lem ends_once_lem o log t m p l run ends is stood rests live
-
-pub returns-clause-granted : goal.returns-clause-granted
-returns-clause-granted c = λ o log t m p l run ends is stood rests raw live.
-    permits_are_granted_lem ends_once_lem o log t m p l run ends is stood rests raw live
+pub returns-clause-told : goal.returns-clause-told
+returns-clause-told c = λ o log a t m run is due before. flows_are_told_lem ends_once_lem o log a t m run is due before

@@ -19,6 +19,3 @@ pub mod TurnActs
 pub mod TurnRun
 pub mod Users
 pub mod Reread
-pub mod Texts
-pub mod TextReplies
-pub mod Named

@@ -1,6 +1,7 @@
 -- What follows of producers, in plain words.
-use Rattle.std.specs.Prelude.{◌≡◌, ◌⊎◌, ℕ, ◌+◌, ◌-◌, ◌^◌, ◌≤◌, ◌<◌, ◌==◌, ◌&&◌, ◌||◌, not, Bool, true, false, if◌then◌else◌, List, [], ◌∷◌, ◌++◌, Option, Some, None, Ok, Err}
+use Rattle.std.specs.Prelude.{◌≡◌, ◌⊎◌, ℕ, ◌+◌, ◌^◌, ◌≤◌, ◌<◌, ◌==◌, ◌&&◌, Bool, true, false, if◌then◌else◌, List, [], ◌∷◌, ◌++◌, Option, Some, None, Ok, Err}
 use Rattle.std.specs.BTreeMap.{is_at}
+use Rattle.std.specs.Str.{is_utf8}
 use Rattle.std.specs.List.{list_any}
 use Rattle.std.specs.Map.{lookup}
 use Rattle.std.specs.Ordering.{nat_cmp}
@@ -56,10 +57,8 @@ use Rattle.pulsar_plans.specs.declared.plan.Plan.{Plan}
 use Rattle.pulsar_plans.specs.declared.plan.Plan.TheVariants as plan
 use Rattle.pulsar_producer_table.specs.declared.table.Topic.{Topic}
 use Rattle.pulsar_calls.specs.Content.{Said, Failed}
-use Rattle.pulsar_links.specs.Links as links
 use Rattle.pulsar_calls.specs.Parts.{sent_from}
 use Rattle.pulsar_producer_table.specs.Producers.{number_drawn, numbers_at}
-use Rattle.pulsar_plans.specs.Plan.{told}
 use Rattle.pulsar_acts.specs.Rules.{joins, notice}
 use Rattle.pulsar_acts.specs.Run.{Entry, Begins, Then, IsRun, Rests, view}
 use Rattle.pulsar_acts.specs.View.{View, room_of}
@@ -148,19 +147,19 @@ QueuedAsAsked = (o : Options) (log : List Entry) (l place : ℕ) (seat : Seat) (
     (id : ℕ) × (frame : List ℕ) × (frame_for (message_of id (view o log).now request) ≡ Some frame)
     × (frame_at place (session.after (Asks (view o log).now request) seat.seen) ≡ Some frame)
 
--- What the types of a client's values say of a message: its numbers and texts are in range, the moment has 64 bits, and what is written is bytes.
+-- What the types of a client's values say of a message and of its producer's name: the name is a text, numbers and texts are in range, the moment has
+-- 64 bits, and what is written is bytes.
 abbrev pub IsTyped : (now sequence : ℕ) → (name : List ℕ) → ProducerMessageValues → Type 0
 IsTyped now s name m =
-    (now < 2 ^ 64) × InRange message_metadata (metadata_of 0 [] 0 m)
+    (now < 2 ^ 64) × (is_utf8 name ≡ true) × InRange message_metadata (metadata_of 0 [] 0 m)
     × AreBytes (covered_bytes (record { metadata = metadata_of now name s m; bytes = m.payload }))
 
 -- And whoever decodes it reads the message: its payload, and what it says of that, under the producer's name and the number. Its sizes fit, since it
--- was queued, or stands in the line; so do the numbers of the producer and of the message, of which none is drawn beyond 64 bits; and the name is a
--- text, since a reply of the broker said it.
+-- was queued, or stands in the line; and so do the numbers of the producer and of the message, of which none is drawn beyond 64 bits.
 abbrev pub FramesAreReadAgain : Type 0
 FramesAreReadAgain = (o : Options) (log : List Entry) (id l n s : ℕ) (name : List ℕ) (m : ProducerMessageValues) (block : Bool) (place : Asked)
     (row : Topic) (behind : List ℕ) →
-    o.chosen.first_number < 2 ^ 64 → IsRun o log → (view o log).producers.topics n ≡ Some row → row.seen.next ≡ s + 1 → row.seen.given.name ≡ name →
+    o.chosen.first_number < 2 ^ 64 → IsRun o log → (view o log).producers.topics n ≡ Some row → row.seen.next ≡ s + 1 →
     answer_at (view o log).now (words.Send n name s m block) ((view o log).links.live l) ≡ Ok place → IsTyped (view o log).now s name m →
     (read : MessageValues)
     × (front (frame_bytes (message_of id (view o log).now (words.Send n name s m block)) ++ behind) ≡ Whole read behind)

@@ -27,8 +27,6 @@ use Rattle.pulsar_laws.proofs.Cases.{cond_so}
 use Rattle.pulsar_laws.proofs.links.Queued.{read_so}
 use Rattle.pulsar_laws.proofs.producers.Drawing.{Drawn, drawn_run, here}
 use Rattle.pulsar_laws.proofs.producers.Free.{low_run}
-use Rattle.pulsar_laws.proofs.producers.Named.{names_are_texts}
-use Rattle.pulsar_laws.proofs.producers.Texts.{IsText}
 use Rattle.pulsar_laws.proofs.producers.Topics.{topics_alone_lem}
 use Rattle.pulsar_laws.specs.ProducerLaws.{FramesAreReadAgain, acts_on}
 
@@ -110,9 +108,8 @@ send_in_range n s count p q r = (refl, ((p, tt), ((q, tt), (r, tt))))
 -- THE LAW
 
 pub frames_are_read_again_lem : FramesAreReadAgain
-frames_are_read_again_lem o log id l n s name m block place row behind low run is next called answer typed =
+frames_are_read_again_lem o log id l n s name m block place row behind low run is next answer typed =
     let now : ℕ = (view o log).now in
-    let text : IsText name = subst IsText called (names_are_texts o log n row run is) in
     let request : Words = words.Send n name s m block in
     let f = answered_fits place now request ((view o log).links.live l) answer in
     let drawn_so = here (Drawn o) log (drawn_run o log run) in
@@ -123,7 +120,7 @@ frames_are_read_again_lem o log id l n s name m block place row behind low run i
     subst IsLow (sym alone.3) (seen_low (record { built = alone.0; first_number = o.chosen.first_number; limits = alone.1 }) (acts_on o n log) low) in
     let producer : n < 2 ^ 64 = omega (arith, below, most) in
     let sequence : s < 2 ^ 64 = omega (arith, all, next) in
-    let said : InRange rows.message_metadata (metadata_of 0 [] 0 m) = typed.1 in
+    let said : InRange rows.message_metadata (metadata_of 0 [] 0 m) = typed.2 in
     read_so id now n s name m block behind (fits_frame (message_of id now request) f.1)
     (send_in_range n s m.num_messages_in_batch producer sequence said.1.1.1.1.1.1.1.1.1.0)
-    (((text, tt), ((sequence, tt), ((typed.0, tt), said.1.1.1))), typed.2)
+    (((typed.1, tt), ((sequence, tt), ((typed.0, tt), said.1.1.1))), typed.3)

@@ -16,7 +16,7 @@ pub struct ConnectionRetryOptions {
     pub max_retries: u32,
     /// How long an attempt may take until its connection is ready.
     pub connection_timeout: u64,
-    /// How often a ready connection is asked for a sign of life.
+    /// How often a ready connection is pinged.
     pub keep_alive: u64,
     /// How long a connection that nothing uses is kept.
     pub connection_max_idle: u64,

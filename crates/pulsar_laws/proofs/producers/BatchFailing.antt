@@ -36,6 +36,7 @@ pub never_told : (o : Options) (log : List Entry) (who : Who) (u : Outcome) → 
 never_told o log who u run = by u run
   where
     none : (v : View) (action : Action) (x : Heard) → GivenBy v action (news.Told x) → ⊥
+    none v (OfTopic n ask) x h = h
     none v _ x h = h
 
     by : (u : Outcome) → IsRun o (Then (Told (notice who u)) ∷ log) → is_told_news u ≡ false

@@ -1,5 +1,5 @@
 -- The frame of a batch, as its topic producer asks for it.
-use Rattle.std.proofs.Common.{◌≡◌, inl, inr, ◌∙◌, sym, ap, subst, ℕ, ◌+◌, List, ◌∷◌, refl, Bool, true, false, cond, Option, Some, None, Ok, []}
+use Rattle.std.proofs.Common.{◌≡◌, ◌==◌, inl, inr, ◌∙◌, sym, ap, subst, ℕ, ◌+◌, List, ◌∷◌, refl, Bool, true, false, cond, Option, Some, None, Ok, []}
 use Rattle.pulsar_laws.proofs.ActWords.{Action, Ask, Does, Draw, Notice, OfTopic, Outcome, Procedure, Producer, Rest, Starts, Told}
 use Rattle.pulsar_laws.proofs.PlanWords.{action_of, Batches, Batching, begins, Deed, Drawn, Errand, Member, News, news_of, Plan, Sending as Send, Stays, told, Ways}
 use Rattle.pulsar_laws.proofs.RunWords.{Begins, Entry, In, IsRun, notice, Options, room_of, Then, view}

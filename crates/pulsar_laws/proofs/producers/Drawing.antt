@@ -41,6 +41,7 @@ use Rattle.pulsar_run.specs.Things.{along, Keeps}
 use Rattle.pulsar_run.proofs.Things.{came, WasIn, IsNewIn}
 use Rattle.pulsar_acts.specs.View.{topic_born, topic_of, building_of}
 use Rattle.pulsar_laws.specs.ProducerLaws.{topic_acts}
+use Rattle.pulsar_acts.specs.Things.{topics}
 
 -- ALL THAT IS SO ALONG A LOG
 

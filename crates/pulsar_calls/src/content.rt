@@ -145,10 +145,9 @@ impl Granted {
     }
 }
 
-/// A topic producer that was made again: its number, its link, and what its broker says of it.
+/// A topic producer that was made again: its link, and what its broker says of it.
 #[derive(Drop)]
 pub struct Remaking {
-    pub number: u64,
     pub link: u64,
     pub given: Given,
 }

@@ -25,7 +25,8 @@ use Rattle.pulsar_outgoing.specs.declared.news.News.TheVariants as news
 use Rattle.pulsar_outgoing.specs.declared.orders.Errand.{Errand}
 use Rattle.pulsar_outgoing.specs.declared.orders.Order.{Order}
 use Rattle.pulsar_calls.specs.declared.act.Act.TheVariants.{Answers, Comes, Starts, Told, Does}
-use Rattle.pulsar_calls.specs.declared.act.Action.TheVariants.{Ask, Shut, Store, TakeBatch, TellAll}
+use Rattle.pulsar_calls.specs.declared.act.Action.TheVariants.{OfTopic, Ask, Shut, TellAll}
+use Rattle.pulsar_calls.specs.declared.act.TopicAsk.TheVariants.{Store, TakeBatch}
 use Rattle.pulsar_calls.specs.declared.act.Makes.TheVariants.{Nothing}
 use Rattle.pulsar_calls.specs.declared.act.Notice.{Notice}
 use Rattle.pulsar_calls.specs.declared.act.Outcome.{Outcome}
@@ -54,7 +55,7 @@ use Rattle.pulsar_calls.specs.Who.{behind_all, is_same}
 abbrev pub under_way : Options → (number : ℕ) → List Entry → Option (List Item)
 under_way o n [] = None
 under_way o n (Then (Starts who p) ∷ log) = if is_same (Producer n) who then None else under_way o n log
-under_way o n (Then (Does who (TakeBatch m)) ∷ log) =
+under_way o n (Then (Does who (OfTopic m TakeBatch)) ∷ log) =
     if is_same (Producer n) who then next_batch_at ((view o log).producers.topics m) else under_way o n log
 under_way o n (Then (Does who (TellAll ns)) ∷ log) = if is_same (Producer n) who then None else under_way o n log
 under_way o n (_ ∷ log) = under_way o n log
@@ -69,7 +70,7 @@ MayTake n log =
 
 -- A topic producer takes its next batch only where none is under way: all of the one before were told.
 abbrev pub BatchesOneByOne : Type 0
-BatchesOneByOne = (o : Options) (log : List Entry) (n m : ℕ) → IsRun o (Then (Does (Producer n) (TakeBatch m)) ∷ log) →
+BatchesOneByOne = (o : Options) (log : List Entry) (n m : ℕ) → IsRun o (Then (Does (Producer n) (OfTopic m TakeBatch)) ∷ log) →
     (m ≡ n) × (under_way o n log ≡ None) × MayTake n log
 
 -- WHAT BECOMES OF A BATCH
@@ -97,7 +98,7 @@ AskedAs n s log =
 abbrev pub told_since : (number : ℕ) → List Entry → List Outcome
 told_since n [] = []
 told_since n (Then (Told x) ∷ log) = if is_same (Producer n) x.who then x.outcome ∷ told_since n log else told_since n log
-told_since n (Then (Does who (TakeBatch m)) ∷ log) = if is_same (Producer n) who then [] else told_since n log
+told_since n (Then (Does who (OfTopic m TakeBatch)) ∷ log) = if is_same (Producer n) who then [] else told_since n log
 told_since n (_ ∷ log) = told_since n log
 
 -- The batch of these items failed as the send of its one message does: with the fault of an outcome that its topic producer was told since it
@@ -233,7 +234,7 @@ BringsEntry o x e older =
 
 -- A call stores its own message, in the step in which it is made, as the first thing that it does.
 abbrev pub StoredAtOnce : Type 0
-StoredAtOnce = (o : Options) (log : List Entry) (t n : ℕ) (x : EntryValues) → IsRun o (Then (Does (Call t) (Store n x)) ∷ log) →
+StoredAtOnce = (o : Options) (log : List Entry) (t n : ℕ) (x : EntryValues) → IsRun o (Then (Does (Call t) (OfTopic n (Store x))) ∷ log) →
     (share : Option Share) × (older : List Entry) × (log ≡ Then (Starts (Call t) (procedure.Store n share x)) ∷ older)
     × InThisStep (BringsEntry o x) older
 

@@ -5,7 +5,7 @@ use Rattle.std.specs.Prelude.{◌&&◌, not}
 use Rattle.pulsar_addresses.specs.Address.{Named, Place}
 use Rattle.pulsar_calls.specs.Content.{Said}
 use Rattle.pulsar_calls.specs.declared.act.Action.{Action}
-use Rattle.pulsar_calls.specs.declared.act.Action.TheVariants.{Ask, FailConsumer, Find, FindConsumer, Flush, Get, Number, PassTurn, RecallConsumer, Rest, Revive, Shut, StopAll, Store, TakeFlow, TakeNumber, TakeTurn, TellAll, Wait}
+use Rattle.pulsar_calls.specs.declared.act.Action.TheVariants.{Ask, FailConsumer, FindConsumer, Get, Number, OfTopic, RecallConsumer, Rest, Revive, Shut, StopAll, TakeFlow, TakeNumber, TellAll, Wait}
 use Rattle.pulsar_calls.specs.declared.act.Makes.TheVariants.{Nothing}
 use Rattle.pulsar_calls.specs.declared.act.Outcome.{Outcome}
 use Rattle.pulsar_calls.specs.declared.act.Place.TheVariants.{Link}
@@ -13,6 +13,7 @@ use Rattle.pulsar_calls.specs.declared.act.Procedure.{Procedure}
 use Rattle.pulsar_calls.specs.declared.act.Refusal.{Refusal}
 use Rattle.pulsar_calls.specs.declared.act.Round.TheVariants.{Checks, Flushes}
 use Rattle.pulsar_calls.specs.declared.act.Share.{Share}
+use Rattle.pulsar_calls.specs.declared.act.TopicAsk.TheVariants.{Find, Flush, PassTurn, Store, TakeTurn}
 use Rattle.pulsar_calls.specs.declared.act.Verdict.{Verdict}
 use Rattle.pulsar_exchange.specs.Messages.{Reply}
 use Rattle.pulsar_messages.specs.Words.{Words}
@@ -199,7 +200,7 @@ pub data Arc : Plan → Outcome → Plan → Action → Type 0 where
       Arc (Sending w e (Some h) s) u (Leaving f) (tells h (parted h (Some f)))
   part_halts : {w : Ways} {e : Errand} {h : Share} {s : Send} {u : Outcome} {f : Failure} → overrides u ≡ true →
       Arc (Sending w e (Some h) s) u (Leaving f) (tells h outcome.Stopped)
-  reports_on : {w : Ways} {e : Errand} {u : Outcome} → Arc (Reporting w e) u (Sending w e None send.Sent) (PassTurn e.producer)
+  reports_on : {w : Ways} {e : Errand} {u : Outcome} → Arc (Reporting w e) u (Sending w e None send.Sent) (OfTopic e.producer PassTurn)
   stores : Arc (Storing None) (outcome.Granted news.Done) Stored Rest
   part_stores : {h : Share} → Arc (Storing (Some h)) (outcome.Granted news.Done) Stored (tells h (parted h None))
   stored_rests : Arc Stored (outcome.Granted news.Done) Stored Rest
@@ -211,24 +212,24 @@ pub data Arc : Plan → Outcome → Plan → Action → Type 0 where
       Arc (Batching w e (batching.Sending ms c s)) u (Batching w e batching.Settling) (TellAll (map told_to rs))
   gathers_on : {first count left t : ℕ} {fs : List (ℕ × Failure)} {f : Option Failure} →
       Arc (Gathering first count left fs) (outcome.Parted t f) (Gathering first count (left - 1) (failed_with t f fs)) Rest
-  shuts : {n : ℕ} {left : List ℕ} → Arc (Shutting (n ∷ left)) (outcome.Granted news.Done) (Visiting Closes n left at.Settling) (Flush n)
+  shuts : {n : ℕ} {left : List ℕ} → Arc (Shutting (n ∷ left)) (outcome.Granted news.Done) (Visiting Closes n left at.Settling) (OfTopic n Flush)
   settled_turns : {r : Round} {n : ℕ} {left : List ℕ} →
-      Arc (Visiting r n left at.Settling) (outcome.Granted news.Done) (Visiting r n left at.Turning) (TakeTurn n)
+      Arc (Visiting r n left at.Settling) (outcome.Granted news.Done) (Visiting r n left at.Turning) (OfTopic n TakeTurn)
   settled_goes : {n m : ℕ} {left : List ℕ} →
-      Arc (Visiting Flushes n (m ∷ left) at.Settling) (outcome.Granted news.Done) (Visiting Flushes m left at.Settling) (Flush m)
+      Arc (Visiting Flushes n (m ∷ left) at.Settling) (outcome.Granted news.Done) (Visiting Flushes m left at.Settling) (OfTopic m Flush)
   turned_finds : {r : Round} {n : ℕ} {left : List ℕ} {v : Option (List ℕ)} →
-      Arc (Visiting r n left at.Turning) (outcome.Granted (news.HasTurn v)) (Visiting r n left at.Finding) (Find n)
+      Arc (Visiting r n left at.Turning) (outcome.Granted (news.HasTurn v)) (Visiting r n left at.Finding) (OfTopic n Find)
   found_asks : {r : Round} {n : ℕ} {left : List ℕ} {l : ℕ} →
       Arc (Visiting r n left at.Finding) (outcome.GotLink l) (Visiting r n left at.Asking) (Ask l (asks_of r n))
-  finds_not : {r : Round} {n : ℕ} {left : List ℕ} {u : Outcome} {f : Failure} → Arc (Visiting r n left at.Finding) u (Leaving f) (PassTurn n)
-  asked_passes : {r : Round} {n : ℕ} {left : List ℕ} → Arc (Visiting r n left at.Asking) outcome.Queued (Visiting r n left at.Passing) (PassTurn n)
-  line_passes : {r : Round} {n : ℕ} {left : List ℕ} → Arc (Visiting r n left at.Asking) outcome.InLine (Visiting r n left at.Passing) (PassTurn n)
-  asks_not : {r : Round} {n : ℕ} {left : List ℕ} {u : Outcome} {f : Failure} → Arc (Visiting r n left at.Asking) u (Leaving f) (PassTurn n)
+  finds_not : {r : Round} {n : ℕ} {left : List ℕ} {u : Outcome} {f : Failure} → Arc (Visiting r n left at.Finding) u (Leaving f) (OfTopic n PassTurn)
+  asked_passes : {r : Round} {n : ℕ} {left : List ℕ} → Arc (Visiting r n left at.Asking) outcome.Queued (Visiting r n left at.Passing) (OfTopic n PassTurn)
+  line_passes : {r : Round} {n : ℕ} {left : List ℕ} → Arc (Visiting r n left at.Asking) outcome.InLine (Visiting r n left at.Passing) (OfTopic n PassTurn)
+  asks_not : {r : Round} {n : ℕ} {left : List ℕ} {u : Outcome} {f : Failure} → Arc (Visiting r n left at.Asking) u (Leaving f) (OfTopic n PassTurn)
   passed_waits : {r : Round} {n : ℕ} {left : List ℕ} → Arc (Visiting r n left at.Passing) (outcome.Granted news.Done) (Visiting r n left at.Awaiting) Rest
   answered_turns : {n m : ℕ} {left : List ℕ} {reply : Reply} →
-      Arc (Visiting Checks n (m ∷ left) at.Awaiting) (outcome.Replied reply) (Visiting Checks m left at.Turning) (TakeTurn m)
+      Arc (Visiting Checks n (m ∷ left) at.Awaiting) (outcome.Replied reply) (Visiting Checks m left at.Turning) (OfTopic m TakeTurn)
   answered_settles : {r : Round} {n m : ℕ} {left : List ℕ} {reply : Reply} →
-      Arc (Visiting r n (m ∷ left) at.Awaiting) (outcome.Replied reply) (Visiting r m left at.Settling) (Flush m)
+      Arc (Visiting r n (m ∷ left) at.Awaiting) (outcome.Replied reply) (Visiting r m left at.Settling) (OfTopic m Flush)
   awaiting_rests : {r : Round} {n : ℕ} {left : List ℕ} → Arc (Visiting r n left at.Awaiting) outcome.Queued (Visiting r n left at.Awaiting) Rest
   subscribing_rests : {w : Ways} {o : ConsumerOrder} {b : ConsumerBuild} {u : Outcome} → consumer_news_of u ≡ None →
       Arc (Subscribing w o b) u (Subscribing w o b) Rest
@@ -535,13 +536,13 @@ pub data Begun : Procedure → Plan → Action → Type 0 where
   begins_numbers : {w : Ways} {o : Order} (m : Named) (left : List Named) →
       Begun (procedure.Produce w o) (Producing w o (build.Numbering (record { topic = m.name; place = m.place; left = left; made = [] }))) Number
   begins_send : {w : Ways} {e : Errand} {share : Option Share} {m : ProducerMessageValues} →
-      Begun (procedure.Send w e share m) (Sending w e share (send.Waiting m)) (TakeTurn e.producer)
-  begins_storing : {n : ℕ} {share : Option Share} {x : EntryValues} → Begun (procedure.Store n share x) (Storing share) (Store n x)
+      Begun (procedure.Send w e share m) (Sending w e share (send.Waiting m)) (OfTopic e.producer TakeTurn)
+  begins_storing : {n : ℕ} {share : Option Share} {x : EntryValues} → Begun (procedure.Store n share x) (Storing share) (OfTopic n (Store x))
   begins_batch : {w : Ways} {e : Errand} → Begun (procedure.Batch w e) (Batching w e batching.Resting) Rest
   begins_leaving : {h : Share} {x : Refusal} {f : Failure} → Begun (procedure.FailShare h x) (Leaving f) (tells h (parted h (Some f)))
   begins_gather : {first count : ℕ} → Begun (procedure.Gather first count) (Gathering first count count []) Rest
-  begins_checks : {n : ℕ} {left : List ℕ} → Begun (procedure.Go Checks (n ∷ left)) (Visiting Checks n left at.Turning) (TakeTurn n)
-  begins_visits : {r : Round} {n : ℕ} {left : List ℕ} → Begun (procedure.Go r (n ∷ left)) (Visiting r n left at.Settling) (Flush n)
+  begins_checks : {n : ℕ} {left : List ℕ} → Begun (procedure.Go Checks (n ∷ left)) (Visiting Checks n left at.Turning) (OfTopic n TakeTurn)
+  begins_visits : {r : Round} {n : ℕ} {left : List ℕ} → Begun (procedure.Go r (n ∷ left)) (Visiting r n left at.Settling) (OfTopic n Flush)
   begins_close : {t : ℕ} {ns : List ℕ} → Begun (procedure.Close t ns) (Shutting ns) (Shut t)
   begins_subscribe_gets : {w : Ways} {o : ConsumerOrder} {k : Naming} {at : Place} → search.names_begins w o.topic ≡ search_turn.Stays k (wish.Get at) →
       Begun (procedure.Subscribe w o) (Subscribing w o (consumer_build.Naming k)) (Get at)

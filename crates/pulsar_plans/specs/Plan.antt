@@ -12,7 +12,8 @@ use Rattle.pulsar_exchange.specs.Messages.{Reply, Written, is_body}
 use Rattle.pulsar_exchange.specs.Refusals.{refused}
 use Rattle.pulsar_exchange.specs.Request.{Subscribed, answer_of, is_answered, request_number, subscribed}
 use Rattle.pulsar_calls.specs.declared.act.Action.{Action}
-use Rattle.pulsar_calls.specs.declared.act.Action.TheVariants.{Get, Ask, Wait, TakeTurn, PassTurn, Draw, Recall, Remake, Number, Find, Shut, Store, Flush, TakeBatch, TakeNumber, FindConsumer, TakeFlow, RecallConsumer, Revive, FailConsumer, Tell, TellAll, StopAll, Rest}
+use Rattle.pulsar_calls.specs.declared.act.Action.TheVariants.{OfTopic, Get, Ask, Wait, Number, Hold, Shut, TakeNumber, FindConsumer, TakeFlow, RecallConsumer, Revive, FailConsumer, Tell, TellAll, StopAll, Rest}
+use Rattle.pulsar_calls.specs.declared.act.TopicAsk.TheVariants.{TakeTurn, PassTurn, Draw, Recall, Remake, Find, Store, Flush, TakeBatch}
 use Rattle.pulsar_calls.specs.declared.act.Makes.{Makes}
 use Rattle.pulsar_calls.specs.declared.act.Makes.TheVariants.{Nothing, Client, Consumer, RawConsumer, Producer}
 use Rattle.pulsar_calls.specs.declared.act.Round.{Round}
@@ -247,15 +248,16 @@ told_to r = record { who = Call r.ticket; outcome = told_of r.fate }
 -- what one does
 abbrev pub action_of : Deed → Action
 action_of (deed.Does wish) = wished wish
-action_of (deed.TakesTurn n) = TakeTurn n
-action_of (deed.Draws n) = Draw n
+action_of (deed.TakesTurn n) = OfTopic n TakeTurn
+action_of (deed.Draws n) = OfTopic n Draw
 action_of (deed.Sends link s) = Ask link (words.Send s.producer s.name s.sequence s.message s.block)
-action_of (deed.PassesTurn n) = PassTurn n
-action_of (deed.Recalls n) = Recall n
-action_of (deed.Remakes n link given) = Remake (record { number = n; link = link; given = given })
+action_of (deed.PassesTurn n) = OfTopic n PassTurn
+action_of (deed.Recalls n) = OfTopic n Recall
+action_of (deed.Remakes n link given) = OfTopic n (Remake (record { link = link; given = given }))
 action_of deed.Numbers = Number
+action_of (deed.Holds link n) = Hold link n
 action_of (deed.ClosesProducer link n) = Ask link (words.CloseProducer n)
-action_of (deed.TakesBatch n) = TakeBatch n
+action_of (deed.TakesBatch n) = OfTopic n TakeBatch
 action_of (deed.Settles reports) = TellAll (map told_to reports)
 action_of deed.Rests = Rest
 
@@ -318,7 +320,7 @@ goes_on_sending w e share (step.Gives (Ok r)) = receipted r
 goes_on_sending w e share (step.Gives (Err f)) = leaves share f
 
 abbrev pub reported : Ways → Errand → Turn Plan Verdict
-reported w e = Stays (Sending w e None send.Sent) (PassTurn e.producer)
+reported w e = Stays (Sending w e None send.Sent) (OfTopic e.producer PassTurn)
 
 -- the stop of the client overrides it, until it is queued
 abbrev pub overrides : Outcome → Bool
@@ -402,29 +404,29 @@ stays_at r n left x action = Stays (Visiting r n left x) action
 
 -- the turn is over, and then it fails
 abbrev pub quits : Round → (number : ℕ) → Fault → Turn Plan Verdict
-quits r n f = Stays (Leaving (failure_in r f)) (PassTurn n)
+quits r n f = Stays (Leaving (failure_in r f)) (OfTopic n PassTurn)
 
 -- what a topic producer stores is settled before it is closed, and before its flush is done
 abbrev pub visits : Round → (number : ℕ) → List ℕ → Turn Plan Verdict
-visits Checks n left = stays_at Checks n left at.Turning (TakeTurn n)
-visits Flushes n left = stays_at Flushes n left at.Settling (Flush n)
-visits Closes n left = stays_at Closes n left at.Settling (Flush n)
+visits Checks n left = stays_at Checks n left at.Turning (OfTopic n TakeTurn)
+visits Flushes n left = stays_at Flushes n left at.Settling (OfTopic n Flush)
+visits Closes n left = stays_at Closes n left at.Settling (OfTopic n Flush)
 
 abbrev pub goes_round : Round → List ℕ → Turn Plan Verdict
 goes_round r [] = Gives (verdict Nothing Done)
 goes_round r (n ∷ left) = visits r n left
 
 abbrev pub is_settled : Round → (number : ℕ) → List ℕ → Turn Plan Verdict
-is_settled Checks n left = stays_at Checks n left at.Turning (TakeTurn n)
+is_settled Checks n left = stays_at Checks n left at.Turning (OfTopic n TakeTurn)
 is_settled Flushes n left = goes_round Flushes left
-is_settled Closes n left = stays_at Closes n left at.Turning (TakeTurn n)
+is_settled Closes n left = stays_at Closes n left at.Turning (OfTopic n TakeTurn)
 
 abbrev pub in_settling : Round → (number : ℕ) → List ℕ → Outcome → Turn Plan Verdict
 in_settling r n left (Granted granting.Done) = is_settled r n left
 in_settling r n left o = fails_in r (fault_of o)
 
 abbrev pub in_turning : Round → (number : ℕ) → List ℕ → Outcome → Turn Plan Verdict
-in_turning r n left (Granted (granting.HasTurn version)) = stays_at r n left at.Finding (Find n)
+in_turning r n left (Granted (granting.HasTurn version)) = stays_at r n left at.Finding (OfTopic n Find)
 in_turning r n left o = fails_in r (fault_of o)
 
 abbrev pub in_finding : Round → (number : ℕ) → List ℕ → Outcome → Turn Plan Verdict
@@ -432,8 +434,8 @@ in_finding r n left (GotLink link) = stays_at r n left at.Asking (Ask link (asks
 in_finding r n left o = quits r n (fault_of o)
 
 abbrev pub in_asking : Round → (number : ℕ) → List ℕ → Outcome → Turn Plan Verdict
-in_asking r n left Queued = stays_at r n left at.Passing (PassTurn n)
-in_asking r n left InLine = stays_at r n left at.Passing (PassTurn n)
+in_asking r n left Queued = stays_at r n left at.Passing (OfTopic n PassTurn)
+in_asking r n left InLine = stays_at r n left at.Passing (OfTopic n PassTurn)
 in_asking r n left o = quits r n (fault_of o)
 
 abbrev pub in_passing : Round → (number : ℕ) → List ℕ → Outcome → Turn Plan Verdict
@@ -615,7 +617,7 @@ begins (procedure.Ask (Link link) request s) = asks link request s
 begins (procedure.Search ways what) = goes ways (search.begins ways what)
 begins (procedure.Produce ways order) = builds ways order (produce.build_begins ways order)
 begins (procedure.Send ways errand share message) = goes_on_sending ways errand share (produce.send_begins errand message)
-begins (procedure.Store n share e) = Stays (Storing share) (Store n e)
+begins (procedure.Store n share e) = Stays (Storing share) (OfTopic n (Store e))
 begins (procedure.Batch ways errand) = batches_on ways errand batches.begins
 begins (procedure.FailShare share r) = leaves (Some share) (failure_of r)
 begins (procedure.Gather first count) = gathers first count count []

@@ -14,7 +14,7 @@ use crate::{
 };
 use pulsar_addresses::content::Refusal as Failure;
 use pulsar_calls::act::{
-    Action, Makes, Outcome, Place, Procedure, Refusal, Round, Says, Share, Verdict,
+    Action, Makes, Outcome, Place, Procedure, Refusal, Round, Says, Share, TopicAsk, Verdict,
 };
 use pulsar_calls::content::{Failures, Numbers, Said};
 use pulsar_calls::effect::Answer;
@@ -176,7 +176,10 @@ pub fn begins(alloc: Global, procedure: Procedure) -> Result<Turn<Plan, Verdict>
             number,
             share,
             entry,
-        } => Ok(Turn::Stays(Plan::Storing(share), Action::Store { number, entry })),
+        } => Ok(Turn::Stays(
+            Plan::Storing(share),
+            of_topic(number, TopicAsk::Store(entry)),
+        )),
         Procedure::Batch { ways, errand } => batches::begins(alloc, ways, errand),
         Procedure::FailShare { share, refusal } => {
             let error = refusal_error(alloc, refusal)?;
@@ -444,6 +447,13 @@ pub fn left(alloc: Global, failure: Failure) -> Result<Turn<Plan, Verdict>, NoMe
         makes: Makes::Nothing,
         said,
     }))
+}
+
+/// This is asked of a topic producer.
+pub fn of_topic(number: u64, ask: TopicAsk) -> Action
+    ensures { result ≡ Action.OfTopic number ask }
+{
+    Action::OfTopic { number, ask }
 }
 
 /// The end of a plan that failed.

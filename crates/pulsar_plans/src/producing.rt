@@ -8,10 +8,10 @@ ghost use Rattle.pulsar_plans.specs.Plan.{action_of, built_of, builds, news_of, 
 ghost use Rattle.pulsar_plans.specs.declared.plan.Plan.TheVariants.{Producing};
 
 use crate::batches::tells_all;
-use crate::plan::{Plan, Turn, error_of, fails, left, overrides};
+use crate::plan::{Plan, Turn, error_of, fails, left, of_topic, overrides};
 use crate::search::{news_in, wished};
 use crate::states::BuildState;
-use pulsar_calls::act::{Action, Makes, Outcome, Verdict};
+use pulsar_calls::act::{Action, Makes, Outcome, TopicAsk, Verdict};
 use pulsar_calls::content::{Building as Built, Made, Remade, Remaking, Said};
 use pulsar_calls::effect::Answer;
 use pulsar_exchange::content::Request;
@@ -132,32 +132,29 @@ pub fn action_of(alloc: Global, deed: Deed) -> Result<Action, NoMemory>
 {
     match deed {
         Deed::Does(wish) => wished(alloc, wish),
-        Deed::TakesTurn(number) => Ok(Action::TakeTurn(number)),
-        Deed::Draws(number) => Ok(Action::Draw(number)),
+        Deed::TakesTurn(number) => Ok(of_topic(number, TopicAsk::TakeTurn)),
+        Deed::Draws(number) => Ok(of_topic(number, TopicAsk::Draw)),
         Deed::Sends { link, send } => Ok(Action::Ask {
             link,
             request: request_of(alloc, send)?,
         }),
-        Deed::PassesTurn(number) => Ok(Action::PassTurn(number)),
-        Deed::Recalls(number) => Ok(Action::Recall(number)),
+        Deed::PassesTurn(number) => Ok(of_topic(number, TopicAsk::PassTurn)),
+        Deed::Recalls(number) => Ok(of_topic(number, TopicAsk::Recall)),
         Deed::Remakes {
             number,
             link,
             given,
-        } => Ok(Action::Remake(Remade::new(
-            alloc,
-            Remaking {
-                number,
-                link,
-                given,
-            },
-        )?)),
+        } => {
+            let remade = Remade::new(alloc, Remaking { link, given })?;
+            Ok(of_topic(number, TopicAsk::Remake(remade)))
+        }
         Deed::Numbers => Ok(Action::Number),
+        Deed::Holds { link, number } => Ok(Action::Hold { link, number }),
         Deed::ClosesProducer { link, number } => Ok(Action::Ask {
             link,
             request: closes(alloc, number)?,
         }),
-        Deed::TakesBatch(number) => Ok(Action::TakeBatch(number)),
+        Deed::TakesBatch(number) => Ok(of_topic(number, TopicAsk::TakeBatch)),
         Deed::Settles(reports) => tells_all(alloc, reports),
         Deed::Rests => Ok(Action::Rest),
     }

@@ -198,6 +198,7 @@ pub data BuildArc (w : Ways) (o : Order) : Build → News → Build → Deed →
   numbered_makes : {p : Part} {i : ℕ} →
       BuildArc w o (build.Numbering p) (news.Numbered i) (build.Making (command p.topic i o.name o.options) (making.Getting 0) i p.left p.made)
       (deed.Does (wish.Get p.place))
+  held_numbers : {p : Part} → BuildArc w o (build.Numbering p) news.Done (build.Numbering p) deed.Numbers
   numbered_closes : {p : Part} {y : News} {rest : List Built} {f : Failure} (b : Built) → p.made ≡ b ∷ rest →
       BuildArc w o (build.Numbering p) y (build.Closing rest f) (deed.ClosesProducer b.link b.number)
   builds_on_gets : {c : Command} {s k : Making} {i : ℕ} {left : List Named} {made : List Built} {x : Heard} {at : Place} →
@@ -211,7 +212,8 @@ pub data BuildArc (w : Ways) (o : Order) : Build → News → Build → Deed →
       BuildArc w o (build.Making c s i left made) (news.Told x) (build.Making c k i left made) (deed.Does (wish.Wait delay))
   built_numbers : {c : Command} {s : Making} {i : ℕ} {m : Named} {left : List Named} {made : List Built} {x : Heard} (new : Served) →
       BuildArc w o (build.Making c s i (m ∷ left) made) (news.Told x)
-      (build.Numbering (record { topic = m.name; place = m.place; left = left; made = made ++ produce.built c.topic i new ∷ [] })) deed.Numbers
+      (build.Numbering (record { topic = m.name; place = m.place; left = left; made = made ++ produce.built c.topic i new ∷ [] }))
+      (deed.Holds new.link i)
   built_closes : {c : Command} {s : Making} {i : ℕ} {b : Built} {left : List Named} {rest : List Built} {x : Heard} {f : Failure} →
       BuildArc w o (build.Making c s i left (b ∷ rest)) (news.Told x) (build.Closing rest f) (deed.ClosesProducer b.link b.number)
   building_rests : {c : Command} {s : Making} {i : ℕ} {left : List Named} {made : List Built} {y : News} →
@@ -242,7 +244,7 @@ abbrev pub BuildTo : Ways → Order → Build → News → Builds → Type 0
 BuildTo w o b y = StepTo (BuildArc w o b y) (BuildEnd b y)
 
 module _ (w : Ways) (o : Order) where
-  named : (n : Naming) (x : Heard) (names : List Named) → BuildTo w o (build.Naming n) (news.Told x) (produce.build_next names [])
+  named : (n : Naming) (x : Heard) (names : List Named) → BuildTo w o (build.Naming n) (news.Told x) (produce.build_next deed.Numbers names [])
   named n x [] = none_named
   named n x (m ∷ names) = named_numbers m names
 
@@ -281,6 +283,7 @@ pub build_arcs : (w : Ways) (o : Order) (b : Build) (y : News) → BuildTo w o b
 build_arcs w o (build.Naming n) (news.Told x) = names w o n x (search.names_told w o.topic n x) refl
 build_arcs w o (build.Naming n) _ = naming_rests
 build_arcs w o (build.Numbering p) (news.Numbered n) = numbered_makes
+build_arcs w o (build.Numbering p) news.Done = held_numbers
 build_arcs w o (build.Numbering p) y = unnumbered w o p y p.made (OfConnection (fault_told y)) refl
 build_arcs w o (build.Making c s i left made) (news.Told x) = makes w o c s i x left made (search.made_told w c s x) refl
 build_arcs w o (build.Making c s i left made) _ = building_rests

@@ -105,6 +105,7 @@ fn in_numbering(alloc: Global, order: &Order, part: Part, news: News) -> Result<
 {
     match news {
         News::Numbered(number) => numbered(alloc, order, part, number),
+        News::Done => Ok(Step::Stays(Building::Numbering(part), Deed::Numbers)),
         news => {
             let refusal = Refusal::in_connection(alloc, error_told(news))?;
             Ok(closes(part.made, refusal))
@@ -160,14 +161,14 @@ fn names(alloc: Global, turn: Turn<Naming, Result<Names, Refusal>>) -> Result<Bu
             Building::Naming(naming),
             Deed::Does(action),
         )),
-        Turn::Gives(Ok(names)) => next(alloc, Left::new(names), Parts::new(alloc)),
+        Turn::Gives(Ok(names)) => next(alloc, Left::new(names), Parts::new(alloc), Deed::Numbers),
         Turn::Gives(Err(refusal)) => Ok(Step::Gives(Err(refusal))),
     }
 }
 
-/// The next of the names that are left, behind those for which a topic producer was made.
-fn next(alloc: Global, mut left: Left, made: Parts) -> Result<Builds, NoMemory>
-    ensures { IfOk result (λ step. step ≡ meaning.build_next left made) }
+/// The next of the names that are left, behind those for which a topic producer was made. This is done before it.
+fn next(alloc: Global, mut left: Left, made: Parts, deed: Deed) -> Result<Builds, NoMemory>
+    ensures { IfOk result (λ step. step ≡ meaning.build_next deed left made) }
 {
     match left.next(alloc)? {
         Some((topic, place)) => Ok(Step::Stays(
@@ -177,7 +178,7 @@ fn next(alloc: Global, mut left: Left, made: Parts) -> Result<Builds, NoMemory>
                 left,
                 made,
             }),
-            Deed::Numbers,
+            deed,
         )),
         None => Ok(Step::Gives(Ok(made))),
     }
@@ -224,8 +225,9 @@ fn makes(
             Deed::Does(action),
         )),
         Turn::Gives(Ok(served)) => {
+            let link = served.link;
             let built = built(alloc, command.topic, number, served)?;
-            next(alloc, left, made.with(built)?)
+            next(alloc, left, made.with(built)?, Deed::Holds { link, number })
         }
         Turn::Gives(Err(refusal)) => Ok(closes(made, refusal)),
     }

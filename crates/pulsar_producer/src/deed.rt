@@ -54,6 +54,11 @@ pub enum Deed {
     },
     /// Draw the number of a new topic producer.
     Numbers,
+    /// The topic producer of this number was made on the link, and others of its producer are still to be made.
+    Holds {
+        link: u64,
+        number: u64,
+    },
     /// Close the topic producer of this number on the link.
     ClosesProducer {
         link: u64,

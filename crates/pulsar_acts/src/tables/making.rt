@@ -112,14 +112,19 @@ impl Tables {
         }
     }
 
-    /// A call that has ended holds no number.
+    /// A call that has ended holds no number, and makes no topic producers.
     pub(super) fn frees(&mut self, who: Who)
-        ensures sees { view_of self.new ≡ record (view_of self.old)
-            { consumers = consumers_left who (consumers_in self.old.consumers.rows self.old.consumers.numbers) } }
+        ensures sees { view_of self.new ≡ record (view_of self.old) {
+          consumers = consumers_left who (consumers_in self.old.consumers.rows self.old.consumers.numbers);
+          producers = producers_left who (producers_of self.old.producers);
+        } }
         ensures settings { self.new.settings ≡ self.old.settings }
     {
         match who {
-            Who::Call(ticket) => self.consumers.free(ticket),
+            Who::Call(ticket) => {
+                self.consumers.free(ticket);
+                self.producers.free(ticket);
+            }
             Who::Consumer { .. } | Who::Producer(_) => {}
         }
     }

@@ -8,7 +8,7 @@ use Rattle.std.specs.Option.{option_map}
 use Rattle.std.specs.Ordering.{match_ordering}
 use Rattle.std.specs.declared.cmp.Ordering.{Ordering}
 use Rattle.std.specs.declared.cmp.Ordering.TheVariants.{Less, Equal, Greater}
-use Rattle.pulsar_laws.proofs.ActWords.{Act, Action, Alarm, Answers, Arrival, Ask, Batch, Bytes, Call, Calls, CheckIdle, Comes, Consumer, Dials, Does, Drains, Draw, Ends, FailConsumer, Find, FindConsumer, Flush, Get, Heard, is_same, KeepAlive, lacks_tickets, LinkAct, Makes, Number, Opens, Outcome, Pings, Polls, Producer, Reads, Recall, RecallConsumer, Rest, Retry, Revive, Rings, shares, Shut, StopAll, Store, TakeFlow, TakeNumber, TakeTurn, Tell, TellAll, ticket_of, Told, ToLink, turn_of, Wait, Wake, Who, Word}
+use Rattle.pulsar_laws.proofs.ActWords.{Act, Action, Alarm, Answers, Arrival, Ask, Batch, Bytes, Call, Calls, CheckIdle, Comes, Consumer, Dials, Does, Drains, Draw, Ends, FailConsumer, Find, FindConsumer, Flush, Get, Heard, KeepAlive, LinkAct, Makes, Number, OfTopic, Opens, Outcome, Pings, Polls, Producer, Reads, Recall, RecallConsumer, Rest, Retry, Revive, Rings, Shut, StopAll, Store, TakeFlow, TakeNumber, TakeTurn, Tell, TellAll, ToLink, Told, Wait, Wake, Who, Word, is_same, lacks_tickets, shares, ticket_of, turn_of}
 use Rattle.pulsar_laws.proofs.PlanWords.{News}
 use Rattle.pulsar_laws.proofs.RunWords.{after, Begins, begun_live, Cause, Chosen, consumers_after, consumers_made, counted, Each, Entry, In, InThisStep, is_live, IsRun, link_got, live_begun, may_call, member_on, notice, Options, setup_of, start_of, Then, turned, Turned, view, View}
 use Rattle.pulsar_laws.proofs.LinkWords.{Addresses, arrival_at, Base, Becomes, Change, closing, Exhausted, Failure, Fault, got_at, is_body, IsOver, Nobody, Pause, Pauses, Place, Remains, Reply, rings, Runs, Seat, seat_asked, seat_fed, seat_got, Series, Serves, took_end, took_some, url_at, Words}
@@ -59,7 +59,7 @@ use Rattle.pulsar_laws.proofs.calls.IdleCalls.{Mute, MuteBy, mute_older, only_st
 -- what nobody answers
 abbrev pub is_idle : Action → Bool
 is_idle Rest = true
-is_idle (Store n x) = true
+is_idle (OfTopic n (Store x)) = true
 is_idle (Tell n) = true
 is_idle _ = false
 
@@ -274,8 +274,8 @@ alarms_absent t v (Comes (Rings a)) idle k =
     cond_so (Each (NotWake t)) (rings v.now a v.alarms) (alarms_rung v.chosen v.now a v.alarms) v.alarms (rung_absent t v.chosen v.now a v.alarms k) k
 alarms_absent t v (Does who (Wait delay)) idle k =
     set_absent t (Wake who) _ v.alarms (other_wake t who (other_idle t who (Wait delay) idle refl)) k
-alarms_absent t v (Does who (Store n x)) idle k = topic_absent t v n (topic.Stores (turn_of who) x) k
-alarms_absent t v (Does who (Flush n)) idle k = topic_absent t v n (topic.Flushes (turn_of who)) k
+alarms_absent t v (Does who (OfTopic n (Store x))) idle k = topic_absent t v n (topic.Stores (turn_of who) x) k
+alarms_absent t v (Does who (OfTopic n Flush)) idle k = topic_absent t v n (topic.Flushes (turn_of who)) k
 alarms_absent t v (Does who (Shut u)) idle k = all_absent t (numbers_at (v.producers.built u)) v.alarms k
 alarms_absent t v (Does who StopAll) idle k = tt
 alarms_absent t v (Answers who verdict) idle k = cond_so (Each (NotWake t)) _ _ v.alarms (set_absent t CheckIdle _ v.alarms refl k) k
@@ -395,15 +395,17 @@ turn_other t (Consumer n u) unspent other e = let f : false ≡ true = sym unspe
 turn_other t (Producer n) unspent other e = let f : false ≡ true = sym unspent ∙ ap is_spent e in absurd cc
 
 mute_does : (t : ℕ) → is_spent t ≡ false → (a : Act) → MuteBy t a → DoesSo (Other t) (Other t) a
-mute_does t unspent (Does who (TakeTurn n)) mute =
-    turn_other t who unspent (other_does t who (TakeTurn n) mute (λ e. (let no : TakeTurn n ≡ Rest = e in cc)))
-mute_does t unspent (Does who (Store n x)) mute = turn_other t who unspent (other_does t who (Store n x) mute (λ e. (let no : Store n x ≡ Rest = e in cc)))
-mute_does t unspent (Does who (Flush n)) mute = turn_other t who unspent (other_does t who (Flush n) mute (λ e. (let no : Flush n ≡ Rest = e in cc)))
+mute_does t unspent (Does who (OfTopic n TakeTurn)) mute =
+    turn_other t who unspent (other_does t who (OfTopic n TakeTurn) mute (λ e. (let no : OfTopic n TakeTurn ≡ Rest = e in cc)))
+mute_does t unspent (Does who (OfTopic n (Store x))) mute =
+    turn_other t who unspent (other_does t who (OfTopic n (Store x)) mute (λ e. (let no : OfTopic n (Store x) ≡ Rest = e in cc)))
+mute_does t unspent (Does who (OfTopic n Flush)) mute =
+    turn_other t who unspent (other_does t who (OfTopic n Flush) mute (λ e. (let no : OfTopic n Flush ≡ Rest = e in cc)))
 mute_does t unspent _ mute = tt
 
 -- and one that is idle takes no turn
 idle_does : (t : ℕ) → is_spent t ≡ false → (a : Act) → IdleBy t a → DoesSo (Other t) (λ u. Unit {0}) a
-idle_does t unspent (Does who (TakeTurn n)) idle = turn_other t who unspent (other_idle t who (TakeTurn n) idle refl)
+idle_does t unspent (Does who (OfTopic n TakeTurn)) idle = turn_other t who unspent (other_idle t who (OfTopic n TakeTurn) idle refl)
 idle_does t unspent _ idle = tt
 
 pub idle_log : (t : ℕ) → is_spent t ≡ false → (log : List Entry) → Idle t log → LogSo (Other t) (λ u. Unit {0}) log
@@ -457,21 +459,21 @@ no_turn_given P o t e older run others n (other, number, turn, version, is, same
     waits_so (Other t) P o number turn older k.0 run others k.1 k.2 (is_turn t number turn same)
 
 no_find : (l : ℕ) (a : Action) (v : View) → is_idle a ≡ true → Finds l a v → ⊥
-no_find l (Find n) v h k = absurd cc
+no_find l (OfTopic n Find) v h k = absurd cc
 no_find l (FindConsumer u) v h k = absurd cc
 no_find l a v h k = k
 
 no_draw : (f : Fault) (a : Action) (v : View) → is_idle a ≡ true → DrawsNone f a v → ⊥
-no_draw Disconnected (Draw n) v h k = absurd cc
-no_draw Exhausted (Draw n) v h k = absurd cc
+no_draw Disconnected (OfTopic n Draw) v h k = absurd cc
+no_draw Exhausted (OfTopic n Draw) v h k = absurd cc
 no_draw Exhausted Number v h k = absurd cc
 no_draw Exhausted (TakeNumber wanted) v h k = absurd cc
 no_draw f a v h k = k
 
 all_known : (who : Who) (a : Action) (v : View) → is_idle a ≡ true → IsUnknown who a v → ⊥
-all_known who (TakeTurn n) v h k = absurd cc
-all_known who (Recall n) v h k = absurd cc
-all_known who (Find n) v h k = absurd cc
+all_known who (OfTopic n TakeTurn) v h k = absurd cc
+all_known who (OfTopic n Recall) v h k = absurd cc
+all_known who (OfTopic n Find) v h k = absurd cc
 all_known who RecallConsumer v h k = absurd cc
 all_known who a v h k = k
 
@@ -488,9 +490,9 @@ no_says who w Rest v h k = no_rest who w v k
     no_rest who word.Lives v k = k
     no_rest who word.Over v k = k
     no_rest who _ v k = k
-no_says who w (Store n x) v h k = no_store who w v k
+no_says who w (OfTopic n (Store x)) v h k = no_store who w v k
   where
-    no_store : (who : Who) (w : Word) (v : View) → SaysSo who w (Store n x) v → ⊥
+    no_store : (who : Who) (w : Word) (v : View) → SaysSo who w (OfTopic n (Store x)) v → ⊥
     no_store who (word.Numbered m) v k = k
     no_store who word.InUse v k = k
     no_store who word.Closed v k = k

@@ -43,7 +43,7 @@ use Rattle.pulsar_calls.specs.declared.act.Says.{Says}
 use Rattle.pulsar_calls.specs.declared.act.Says.TheVariants as says
 use Rattle.std.specs.Prelude.{not}
 use Rattle.std.specs.Option.{is_some}
-use Rattle.pulsar_laws.proofs.ActWords.{Act, Action, Answers, Arrival, Ask, Asked, Call, Calls, Checks, Comes, Consumer, Does, Flushes, is_same, lacks_tickets, next_advice, Notice, Outcome, Procedure, Producer, Recall, RecallConsumer, Refusal, Share, shares, Starts, ticket_of, Told, Who, Word}
+use Rattle.pulsar_laws.proofs.ActWords.{Act, Action, Answers, Arrival, Ask, Asked, Call, Calls, Checks, Comes, Consumer, Does, Flushes, Notice, OfTopic, Outcome, Procedure, Producer, Recall, RecallConsumer, Refusal, Share, Starts, Told, Who, Word, is_same, lacks_tickets, next_advice, shares, ticket_of}
 use Rattle.pulsar_laws.proofs.PlanWords.{begins, Command, Errand, Plan, Sought, Stays, told, Ways}
 use Rattle.pulsar_laws.proofs.RunWords.{agenda, asks_topics, at_once, Begins, builds_with, Cause, Chosen, counted, Each, each_append, each_either, each_first, each_map, each_rest, EndsOnce, Entry, fails_as, flushes_all, from_base, In, InThisStep, is_served, IsRun, may_call, notice, Options, parts_of, procedure_for, produces_from, rest, searches, sends_as, sends_by, share, shares_of, shares_unless, start_of, starts, stores_as, Then, Tickets, unless_refused, view, View, ways_of, why_no_raw, why_no_sends}
 use Rattle.pulsar_laws.proofs.LinkWords.{Fault, is_body, Place, Reply, Words}
@@ -273,7 +273,7 @@ once_so v a = each_map (IsRaised a) IsBegun (at_once v a) (λ b. raised_so a b r
 
 -- of commands one is told such
 command_mild : (v : View) (action : Action) (c : Command) → GivenBy v action (news.Recalled c) → IsMildCommand c
-command_mild v (Recall n) c h = at_row (v.producers.topics n) h
+command_mild v (OfTopic n Recall) c h = at_row (v.producers.topics n) h
   where
     by : (t : _) (r : Option producer.Seen) → recalled_by t r ≡ Some c → IsMildCommand c
     by t None h = absurd (none_some h)

@@ -1,6 +1,6 @@
 -- The numbers of the frames of a topic producer rise.
 use Rattle.std.proofs.Common.{◌≡◌, inl, inr, ◌∙◌, sym, ap, subst, ℕ, ◌+◌, ◌<◌, ◌≤◌, arith, List, [], ◌∷◌, ◌++◌, refl, Bool, true, false, cond, Option, Some, None}
-use Rattle.pulsar_laws.proofs.ActWords.{Ask, Call, Does, Draw, Notice, Producer, Told, Who}
+use Rattle.pulsar_laws.proofs.ActWords.{Ask, Call, Does, Draw, Notice, OfTopic, Producer, Told, Who}
 use Rattle.pulsar_laws.proofs.RunWords.{Begins, begun_same, Entry, IsRun, Options, Then, view}
 use Rattle.pulsar_messages.specs.Words as words
 use Rattle.pulsar_messages.specs.Claims.{is_spent}
@@ -118,8 +118,8 @@ numbers_of_frames_rise_lem o newer older t u l k n s r name alias m other block 
     let first = frames_are_of_their_sends_lem o older u k n r alias other waits v f part told run2 g in
     let a : IsFramed o log t l n s name m block w e share given run h =
     framed o log t l n s name m block w e share given run h (it o log t l n s name m block w e share given run h) in
-    let b = behind_two x (Then (Told a.told)) (Then (Does (Call t) (Draw a.drawn))) newer older a.behind refl refl refl a.there in
-    let run3 : IsRun o (Then (Told a.told) ∷ Then (Does (Call t) (Draw a.drawn)) ∷ a.behind) = subst (IsRun o) a.there run.0 in
+    let b = behind_two x (Then (Told a.told)) (Then (Does (Call t) (OfTopic a.drawn Draw))) newer older a.behind refl refl refl a.there in
+    let run3 : IsRun o (Then (Told a.told) ∷ Then (Does (Call t) (OfTopic a.drawn Draw)) ∷ a.behind) = subst (IsRun o) a.there run.0 in
     rise_from o x older a.behind n e.producer first.0 a.before r s run3.0.0 b first.2 first.8 a.producer a.was a.number
 
 -- OF SENDS AND OF BATCHES

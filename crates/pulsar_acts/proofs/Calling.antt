@@ -10,7 +10,7 @@ use Rattle.pulsar_calls.specs.declared.act.Part.TheVariants.{Calls}
 use Rattle.pulsar_links.specs.Alarms.{set}
 use Rattle.pulsar_calls.specs.declared.act.Procedure.{Procedure}
 use Rattle.pulsar_calls.specs.declared.act.Procedure.TheVariants as procedure
-use Rattle.pulsar_calls.specs.declared.act.Refusal.TheVariants as refusal
+use Rattle.pulsar_calls.specs.declared.act.CallRefusal.TheVariants as refusal
 use Rattle.pulsar_calls.specs.declared.act.Who.TheVariants.{Call}
 use Rattle.pulsar_calls.specs.declared.event.Call.{Call as Wanted}
 use Rattle.pulsar_calls.specs.declared.event.Call.TheVariants as call

@@ -30,8 +30,8 @@ use Rattle.pulsar_calls.specs.declared.act.Part.TheVariants.{Calls, ToLink, Ring
 use Rattle.pulsar_calls.specs.declared.act.Place.TheVariants as place
 use Rattle.pulsar_calls.specs.declared.act.Procedure.{Procedure}
 use Rattle.pulsar_calls.specs.declared.act.Procedure.TheVariants as procedure
-use Rattle.pulsar_calls.specs.declared.act.Refusal.{Refusal}
-use Rattle.pulsar_calls.specs.declared.act.Refusal.TheVariants as refusal
+use Rattle.pulsar_calls.specs.declared.act.CallRefusal.{CallRefusal}
+use Rattle.pulsar_calls.specs.declared.act.CallRefusal.TheVariants as refusal
 use Rattle.pulsar_calls.specs.declared.act.Makes.{Makes}
 use Rattle.pulsar_calls.specs.declared.act.Makes.TheVariants as makes
 use Rattle.pulsar_calls.specs.declared.act.Round.TheVariants.{Checks, Flushes}
@@ -41,7 +41,7 @@ use Rattle.pulsar_calls.specs.declared.act.Verdict.{Verdict}
 use Rattle.pulsar_calls.specs.declared.act.Who.{Who}
 use Rattle.pulsar_calls.specs.declared.act.Who.TheVariants.{Call, Producer}
 use Rattle.pulsar_calls.specs.declared.act.Word.TheVariants as word
-use Rattle.pulsar_calls.specs.declared.content.Building.{Building}
+use Rattle.pulsar_calls.specs.declared.content.BuiltProducer.{BuiltProducer}
 use Rattle.pulsar_links.specs.declared.addresses.Pause.{Pause}
 use Rattle.pulsar_links.specs.declared.addresses.Series.{Series}
 use Rattle.pulsar_links.specs.declared.addresses.Series.TheVariants.{Nobody, Runs, Pauses, Serves}
@@ -56,14 +56,14 @@ use Rattle.pulsar_outgoing.specs.Batch.{entry_of}
 use Rattle.pulsar_outgoing.specs.Storage.{is_batching}
 use Rattle.pulsar_producer.specs.Topic as topic
 use Rattle.pulsar_outgoing.specs.Wanted.{ProducerWanted}
-use Rattle.pulsar_outgoing.specs.declared.orders.Order.{Order}
+use Rattle.pulsar_outgoing.specs.declared.orders.ProducerOrder.{ProducerOrder}
 use Rattle.pulsar_outgoing.specs.declared.content.Built.{Built}
 use Rattle.pulsar_producer.specs.News.{News}
 use Rattle.pulsar_outgoing.specs.declared.news.News.TheVariants as news
 use Rattle.pulsar_outgoing.specs.declared.orders.Errand.{Errand}
 use Rattle.pulsar_addresses.specs.Address.{Place, address_key, is_reachable}
-use Rattle.pulsar_searches.specs.declared.plan.Procedure.{Procedure as Sought}
-use Rattle.pulsar_searches.specs.declared.plan.Procedure.TheVariants as sought
+use Rattle.pulsar_searches.specs.declared.plan.Sought.{Sought}
+use Rattle.pulsar_searches.specs.declared.plan.Sought.TheVariants as sought
 use Rattle.pulsar_searches.specs.declared.turn.Ways.{Ways}
 use Rattle.pulsar_links.specs.Alarms.{ringing, rings}
 use Rattle.pulsar_calls.specs.Content as content
@@ -143,10 +143,10 @@ asks_topics namespace mode base = procedure.Ask (place.At base) (words.GetTopics
 -- CALLS ON PRODUCERS. One names a producer by the ticket of the call that built it.
 
 -- it is built, where it is said to what it sends
-abbrev pub order_of : (topic : List ℕ) → ProducerWanted → Order
+abbrev pub order_of : (topic : List ℕ) → ProducerWanted → ProducerOrder
 order_of topic w = record { topic = topic; name = w.name; options = w.options }
 
-abbrev pub produces_by : Option Ways → Order → Procedure
+abbrev pub produces_by : Option Ways → ProducerOrder → Procedure
 produces_by None order = procedure.Refuse refusal.NoAddress
 produces_by (Some ways) order = procedure.Produce ways order
 
@@ -158,7 +158,7 @@ abbrev pub produces : Chosen → ProducerWanted → Procedure
 produces o w = produces_from (ways_of o) w.topic w
 
 -- a message goes to a topic producer, unless none is found for it; as a part of another call it fails there
-abbrev pub fails_as : Option Share → Refusal → Procedure
+abbrev pub fails_as : Option Share → CallRefusal → Procedure
 fails_as None r = procedure.Refuse r
 fails_as (Some s) r = procedure.FailShare s r
 
@@ -191,10 +191,10 @@ shares_of o ps of ticket advice t (m ∷ ms) =
     Starts (Call ticket) (sends_as o ps (share of ticket) (next_advice advice) t m)
     ∷ shares_of o (routed t m ps) of (ticket + 1) (drop 1 advice) t ms
 
-abbrev pub why_no_sends : Tickets → Producers → (producer : ℕ) → Option Refusal
+abbrev pub why_no_sends : Tickets → Producers → (producer : ℕ) → Option CallRefusal
 why_no_sends c ps t = if may_call c then why_not ps t else Some refusal.Shutdown
 
-abbrev pub shares_unless : Option Refusal → View → List (Option ℕ) → (producer : ℕ) → List ProducerMessageValues → List Act
+abbrev pub shares_unless : Option CallRefusal → View → List (Option ℕ) → (producer : ℕ) → List ProducerMessageValues → List Act
 shares_unless (Some r) v advice t ms = []
 shares_unless None v advice t ms = shares_of v.chosen v.producers v.calls.drawn (v.calls.drawn + 1) advice t ms
 
@@ -220,12 +220,12 @@ abbrev pub is_taken : Producers → Option ℕ → Bool
 is_taken ps None = false
 is_taken ps (Some number) = is_used_number ps number
 
-abbrev pub taken_by : (by_producer by_consumer : Bool) → Option Refusal
+abbrev pub taken_by : (by_producer by_consumer : Bool) → Option CallRefusal
 taken_by true by_consumer = Some refusal.NumberInUse
 taken_by false true = Some refusal.ConsumerInUse
 taken_by false false = None
 
-abbrev pub why_no_raw : Consumers → Producers → Words → Option Refusal
+abbrev pub why_no_raw : Consumers → Producers → Words → Option CallRefusal
 why_no_raw cs ps request = taken_by (is_taken ps (named_producer request)) (consumer.is_taken cs (named_consumer request))
 
 abbrev pub asks_raw : Consumers → Producers → (link : ℕ) → Words → Procedure
@@ -375,11 +375,11 @@ rung v CheckIdle = over_links (idle_act v) v.links
 abbrev pub batches_by : Ways → (block : Bool) → Built → Act
 batches_by ways block b = Starts (Producer b.number) (procedure.Batch ways (record { producer = b.number; block = block }))
 
-abbrev pub batches_from : Option Ways → Building → List Act
+abbrev pub batches_from : Option Ways → BuiltProducer → List Act
 batches_from None b = []
 batches_from (Some ways) b = map (batches_by ways b.settings.block_queue_if_full) b.parts
 
-abbrev pub batches_made : Option Ways → Building → List Act
+abbrev pub batches_made : Option Ways → BuiltProducer → List Act
 batches_made ways b = if is_batching b.settings then batches_from ways b else []
 
 abbrev pub left_with : Option Ways → Who → Makes → List Act

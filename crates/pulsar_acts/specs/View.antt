@@ -43,7 +43,7 @@ use Rattle.pulsar_links.specs.Links.{Change, Remains, Becomes, IsOver, change_by
 use Rattle.pulsar_plans.specs.Plan.{begins, told}
 use Rattle.pulsar_run.specs.Things.{row_after}
 use Rattle.pulsar_outgoing.specs.Storage.{limits_of}
-use Rattle.pulsar_calls.specs.declared.content.Building.{Building}
+use Rattle.pulsar_calls.specs.declared.content.BuiltProducer.{BuiltProducer}
 use Rattle.pulsar_producer_table.specs.Asks.{Around, Given, around_in, given}
 use Rattle.pulsar_producer_table.specs.declared.table.Topic.{Topic}
 use Rattle.pulsar_producer_table.specs.Producers.{Producers, called_on, freed, holding, is_bare, joined, link_at, none, numbered, numbers_at, shut_by, timeout_at, topic_after, topic_in}
@@ -484,14 +484,14 @@ topic_acts v n (Does who StopAll) = topic.Halts ∷ []
 topic_acts v n _ = []
 
 -- and the one that an act makes
-abbrev pub building_of : Makes → Option Building
+abbrev pub building_of : Makes → Option BuiltProducer
 building_of Nothing = None
 building_of Client = None
 building_of (Consumer made) = None
 building_of (RawConsumer link made) = None
 building_of (Producer made) = Some made
 
-abbrev pub topic_of : Option Building → Who → Chosen → (number : ℕ) → Option Topic
+abbrev pub topic_of : Option BuiltProducer → Who → Chosen → (number : ℕ) → Option Topic
 topic_of None who o n = None
 topic_of (Some b) who o n = topic_in (rank who).1 o.first_number (limits_of b.settings) b.parts n
 

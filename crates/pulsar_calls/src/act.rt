@@ -6,11 +6,11 @@ use crate::content::{
 };
 use pulsar_addresses::content::{Address, Cause, Refusal as Failure};
 use pulsar_exchange::content::{Received, Request, Subscribed};
-use pulsar_incoming::orders::Order as ConsumerOrder;
+use pulsar_incoming::orders::ConsumerOrder;
 use pulsar_outgoing::batch::Receipt;
 use pulsar_outgoing::content::{Entry, Outgoing};
-use pulsar_outgoing::orders::{Errand, Order};
-use pulsar_searches::plan::Procedure as Sought;
+use pulsar_outgoing::orders::{Errand, ProducerOrder};
+use pulsar_searches::plan::Sought;
 use pulsar_searches::turn::Ways;
 use pulsar_wire::error::IoKind;
 
@@ -125,7 +125,7 @@ pub enum Says {
 
 /// Why a call is not made.
 #[derive(Clone, Copy)]
-pub enum Refusal {
+pub enum CallRefusal {
     /// The client is not built, or was stopped.
     Shutdown,
     /// There is no room for any frame.
@@ -195,7 +195,7 @@ pub enum Procedure {
     /// Build a producer.
     Produce {
         ways: Ways,
-        order: Order,
+        order: ProducerOrder,
     },
     /// Send a message in the turn of a topic producer.
     Send {
@@ -218,7 +218,7 @@ pub enum Procedure {
     /// Fail, as a part of another call.
     FailShare {
         share: Share,
-        refusal: Refusal,
+        refusal: CallRefusal,
     },
     /// Wait for so many sends, whose tickets begin with this one: each is a part.
     Gather {
@@ -257,7 +257,7 @@ pub enum Procedure {
         number: u64,
     },
     /// Fail.
-    Refuse(Refusal),
+    Refuse(CallRefusal),
 }
 
 /// What is asked of a topic producer.

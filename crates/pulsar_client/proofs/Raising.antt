@@ -5,7 +5,7 @@ use Rattle.pulsar_searches.specs.declared.making.Command.{Command}
 use Rattle.pulsar_searches.specs.declared.turn.Ways.{Ways}
 use Rattle.pulsar_outgoing.specs.Storage.{is_batching}
 use Rattle.pulsar_outgoing.specs.declared.content.Built.{Built}
-use Rattle.pulsar_calls.specs.declared.content.Building.{Building}
+use Rattle.pulsar_calls.specs.declared.content.BuiltProducer.{BuiltProducer}
 use Rattle.pulsar_calls.specs.declared.content.Joining.{Joining}
 use Rattle.pulsar_calls.specs.Who.{ticket_of}
 use Rattle.pulsar_calls.specs.declared.act.Act.{Act}
@@ -190,7 +190,7 @@ batches_raised : (who : Who) (verdict : Verdict) (ways : Ways) (block : Bool) (b
 batches_raised who verdict ways block [] = tt
 batches_raised who verdict ways block (b ∷ bs) = (refl, batches_raised who verdict ways block bs)
 
-from_each : (who : Who) (verdict : Verdict) (ways : Option Ways) (b : Building) → Each (IsRaised (Answers who verdict)) (batches_from ways b)
+from_each : (who : Who) (verdict : Verdict) (ways : Option Ways) (b : BuiltProducer) → Each (IsRaised (Answers who verdict)) (batches_from ways b)
 from_each who verdict None b = tt
 from_each who verdict (Some ways) b = batches_raised who verdict ways b.settings.block_queue_if_full b.parts
 

@@ -21,7 +21,7 @@ pub use Rattle.pulsar_calls.specs.declared.act.Part.{Part}
 pub use Rattle.pulsar_calls.specs.declared.act.Part.TheVariants.{Calls, Polls, Rings, ToLink}
 pub use Rattle.pulsar_calls.specs.declared.act.Place.TheVariants.{Link}
 pub use Rattle.pulsar_calls.specs.declared.act.Procedure.{Procedure}
-pub use Rattle.pulsar_calls.specs.declared.act.Refusal.{Refusal}
+pub use Rattle.pulsar_calls.specs.declared.act.CallRefusal.{CallRefusal}
 pub use Rattle.pulsar_calls.specs.declared.act.Round.TheVariants.{Checks, Flushes}
 pub use Rattle.pulsar_calls.specs.declared.act.Share.{Share}
 pub use Rattle.pulsar_calls.specs.declared.act.TopicAsk.{TopicAsk}

@@ -23,7 +23,7 @@ use Rattle.pulsar_outgoing.specs.declared.batch.Fate.TheVariants as fate
 use Rattle.pulsar_producer.specs.declared.batching.Batching.TheVariants as batching
 use Rattle.pulsar_outgoing.specs.declared.news.News.TheVariants as news
 use Rattle.pulsar_outgoing.specs.declared.orders.Errand.{Errand}
-use Rattle.pulsar_outgoing.specs.declared.orders.Order.{Order}
+use Rattle.pulsar_outgoing.specs.declared.orders.ProducerOrder.{ProducerOrder}
 use Rattle.pulsar_calls.specs.declared.act.Act.TheVariants.{Answers, Comes, Starts, Told, Does}
 use Rattle.pulsar_calls.specs.declared.act.Action.TheVariants.{OfTopic, Ask, Shut, TellAll}
 use Rattle.pulsar_calls.specs.declared.act.TopicAsk.TheVariants.{Store, TakeBatch}
@@ -205,7 +205,7 @@ EachSentOnce = (o : Options) (log : List Entry) (t : ℕ) → IsRun o log → qu
 -- reaches none of them.
 abbrev pub BatchesByItsOptions : Type 0
 BatchesByItsOptions = (o : Options) (log : List Entry) (n : ℕ) (row : Topic) → IsRun o log → (view o log).producers.topics n ≡ Some row →
-    (w : Ways) × (order : Order) × (started (Call row.owner) log ≡ Some (procedure.Produce w order))
+    (w : Ways) × (order : ProducerOrder) × (started (Call row.owner) log ≡ Some (procedure.Produce w order))
     × (row.seen.storage.limits.max_size ≡ order.options.batch_size) × (row.seen.storage.limits.max_byte_size ≡ order.options.batch_byte_size)
     × ((p : producer.Seen) → (view o log).producers.built row.owner ≡ Some p →
     timeout_at (view o log).producers (Some row) ≡ order.options.batch_timeout)

@@ -47,7 +47,7 @@ use Rattle.pulsar_calls.specs.declared.act.Outcome.{Outcome}
 use Rattle.pulsar_calls.specs.declared.act.Part.{Part}
 use Rattle.pulsar_calls.specs.declared.act.Part.TheVariants.{Calls, ToLink, Rings, Polls}
 use Rattle.pulsar_calls.specs.declared.act.Procedure.{Procedure}
-use Rattle.pulsar_calls.specs.declared.act.Refusal.{Refusal}
+use Rattle.pulsar_calls.specs.declared.act.CallRefusal.{CallRefusal}
 use Rattle.pulsar_calls.specs.declared.act.Says.{Says}
 use Rattle.pulsar_calls.specs.declared.act.Verdict.{Verdict}
 use Rattle.pulsar_calls.specs.declared.act.Who.{Who}
@@ -76,7 +76,7 @@ use Rattle.pulsar_consumer_table.specs.Consumers.{Member}
 use Rattle.pulsar_consumer_table.specs.declared.numbers.Numbering.TheVariants.{Has, InUse, Spent}
 use Rattle.pulsar_consumer_table.specs.declared.row.Sought.TheVariants.{Gone}
 use Rattle.pulsar_consumer.specs.Plans.{in_use, not_found}
-use Rattle.pulsar_incoming.specs.declared.orders.Order.{Order}
+use Rattle.pulsar_incoming.specs.declared.orders.ConsumerOrder.{ConsumerOrder}
 use Rattle.pulsar_consumer.specs.Topic as reader
 use Rattle.pulsar_acts.specs.View.{View, builds, member_on, pause_of, setup, setup_of, room_of}
 use Rattle.pulsar_machine.specs.Options.{Options}
@@ -548,8 +548,8 @@ has_failed _ = false
 -- with what it is told; a consumer that is built where its number is in use, and where its topic has several partitions; and the close of one
 -- that has ended
 pub data FailsSo (p : Procedure) (os : List Outcome) (f : Failure) : Type 0 where
-  IsRefused : (r : Refusal) → p ≡ procedure.Refuse r → f ≡ failure_of r → FailsSo p os f
-  IsRefusedShare : (s : Share) (r : Refusal) → p ≡ procedure.FailShare s r → f ≡ failure_of r → FailsSo p os f
+  IsRefused : (r : CallRefusal) → p ≡ procedure.Refuse r → f ≡ failure_of r → FailsSo p os f
+  IsRefusedShare : (s : Share) (r : CallRefusal) → p ≡ procedure.FailShare s r → f ≡ failure_of r → FailsSo p os f
   IsTold : (u : Outcome) → In u os → f ≡ OfConnection (fault_of u) → FailsSo p os f
   IsTurned : (u : Outcome) → is_some (ways_in p) ≡ true → In u os → f ≡ in_discovery (fault_of u) → FailsSo p os f
   IsDenied : (w : Ways) (r : Reply) (d : DiscoveryFault) →
@@ -561,8 +561,8 @@ pub data FailsSo (p : Procedure) (os : List Outcome) (f : Failure) : Type 0 wher
   IsSettled : In (outcome.Settled (Err f)) os → FailsSo p os f
   IsPartial : (first count : ℕ) (failures : List (ℕ × Failure)) → p ≡ procedure.Gather first count → list_any has_failed os ≡ true →
       f ≡ OfPartialSend (outcomes_of failures (numbers_from first count)) → FailsSo p os f
-  IsInUse : (w : Ways) (order : Order) → p ≡ procedure.Subscribe w order → In (outcome.Word word.InUse) os → f ≡ in_use → FailsSo p os f
-  IsOfSeveral : (w : Ways) (order : Order) (r : Reply) (retries count : ℕ) → p ≡ procedure.Subscribe w order → In (outcome.Replied r) os →
+  IsInUse : (w : Ways) (order : ConsumerOrder) → p ≡ procedure.Subscribe w order → In (outcome.Word word.InUse) os → f ≡ in_use → FailsSo p os f
+  IsOfSeveral : (w : Ways) (order : ConsumerOrder) (r : Reply) (retries count : ℕ) → p ≡ procedure.Subscribe w order → In (outcome.Replied r) os →
       count_in w retries r.content ≡ CountIs count → 2 ≤ count → f ≡ not_found → FailsSo p os f
   IsClosed : (t n : ℕ) → p ≡ procedure.Leave t n → In (outcome.Word word.Closed) os → f ≡ OfConsumer ConsumerClosed → FailsSo p os f
   IsAnswered : (r : Reply) (number : ℕ) (s : Says) → In (outcome.Replied r) os → number_in p ≡ Some number → Failed f ≡ reply_says s number r → FailsSo p os f

@@ -17,12 +17,12 @@ use Rattle.pulsar_searches.specs.declared.look.Search.{Search}
 use Rattle.pulsar_searches.specs.declared.making.Command.{Command}
 use Rattle.pulsar_searches.specs.declared.making.Making.{Making}
 use Rattle.pulsar_searches.specs.declared.making.Making.TheVariants as make
-use Rattle.pulsar_searches.specs.declared.plan.Procedure.TheVariants as sought
+use Rattle.pulsar_searches.specs.declared.plan.Sought.TheVariants as sought
 use Rattle.pulsar_searches.specs.declared.retry.Retrying.TheVariants as retry
 use Rattle.pulsar_searches.specs.declared.turn.Action.{Action as Wish}
 use Rattle.pulsar_searches.specs.declared.turn.Action.TheVariants as wish
-use Rattle.pulsar_searches.specs.declared.turn.Outcome.{Outcome as News}
-use Rattle.pulsar_searches.specs.declared.turn.Outcome.TheVariants as news
+use Rattle.pulsar_searches.specs.declared.turn.SearchOutcome.{SearchOutcome as News}
+use Rattle.pulsar_searches.specs.declared.turn.SearchOutcome.TheVariants as news
 use Rattle.pulsar_searches.specs.declared.turn.Turn.{Turn}
 use Rattle.pulsar_searches.specs.declared.turn.Turn.TheVariants.{Stays, Gives}
 use Rattle.pulsar_searches.specs.declared.turn.Ways.{Ways}

@@ -27,8 +27,8 @@ use Rattle.pulsar_calls.specs.declared.act.Outcome.TheVariants.{GotLink, Queued,
 use Rattle.pulsar_calls.specs.declared.act.Place.TheVariants.{At, Link}
 use Rattle.pulsar_calls.specs.declared.act.Procedure.{Procedure}
 use Rattle.pulsar_calls.specs.declared.act.Procedure.TheVariants as procedure
-use Rattle.pulsar_calls.specs.declared.act.Refusal.{Refusal}
-use Rattle.pulsar_calls.specs.declared.act.Refusal.TheVariants as refusal
+use Rattle.pulsar_calls.specs.declared.act.CallRefusal.{CallRefusal}
+use Rattle.pulsar_calls.specs.declared.act.CallRefusal.TheVariants as refusal
 use Rattle.pulsar_calls.specs.declared.act.Says.{Says}
 use Rattle.pulsar_calls.specs.declared.act.Says.TheVariants as says
 use Rattle.pulsar_calls.specs.declared.act.Verdict.{Verdict}
@@ -45,24 +45,24 @@ use Rattle.pulsar_plans.specs.declared.plan.Turn.{Turn}
 use Rattle.pulsar_plans.specs.declared.plan.Turn.TheVariants.{Stays, Gives}
 use Rattle.pulsar_plans.specs.declared.plan.Wanted.{Wanted}
 use Rattle.pulsar_consumer.specs.Plans as consume
-use Rattle.pulsar_consumer.specs.declared.building.Building.{Building as ConsumerBuild}
+use Rattle.pulsar_consumer.specs.declared.building.BuildingConsumer.{BuildingConsumer as ConsumerBuild}
 use Rattle.pulsar_consumer.specs.declared.building.Built.{Built as ConsumerBuilt}
 use Rattle.pulsar_consumer.specs.declared.building.Deed.{Deed as ConsumerDeed}
 use Rattle.pulsar_consumer.specs.declared.building.Deed.TheVariants as consumer_deed
 use Rattle.pulsar_consumer.specs.declared.building.News.{News as ConsumerNews}
 use Rattle.pulsar_consumer.specs.declared.building.News.TheVariants as consumer_news
-use Rattle.pulsar_incoming.specs.declared.orders.Order.{Order as ConsumerOrder}
+use Rattle.pulsar_incoming.specs.declared.orders.ConsumerOrder.{ConsumerOrder}
 use Rattle.pulsar_searches.specs.Plans as search
 use Rattle.pulsar_consumer.specs.declared.resuming.Resuming.{Resuming}
 use Rattle.pulsar_searches.specs.declared.closing.Step.TheVariants as building_step
 use Rattle.pulsar_searches.specs.declared.making.Command.{Command}
 use Rattle.pulsar_searches.specs.declared.plan.Answer.{Answer}
 use Rattle.pulsar_searches.specs.declared.plan.Answer.TheVariants as answer
-use Rattle.pulsar_searches.specs.declared.plan.Plan.{Plan as Search}
+use Rattle.pulsar_searches.specs.declared.plan.SearchPlan.{SearchPlan as Search}
 use Rattle.pulsar_searches.specs.declared.turn.Action.{Action as Wish}
 use Rattle.pulsar_searches.specs.declared.turn.Action.TheVariants as wish
-use Rattle.pulsar_searches.specs.declared.turn.Outcome.{Outcome as News}
-use Rattle.pulsar_searches.specs.declared.turn.Outcome.TheVariants as news
+use Rattle.pulsar_searches.specs.declared.turn.SearchOutcome.{SearchOutcome as News}
+use Rattle.pulsar_searches.specs.declared.turn.SearchOutcome.TheVariants as news
 use Rattle.pulsar_searches.specs.declared.turn.Turn.{Turn as SearchTurn}
 use Rattle.pulsar_searches.specs.declared.turn.Turn.TheVariants as search_turn
 use Rattle.pulsar_searches.specs.declared.turn.Ways.{Ways}
@@ -79,8 +79,8 @@ use Rattle.pulsar_outgoing.specs.declared.batch.Fate.TheVariants as fate
 use Rattle.pulsar_outgoing.specs.declared.batch.Report.{Report}
 use Rattle.pulsar_producer.specs.declared.batching.Batching.{Batching as Batches}
 use Rattle.pulsar_producer.specs.declared.batching.Goes.{Goes}
-use Rattle.pulsar_producer.specs.declared.building.Building.{Building as Build}
-use Rattle.pulsar_outgoing.specs.declared.orders.Order.{Order}
+use Rattle.pulsar_producer.specs.declared.building.BuildingProducer.{BuildingProducer as Build}
+use Rattle.pulsar_outgoing.specs.declared.orders.ProducerOrder.{ProducerOrder}
 use Rattle.pulsar_outgoing.specs.declared.content.Built.{Built}
 use Rattle.pulsar_producer.specs.declared.deed.Deed.{Deed}
 use Rattle.pulsar_producer.specs.declared.deed.Deed.TheVariants as deed
@@ -139,7 +139,7 @@ abbrev pub fails : Fault → Verdict
 fails f = verdict Nothing (failed f)
 
 -- why a call is not made
-abbrev pub failure_of : Refusal → Failure
+abbrev pub failure_of : CallRefusal → Failure
 failure_of refusal.Shutdown = OfConnection Shutdown
 failure_of refusal.NoOutbound = Custom (codes "outbound size is 0")
 failure_of refusal.NoAddress = OfConnection NotFound
@@ -273,10 +273,10 @@ fails_with f = Gives (verdict Nothing (Failed f))
 
 -- A BUILDING leaves a producer behind.
 
-abbrev pub built_of : Order → List Built → Makes
+abbrev pub built_of : ProducerOrder → List Built → Makes
 built_of o parts = Producer (record { topic = o.topic; settings = o.options; parts = parts })
 
-abbrev pub builds : Ways → Order → Step Build (Result (List Built) Failure) → Turn Plan Verdict
+abbrev pub builds : Ways → ProducerOrder → Step Build (Result (List Built) Failure) → Turn Plan Verdict
 builds w o (step.Stays b d) = Stays (Producing w o b) (action_of d)
 builds w o (step.Gives (Ok parts)) = Gives (verdict (built_of o parts) Done)
 builds w o (step.Gives (Err f)) = fails_with f

@@ -11,12 +11,12 @@ use pulsar_outgoing::failing::in_producer;
 use pulsar_outgoing::news;
 use pulsar_outgoing::replies::Given;
 use pulsar_searches::making::Command;
-use pulsar_searches::turn::{self, Action, Outcome};
+use pulsar_searches::turn::{self, Action, SearchOutcome};
 use pulsar_wire::error::{ConnectionError, Error, NoMemory, ProducerError};
 use std::alloc::Global;
 
 /// What a plan is told.
-pub type News = news::News<Outcome, Command>;
+pub type News = news::News<SearchOutcome, Command>;
 
 /// A message as it is asked of a link. Where `block` is not set, it is refused where there is no room.
 #[derive(Drop)]

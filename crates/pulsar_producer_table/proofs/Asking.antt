@@ -13,7 +13,7 @@ use Rattle.pulsar_outgoing.specs.declared.storage.Limits.{Limits}
 use Rattle.pulsar_producer.specs.Producer as producer
 use Rattle.pulsar_producer.specs.Topic.{Act, Closes}
 use Rattle.pulsar_calls.specs.declared.act.Outcome.TheVariants as outcome
-use Rattle.pulsar_calls.specs.declared.content.Building.{Building}
+use Rattle.pulsar_calls.specs.declared.content.BuiltProducer.{BuiltProducer}
 use Rattle.pulsar_calls.specs.Content as content
 use Rattle.pulsar_calls.specs.Content.{Asked}
 use Rattle.pulsar_producer_table.specs.Asks.{grants_it, turn_said}
@@ -119,7 +119,7 @@ built_topics : (t : ℕ) (r : Option producer.Seen) (ps : Producers) → (with_b
 built_topics t None ps = refl
 built_topics t (Some p) ps = refl
 
-pub joined_is : (t : ℕ) (b : Building) (seed f : ℕ) (ps : Producers) →
+pub joined_is : (t : ℕ) (b : BuiltProducer) (seed f : ℕ) (ps : Producers) →
     joined t b seed f ps ≡ record (joined t b seed f ps) { topics = λ n. born (topic_in t f (limits_of b.settings) b.parts n) (ps.topics n) }
 joined_is t b seed f ps =
     ap (λ ts. record (joined t b seed f ps) { topics = ts })

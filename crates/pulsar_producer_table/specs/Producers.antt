@@ -23,9 +23,9 @@ use Rattle.pulsar_outgoing.specs.declared.news.Drawn.{Drawn}
 use Rattle.pulsar_producer.specs.declared.routing.Partition.{Partition}
 use Rattle.pulsar_outgoing.specs.declared.orders.Errand.{Errand}
 use Rattle.pulsar_outgoing.specs.declared.storage.Limits.{Limits}
-use Rattle.pulsar_calls.specs.declared.act.Refusal.{Refusal}
-use Rattle.pulsar_calls.specs.declared.act.Refusal.TheVariants as refusal
-use Rattle.pulsar_calls.specs.declared.content.Building.{Building}
+use Rattle.pulsar_calls.specs.declared.act.CallRefusal.{CallRefusal}
+use Rattle.pulsar_calls.specs.declared.act.CallRefusal.TheVariants as refusal
+use Rattle.pulsar_calls.specs.declared.content.BuiltProducer.{BuiltProducer}
 use Rattle.pulsar_calls.specs.declared.act.Who.{Who}
 use Rattle.pulsar_producer_table.specs.declared.table.Held.{Held}
 use Rattle.pulsar_producer_table.specs.declared.table.Topic.{Topic}
@@ -219,7 +219,7 @@ is_closed_at ps None = false
 is_closed_at ps (Some p) = is_shut_first ps p.routes.partitions
 
 -- why nothing is sent by the producer of a ticket
-abbrev pub why_not : Producers → (ticket : ℕ) → Option Refusal
+abbrev pub why_not : Producers → (ticket : ℕ) → Option CallRefusal
 why_not ps t =
     if is_some (ps.built t) then (if is_closed_at ps (ps.built t) then Some refusal.Closed else None) else Some refusal.UnknownTicket
 
@@ -305,7 +305,7 @@ abbrev pub partition_of : Built → Partition
 partition_of b = record { name = b.topic; number = b.number }
 
 -- it begins behind an index that is drawn for it
-abbrev pub made_of : (seed ticket : ℕ) → Building → Option producer.Seen
+abbrev pub made_of : (seed ticket : ℕ) → BuiltProducer → Option producer.Seen
 made_of seed ticket b =
     producer.made b.topic b.settings (map partition_of b.parts) (first_index seed ticket (length b.parts))
 
@@ -313,7 +313,7 @@ abbrev pub with_built : (ticket : ℕ) → Option producer.Seen → Producers �
 with_built t None ps = ps
 with_built t (Some p) ps = record ps { built = λ u. if u == t then Some p else ps.built u }
 
-abbrev pub joined : (ticket : ℕ) → Building → (seed first_number : ℕ) → Producers → Producers
+abbrev pub joined : (ticket : ℕ) → BuiltProducer → (seed first_number : ℕ) → Producers → Producers
 joined t b seed first_number ps = with_built t (made_of seed t b) (with_topics t first_number (limits_of b.settings) b.parts ps)
 
 -- CALLS

@@ -18,7 +18,7 @@ ghost use Rattle.pulsar_producer_table.specs.KeptProducers.{producers_of};
 
 use pulsar_addresses::content::Text;
 use pulsar_calls::act::{Notice, Outcome, Who};
-use pulsar_calls::content::{Advice, Building, Numbers, Remaking};
+use pulsar_calls::content::{Advice, BuiltProducer, Numbers, Remaking};
 use pulsar_calls::who::in_turn;
 use pulsar_messages::Message;
 use pulsar_outgoing::content::{Batch, Built, Entry, Parts, Settings, Version};
@@ -324,13 +324,13 @@ impl Producers {
     pub fn join(
         &mut self,
         ticket: u64,
-        building: Building,
+        building: BuiltProducer,
         seed: u64,
         first_number: u64,
     ) -> Result<(), NoMemory>
         ensures { OnOk result (producers_of self.new ≡ meaning.joined ticket building seed first_number (producers_of self.old)) }
     {
-        let Building {
+        let BuiltProducer {
             topic,
             settings,
             parts,

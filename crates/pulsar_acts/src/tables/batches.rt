@@ -19,7 +19,7 @@ use crate::tables::alarms::later;
 use pulsar_addresses::content::Refusal;
 use pulsar_agenda::agenda::Tasks;
 use pulsar_calls::act::{Act as Deed, Action, Alarm, Notice, Outcome, Procedure, Who};
-use pulsar_calls::content::{Building, Granted, Notices};
+use pulsar_calls::content::{BuiltProducer, Granted, Notices};
 use pulsar_outgoing::content::Built;
 use pulsar_outgoing::orders::Errand;
 use pulsar_producer::deed::News;
@@ -115,7 +115,7 @@ impl Tables {
     }
 
     /// The topic producers of a producer that is made send their batches, where they do, each by a plan of its own.
-    pub(super) fn batches_made(&self, building: &Building) -> Result<VecDeque<Deed>, NoMemory>
+    pub(super) fn batches_made(&self, building: &BuiltProducer) -> Result<VecDeque<Deed>, NoMemory>
         ensures { IfOk result (λ acts. acts.items ≡ batches_made (ways_of (chosen_of self.now.settings)) building.now) }
     {
         if !building.settings.is_batching() {
@@ -129,7 +129,11 @@ impl Tables {
 }
 
 /// Each topic producer of a producer sends its batches by a plan of its own.
-fn batches_from(alloc: Global, ways: &Ways, building: &Building) -> Result<VecDeque<Deed>, NoMemory>
+fn batches_from(
+    alloc: Global,
+    ways: &Ways,
+    building: &BuiltProducer,
+) -> Result<VecDeque<Deed>, NoMemory>
     ensures { IfOk result (λ acts. acts.items ≡ batches_from (Some ways.now) building.now) }
 {
     let mut acts = VecDeque::new(alloc);
@@ -139,7 +143,7 @@ fn batches_from(alloc: Global, ways: &Ways, building: &Building) -> Result<VecDe
     Ok(acts)
 }
 
-fn batches_by(ways: Ways, building: &Building, built: &Built) -> Deed
+fn batches_by(ways: Ways, building: &BuiltProducer, built: &Built) -> Deed
     ensures { result ≡ batches_by ways building.now.settings.block_queue_if_full built.now }
 {
     let errand = Errand {

@@ -6,7 +6,7 @@ use Rattle.std.proofs.lemmas.Bool.{cases_Bool, eqb-true}
 use Rattle.std.proofs.lemmas.Bool.Decides.{nat_tests}
 use Rattle.std.specs.List.{filter_map, flat_map}
 use Rattle.std.specs.Option.{option_map, is_some}
-use Rattle.pulsar_laws.proofs.ActWords.{Act, Alarm, Answers, Ask, Asked, Batch, Bytes, Call, Calls, CheckIdle, Comes, Dials, Does, Drains, Ends, Get, Heard, KeepAlive, LinkAct, Makes, Nothing, Notice, OfTopic, Opens, Outcome, Part, Pings, Polls, Procedure, Reads, Refusal, Retry, Rings, Starts, StopAll, Stops, TakeBatch, Tell, TellAll, ToLink, Told, Wake, Who, below, is_same, lacks_tickets, next_advice, numbers_from, opens, shares}
+use Rattle.pulsar_laws.proofs.ActWords.{Act, Alarm, Answers, Ask, Asked, Batch, Bytes, Call, Calls, CheckIdle, Comes, Dials, Does, Drains, Ends, Get, Heard, KeepAlive, LinkAct, Makes, Nothing, Notice, OfTopic, Opens, Outcome, Part, Pings, Polls, Procedure, Reads, CallRefusal, Retry, Rings, Starts, StopAll, Stops, TakeBatch, Tell, TellAll, ToLink, Told, Wake, Who, below, is_same, lacks_tickets, next_advice, numbers_from, opens, shares}
 use Rattle.pulsar_laws.proofs.PlanWords.{fails, Plan, verdict, Ways}
 use Rattle.pulsar_laws.proofs.RunWords.{after, agenda, Agenda, arranged, asks_raw, asks_topics, at_once, Begins, begun, begun_live, begun_same, builds_with, called, causes, checks, Chosen, closes, consumers_after, consumers_made, Each, each_append, each_either, each_flat, each_map, Entry, first, first_case, first_of, flushes, follows_some, from_base, gathers, In, is_live, IsRun, joins, left_with, link_got, live_begun, lost_on, may_call, none_now, notice, Options, over_each, parts_of, procedure_for, produces, rest, rest_of, rules, searches, sends, shares_unless, starts, stays_some, stopped_on, tells, Then, Tickets, told_some, turned_by, unless_refused, view, View, ways_of, why_no_sends}
 use Rattle.pulsar_laws.proofs.LinkWords.{address_key, Addresses, arrival_at, Base, closing, Exhausted, got_at, Nobody, over_links, Pause, Pauses, Place, rings, Runs, Seat, Series, Serves, stop_act, tells_asker, took_some}
@@ -28,10 +28,10 @@ use Rattle.pulsar_producer.specs.Topic.{Act as Act', Halts, Seen, TakesBatch, le
 use Rattle.pulsar_outgoing.specs.declared.news.News.TheVariants as news
 use Rattle.pulsar_messages.specs.Content.{ProducerMessageValues}
 use Rattle.pulsar_producer_table.specs.Producers.{Producers, next_batch_at, topic_after, unsent, waiting, why_not}
-use Rattle.pulsar_calls.specs.declared.act.Refusal.TheVariants as refusal
+use Rattle.pulsar_calls.specs.declared.act.CallRefusal.TheVariants as refusal
 use Rattle.pulsar_calls.specs.declared.act.Outcome.TheVariants as outcome
 use Rattle.pulsar_calls.specs.declared.act.Procedure.TheVariants as procedure
-use Rattle.pulsar_searches.specs.declared.plan.Procedure.TheVariants as sought
+use Rattle.pulsar_searches.specs.declared.plan.Sought.TheVariants as sought
 use Rattle.pulsar_calls.specs.Content as content
 use Rattle.pulsar_laws.proofs.calls.Asked.{stop_clear}
 use Rattle.pulsar_laws.proofs.links.Attempts.{is_dial}
@@ -138,7 +138,7 @@ last_call o c cs ps advice (content.CloseConsumer t) who h = refused_unless who 
 last_call o c cs ps advice (content.Raw l request) who h = refused_unless who (may_call c) (asks_raw cs ps l request) (not_open c h)
 
 -- and has no parts
-last_shares : (why : Option Refusal) (v : View) (advice : List (Option ℕ)) (t : ℕ) (ms : List ProducerMessageValues) → is_some why ≡ true →
+last_shares : (why : Option CallRefusal) (v : View) (advice : List (Option ℕ)) (t : ℕ) (ms : List ProducerMessageValues) → is_some why ≡ true →
     Each IsLast (shares_unless why v advice t ms)
 last_shares (Some r) v advice t ms h = tt
 last_shares None v advice t ms h = absurd cc
@@ -415,10 +415,10 @@ module _ (o : Options) (log : List Entry) (run : IsRun o log) (k : Over o log) w
   of_told : (n : Notice) (w : Who) (test : Option Plan → Bool) → test (v.stand n.who) ≡ true → w ≡ n.who → test (v.stand w) ≡ true
   of_told n w test h e = ap (λ x. test (v.stand x)) e ∙ h
 
-  refused_fine : (who w : Who) (r : Refusal) → is_fine (stand_after (Starts who (procedure.Refuse r)) w (v.stand w)) ≡ true
+  refused_fine : (who w : Who) (r : CallRefusal) → is_fine (stand_after (Starts who (procedure.Refuse r)) w (v.stand w)) ≡ true
   refused_fine who w r = elim (is_same w who) as (λ b. is_fine (cond b None (v.stand w)) ≡ true) [ true ↦ refl | false ↦ k.fine w ]
 
-  refused_ends : (who : Who) (r : Refusal) → StaysEnding (Starts who (procedure.Refuse r))
+  refused_ends : (who : Who) (r : CallRefusal) → StaysEnding (Starts who (procedure.Refuse r))
   refused_ends who r w h = elim (is_same w who) as (λ b. ends_settled (cond b None (v.stand w)) ≡ true) [ true ↦ refl | false ↦ h ]
 
   -- how each who waits for a batch stands

@@ -3,7 +3,7 @@ use Rattle.std.proofs.Common.{◌≡◌, ◌∙◌, sym, ap, ℕ, ◌-◌, ◌^�
 use Rattle.std.proofs.lemmas.Bool.Decides.{nat_tests}
 use Rattle.std.specs.List.{filter_map, flat_map}
 use Rattle.std.specs.Option.{option_map, option_to_list}
-use Rattle.pulsar_laws.proofs.ActWords.{Act, Action, Alarm, Answers, Ask, Asked, Call, Calls, CheckIdle, Comes, Dials, Does, Drains, Draw, End, Ends, Get, KeepAlive, LinkAct, Makes, Notice, Opens, Overdue, Part, Pings, Reads, Refusal, Revive, Rings, Shown, Starts, StopAll, ToLink, Who, lacks_tickets, numbers_from, opens, shares, ticket_of}
+use Rattle.pulsar_laws.proofs.ActWords.{Act, Action, Alarm, Answers, Ask, Asked, Call, Calls, CheckIdle, Comes, Dials, Does, Drains, Draw, End, Ends, Get, KeepAlive, LinkAct, Makes, Notice, Opens, Overdue, Part, Pings, Reads, CallRefusal, Revive, Rings, Shown, Starts, StopAll, ToLink, Who, lacks_tickets, numbers_from, opens, shares, ticket_of}
 use Rattle.pulsar_laws.proofs.PlanWords.{fails}
 use Rattle.pulsar_laws.proofs.RunWords.{after, at_once, causes, dialed, draws_on, further, joins, link_got, parts_of, procedure_for, room_of, setup_of, shares_unless, Turned, turned, turned_by, View, why_no_sends}
 use Rattle.pulsar_laws.proofs.LinkWords.{address_key, answer_at, arrival_at, closed_by, closed_consumer, closing, ConnectionError, Exhausted, Fault, got_at, is_asked, is_numbered, over_links, place_of, rings, Seat, seat_asked, seat_got, SendPing, stop_act, tells_asker, told_at, took, took_end, took_some, url_at, Words}
@@ -291,7 +291,7 @@ module _ (l : ℕ) (bytes : List ℕ) (v : View) where
   over_same f same = λ i. flat_map
       (λ k. of_row (λ r. flat_map (f k) (option_to_list r)) (λ seat. ap (λ xs. xs ++ []) (same k seat)) k i) (numbers_from 0 v.links.started)
 
-  shares_same : (r : Option Refusal) (advice : List (Option ℕ)) (t : ℕ) (ms : List ProducerMessageValues) →
+  shares_same : (r : Option CallRefusal) (advice : List (Option ℕ)) (t : ℕ) (ms : List ProducerMessageValues) →
       shares_unless r other advice t ms ≡ shares_unless r v advice t ms
   shares_same None advice t ms = refl
   shares_same (Some r) advice t ms = refl

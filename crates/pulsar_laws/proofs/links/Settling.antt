@@ -18,7 +18,7 @@ use Rattle.pulsar_requests.specs.Waits.{Pending, places}
 use Rattle.pulsar_session.specs.Answers.{answers, is}
 use Rattle.pulsar_session.specs.declared.states.Stage.{Stage}
 use Rattle.pulsar_session.specs.declared.states.Stage.TheVariants.{Dialing, Handshaking, Ready, Over}
-use Rattle.pulsar_session.specs.Laws.{Outcome as Fate, Replied, Ended, is_named, told_by, told_in, told_of as told_ever}
+use Rattle.pulsar_session.specs.Laws.{RequestOutcome as Fate, Replied, Ended, is_named, told_by, told_in, told_of as told_ever}
 use Rattle.pulsar_session.specs.Link as session
 use Rattle.pulsar_session.specs.Link.{Act as Act', Asks, Came, Closes, Feeds, Seen, Setup, came, came_by, came_in, ends, for_consumer, frame_at, greeted_by, is_over, settled_by}
 use Rattle.pulsar_session.proofs.Settled.{rising}

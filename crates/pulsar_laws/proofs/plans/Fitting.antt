@@ -3,7 +3,7 @@
 -- reported once it is queued.
 use Rattle.std.proofs.Common.{◌≡◌, ℕ, List, ◌∷◌, map, refl, Bool, true, false, ◌&&◌, Option, Some, None, []}
 use Rattle.pulsar_laws.proofs.ActWords.{Action, Ask, Find, Notice, OfTopic, Outcome, PassTurn, Procedure, Share, Shut, StopAll, Store, TakeBatch, Tell, TellAll, Verdict}
-use Rattle.pulsar_laws.proofs.PlanWords.{action_of, Batches, Batching, begins, Building as Build, Deed, Errand, Fate, Gives, Leaving, News, Order, Plan, Reporting, Sending as Send, Stays, Stored, Storing, told, told_to, Turn, verdict, Visiting, Ways}
+use Rattle.pulsar_laws.proofs.PlanWords.{action_of, Batches, Batching, begins, BuildingProducer as Build, Deed, Errand, Fate, Gives, Leaving, News, ProducerOrder, Plan, Reporting, Sending as Send, Stays, Stored, Storing, told, told_to, Turn, verdict, Visiting, Ways}
 use Rattle.pulsar_producer.specs.Batching.{is_sent_send}
 use Rattle.pulsar_frame.specs.Batch.{EntryValues}
 use Rattle.pulsar_outgoing.specs.Batch.{member_of, reports}
@@ -167,7 +167,7 @@ part_fits h queued b = absurd cc
 part_fits h sent_rests b = absurd cc
 part_fits h _ b = refl
 
-build_own : {w : Ways} {o : Order} {b q : Build} {y : News} {d : Deed} → BuildArc w o b y q d → is_own (action_of d) ≡ true
+build_own : {w : Ways} {o : ProducerOrder} {b q : Build} {y : News} {d : Deed} → BuildArc w o b y q d → is_own (action_of d) ≡ true
 build_own naming_rests = refl
 build_own _ = refl
 

@@ -1,7 +1,7 @@
 -- What a plan has the turn of, and how it comes to it and leaves it: one step of a plan.
 use Rattle.std.proofs.Common.{◌≡◌, ◌⊎◌, inl, inr, ◌∙◌, sym, ℕ, refl, Bool, true, false, Option, Some, None, subst}
 use Rattle.pulsar_laws.proofs.ActWords.{Action, OfTopic, Outcome, PassTurn, Procedure, Share, TakeTurn}
-use Rattle.pulsar_laws.proofs.PlanWords.{action_of, Batches, Batching, begins, Building as Build, Deed, Errand, Leaving, News, news_of, Order, Plan, Producing, Reporting, Sending as Send, told, Visiting, Ways}
+use Rattle.pulsar_laws.proofs.PlanWords.{action_of, Batches, Batching, begins, BuildingProducer as Build, Deed, Errand, Leaving, News, news_of, ProducerOrder, Plan, Producing, Reporting, Sending as Send, told, Visiting, Ways}
 use Rattle.pulsar_laws.proofs.LinkWords.{Failure}
 use Rattle.pulsar_searches.specs.declared.turn.Action.TheVariants as wish
 use Rattle.pulsar_producer.specs.declared.batching.Batching.TheVariants as batching
@@ -143,7 +143,7 @@ goes_as p q u e s r d hp hq tp k = record {
 
 -- A BUILDING AND BATCHES
 
-build_idle : {w : Ways} {o : Order} {b q : Build} {y : News} {d : Deed} (p x : Plan) → BuildArc w o b y q d → PassesSo p x (action_of d)
+build_idle : {w : Ways} {o : ProducerOrder} {b q : Build} {y : News} {d : Deed} (p x : Plan) → BuildArc w o b y q d → PassesSo p x (action_of d)
 build_idle p x naming_rests = tt
 build_idle p x _ = tt
 

@@ -1,7 +1,7 @@
 -- What plans tell one another.
 use Rattle.std.proofs.Common.{◌≡◌, List, [], ◌∷◌, refl, map, Bool, true, false}
 use Rattle.pulsar_laws.proofs.ActWords.{Action, Call, Notice, Outcome, Procedure, Tell, TellAll, Who}
-use Rattle.pulsar_laws.proofs.PlanWords.{action_of, Batches, Batching, Building as Build, Deed, Errand, Fate, Leaving, News, Order, Plan, Sending as Send, told_to, Ways}
+use Rattle.pulsar_laws.proofs.PlanWords.{action_of, Batches, Batching, BuildingProducer as Build, Deed, Errand, Fate, Leaving, News, ProducerOrder, Plan, Sending as Send, told_to, Ways}
 use Rattle.pulsar_laws.proofs.RunWords.{Each}
 use Rattle.pulsar_outgoing.specs.declared.batch.Fate.TheVariants as fate
 use Rattle.pulsar_outgoing.specs.declared.batch.Report.{Report}
@@ -65,7 +65,7 @@ send_tells : {w : Ways} {e : Errand} {s q : Send} {y : News} {d : Deed} → Send
 send_tells draws = tt
 send_tells _ = tt
 
-build_tells : {w : Ways} {o : Order} {b q : Build} {y : News} {d : Deed} → BuildArc w o b y q d → TellsSo (action_of d)
+build_tells : {w : Ways} {o : ProducerOrder} {b q : Build} {y : News} {d : Deed} → BuildArc w o b y q d → TellsSo (action_of d)
 build_tells naming_rests = tt
 build_tells _ = tt
 

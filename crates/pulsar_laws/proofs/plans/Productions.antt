@@ -1,17 +1,17 @@
 -- Where the making of a producer fails, and a send: with the fault of the news that it was told, by what a reply says, or with what it
 -- kept to tell later.
 use Rattle.std.proofs.Common.{◌≡◌, List, [], ◌∷◌, refl, Bool, true, false, cond, Option, Some, None, Result, Ok, Err}
-use Rattle.pulsar_laws.proofs.PlanWords.{Building, Built, Command, Errand, News as Granting, Making, Heard as News, Order, SearchTurn, Sending, Served, Ways}
+use Rattle.pulsar_laws.proofs.PlanWords.{BuildingProducer, Built, Command, Errand, News as Granting, Making, Heard as News, ProducerOrder, SearchTurn, Sending, Served, Ways}
 use Rattle.pulsar_laws.proofs.LinkWords.{Failure, Fault, Named, OfConnection}
 use Rattle.pulsar_messages.specs.Content.{ProducerMessageValues}
 use Rattle.pulsar_frame.specs.Reply.{Reply as Content, is_body}
 use Rattle.pulsar_searches.specs.Plans.{is_lost, look_told, made_gets, made_told, names_begins, names_told, verdict}
 use Rattle.pulsar_searches.specs.Replies.{unexpected}
-use Rattle.pulsar_searches.specs.declared.turn.Outcome.TheVariants as news
+use Rattle.pulsar_searches.specs.declared.turn.SearchOutcome.TheVariants as news
 use Rattle.pulsar_searches.specs.declared.turn.Turn.TheVariants as search_turn
 use Rattle.pulsar_outgoing.specs.Errors.{in_producer}
 use Rattle.pulsar_producer.specs.Plans.{Builds, Sent, build_begins, build_closes, build_made, build_next, build_told, fault_told, not_drawn, not_queued, or_else, receipt, send_ends, send_makes, send_recalls, send_remakes, send_told}
-use Rattle.pulsar_producer.specs.declared.building.Building.TheVariants as build
+use Rattle.pulsar_producer.specs.declared.building.BuildingProducer.TheVariants as build
 use Rattle.pulsar_outgoing.specs.declared.news.News.TheVariants as granting
 use Rattle.pulsar_producer.specs.declared.deed.Step.{Step}
 use Rattle.pulsar_producer.specs.declared.deed.Step.TheVariants as step
@@ -44,7 +44,7 @@ AllowsBreaks P w y = (x : News) → y ≡ granting.Told x → (f : Failure) → 
 -- A BUILDING
 
 -- it keeps why it fails
-abbrev pub BuildKeeps : (Failure → Type 0) → Building → Type 0
+abbrev pub BuildKeeps : (Failure → Type 0) → BuildingProducer → Type 0
 BuildKeeps P (build.Closing left f) = P f
 BuildKeeps P _ = Unit {0}
 
@@ -59,13 +59,13 @@ closes_end : (P : Failure → Type 0) (left : List Built) (f : Failure) → P f 
 closes_end P [] f k = k
 closes_end P (b ∷ left) f k = k
 
-pub building_begins : (P : Failure → Type 0) (w : Ways) (o : Order) → BuildEnds P (build_begins w o)
+pub building_begins : (P : Failure → Type 0) (w : Ways) (o : ProducerOrder) → BuildEnds P (build_begins w o)
 building_begins P w o =
     else_ends (BuildKeeps P) P P (names_begins w o.topic) build.Naming (λ names. build_next names []) (λ f. step.Gives (Err f)) (names_begin P w o.topic)
     (λ n. tt)
     (λ names. next_ends P names []) (λ f k. k)
 
-pub building_ends : (P : Failure → Type 0) (w : Ways) (o : Order) (b : Building) (y : Granting) → P (OfConnection (fault_told y)) → AllowsBreaks P w y →
+pub building_ends : (P : Failure → Type 0) (w : Ways) (o : ProducerOrder) (b : BuildingProducer) (y : Granting) → P (OfConnection (fault_told y)) → AllowsBreaks P w y →
     BuildKeeps P b →
     BuildEnds P (build_told w o b y)
 building_ends P w o (build.Naming n) (granting.Told x) fault breaks k =

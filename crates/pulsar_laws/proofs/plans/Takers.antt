@@ -1,7 +1,7 @@
 -- Only the plan of a topic producer's batches takes batches, which are its own, and tells those who are in one.
 use Rattle.std.proofs.Common.{◌≡◌, ℕ, List, ◌∷◌, refl, Bool, true, false, ◌∙◌, sym, ap, subst, inl, inr}
 use Rattle.pulsar_laws.proofs.ActWords.{Action, Call, Consumer, Does, Notice, OfTopic, Outcome, Procedure, Producer, TakeBatch, TellAll, Told, Who}
-use Rattle.pulsar_laws.proofs.PlanWords.{action_of, begins, Building as Build, Deed, Errand, News, Order, Plan, Sending as Send, told, Ways}
+use Rattle.pulsar_laws.proofs.PlanWords.{action_of, begins, BuildingProducer as Build, Deed, Errand, News, ProducerOrder, Plan, Sending as Send, told, Ways}
 use Rattle.pulsar_laws.proofs.RunWords.{Entry, IsRun, notice, Options, Then}
 use Rattle.pulsar_laws.proofs.plans.Batched.{takes_where}
 use Rattle.pulsar_laws.proofs.producers.BatchRun.{batched_run, deed_at}
@@ -25,7 +25,7 @@ send_takes : {w : Ways} {e : Errand} {s q : Send} {y : News} {d : Deed} → Send
 send_takes draws = refl
 send_takes _ = refl
 
-build_takes : {w : Ways} {o : Order} {b q : Build} {y : News} {d : Deed} → BuildArc w o b y q d → is_taker (action_of d) ≡ false
+build_takes : {w : Ways} {o : ProducerOrder} {b q : Build} {y : News} {d : Deed} → BuildArc w o b y q d → is_taker (action_of d) ≡ false
 build_takes naming_rests = refl
 build_takes _ = refl
 

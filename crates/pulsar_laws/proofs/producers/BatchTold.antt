@@ -11,7 +11,7 @@ use Rattle.pulsar_frame.specs.Reply.{Reply as Content, is_body}
 use Rattle.pulsar_wire.specs.declared.key.RequestKey.TheVariants as keys
 use Rattle.pulsar_searches.specs.Plans as search
 use Rattle.pulsar_searches.specs.Replies.{unexpected}
-use Rattle.pulsar_searches.specs.declared.turn.Outcome.TheVariants as heard
+use Rattle.pulsar_searches.specs.declared.turn.SearchOutcome.TheVariants as heard
 use Rattle.pulsar_searches.specs.declared.turn.Turn.TheVariants as search_turn
 use Rattle.pulsar_outgoing.specs.Batch.{batch_of, cut_report, entries_in, member_of, receipt_fate, reports}
 use Rattle.pulsar_producer.specs.Batching.{is_sent_send}

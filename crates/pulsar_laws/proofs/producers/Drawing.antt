@@ -20,7 +20,7 @@ use Rattle.pulsar_calls.specs.declared.act.Who.TheVariants as by
 use Rattle.pulsar_acts.specs.View.{producers_left}
 use Rattle.pulsar_calls.specs.declared.act.Outcome.TheVariants as outcome
 use Rattle.pulsar_calls.specs.declared.act.Who.TheVariants as one
-use Rattle.pulsar_calls.specs.declared.content.Building.{Building}
+use Rattle.pulsar_calls.specs.declared.content.BuiltProducer.{BuiltProducer}
 use Rattle.pulsar_producer_table.specs.declared.table.Topic.{Topic}
 use Rattle.pulsar_calls.specs.Content as content
 pub use Rattle.pulsar_laws.proofs.plans.Standing.{began_on}
@@ -130,12 +130,12 @@ same_owner (e ∷ es) t = same_owner es t
 pub record Joins (v : View) (a : Act) (n : ℕ) (t : Topic) : Type 0 where
   pub who : Who
   pub verdict : Verdict
-  pub building : Building
+  pub building : BuiltProducer
   pub is_act : a ≡ Answers who verdict
   pub makes : verdict.makes ≡ Producer building
   pub is_new : IsNew (rank who).1 v.chosen.first_number (limits_of building.settings) n building.parts t
 
-building_made : (m : Makes) (b : Building) → building_of m ≡ Some b → m ≡ Producer b
+building_made : (m : Makes) (b : BuiltProducer) → building_of m ≡ Some b → m ≡ Producer b
 building_made (Producer x) b h = let e : x ≡ b = cc in ap (λ y. Producer y) e
 building_made Nothing b h = absurd cc
 building_made _ b h = absurd cc
@@ -143,7 +143,7 @@ building_made _ b h = absurd cc
 pub born_joins : (v : View) (a : Act) (n : ℕ) (t : Topic) → topic_born v n a ≡ Some t → Joins v a n t
 born_joins v (Answers who verdict) n t h = by (building_of verdict.makes) refl h
   where
-    by : (r : Option Building) → building_of verdict.makes ≡ r → topic_of r who v.chosen n ≡ Some t → Joins v (Answers who verdict) n t
+    by : (r : Option BuiltProducer) → building_of verdict.makes ≡ r → topic_of r who v.chosen n ≡ Some t → Joins v (Answers who verdict) n t
     by (Some b) e k = record {
       who = who;
       verdict = verdict;
@@ -372,14 +372,14 @@ joins_own o log k w verdict run = elim (answers_from o log w verdict run) [
   ]
 ]
 
-owned_in : (Q : ℕ → Type 0) (n : ℕ) (m : Makes) (b : Building) → m ≡ Producer b → MakesSound Q m → In n (map number_of b.parts) → Q n
+owned_in : (Q : ℕ → Type 0) (n : ℕ) (m : Makes) (b : BuiltProducer) → m ≡ Producer b → MakesSound Q m → In n (map number_of b.parts) → Q n
 owned_in Q n m b e k i = let s : MakesSound Q (Producer b) = subst (MakesSound Q) e k in in_each Q n (map number_of b.parts) s i
 
 self_same : (t : ℕ) → is_same (Call t) (Call t) ≡ true
 self_same t = same_self (Call t)
 
 -- a topic producer makes no producer
-no_producer : (o : Options) (log : List Entry) (m : ℕ) (verdict : Verdict) (b : Building) → verdict.makes ≡ Producer b →
+no_producer : (o : Options) (log : List Entry) (m : ℕ) (verdict : Verdict) (b : BuiltProducer) → verdict.makes ≡ Producer b →
     IsRun o (Then (Answers (one.Producer m) verdict) ∷ log) → ⊥
 no_producer o log m verdict b makes run = elim (answers_from o log (one.Producer m) verdict run) [
   | inl t ↦
@@ -394,7 +394,7 @@ no_producer o log m verdict b makes run = elim (answers_from o log (one.Producer
 ]
 
 -- and no consumer does
-no_consumer : (o : Options) (log : List Entry) (n t : ℕ) (verdict : Verdict) (b : Building) → verdict.makes ≡ Producer b →
+no_consumer : (o : Options) (log : List Entry) (n t : ℕ) (verdict : Verdict) (b : BuiltProducer) → verdict.makes ≡ Producer b →
     IsRun o (Then (Answers (one.Consumer n t) verdict) ∷ log) → ⊥
 no_consumer o log n t verdict b makes run = elim (answers_from o log (one.Consumer n t) verdict run) [
   | inl k ↦
@@ -410,7 +410,7 @@ no_consumer o log n t verdict b makes run = elim (answers_from o log (one.Consum
   ]
 ]
 
-pub who_call : (o : Options) (log : List Entry) (w : Who) (verdict : Verdict) (b : Building) → verdict.makes ≡ Producer b →
+pub who_call : (o : Options) (log : List Entry) (w : Who) (verdict : Verdict) (b : BuiltProducer) → verdict.makes ≡ Producer b →
     IsRun o (Then (Answers w verdict) ∷ log) → w ≡ Call (rank w).1
 who_call o log (Call t) verdict b makes run = refl
 who_call o log (one.Consumer n t) verdict b makes run = absurd (no_consumer o log n t verdict b makes run)
@@ -422,7 +422,7 @@ end_self w verdict t e = ap (λ x. end_of t (Answers x verdict)) e ∙ ap (λ b.
 unspent : (t : ℕ) → Began (Call t) → is_spent t ≡ false
 unspent t k = k
 
-ends_began : (o : Options) (log : List Entry) (t : ℕ) (verdict : Verdict) (b : Building) → verdict.makes ≡ Producer b →
+ends_began : (o : Options) (log : List Entry) (t : ℕ) (verdict : Verdict) (b : BuiltProducer) → verdict.makes ≡ Producer b →
     IsRun o (Then (Answers (Call t) verdict) ∷ log) → is_spent t ≡ false
 ends_began o log t verdict b makes run = elim (answers_from o log (Call t) verdict run) [
   | inl k ↦
@@ -439,7 +439,7 @@ ends_began o log t verdict b makes run = elim (answers_from o log (Call t) verdi
 ]
 
 -- A topic producer that joins has a number that no other has.
-pub joins_new : (o : Options) (log : List Entry) → Every (Drawn o) log → (who : Who) (verdict : Verdict) (b : Building) (n : ℕ) (row : Topic) →
+pub joins_new : (o : Options) (log : List Entry) → Every (Drawn o) log → (who : Who) (verdict : Verdict) (b : BuiltProducer) (n : ℕ) (row : Topic) →
     verdict.makes ≡ Producer b →
     IsRun o (Then (Answers who verdict) ∷ log) → In n (map number_of b.parts) → (view o log).producers.topics n ≡ Some row → ⊥
 joins_new o log k (Call t) verdict b n row makes run i h =

@@ -4,7 +4,7 @@ use Rattle.std.proofs.lemmas.Bool.{cases_Bool, eqb-true}
 use Rattle.std.proofs.lemmas.Bool.Decides.{nat_tests}
 use Rattle.std.specs.Option.{is_some, option_map}
 use Rattle.pulsar_laws.proofs.ActWords.{Act, Action, Alarm, Answers, Asked, Batch, Call, Calls, Comes, Does, Draw, Heard, is_same, lacks_tickets, Makes, Nothing, Outcome, Procedure, Rings, shares, Shut, Starts, Told, Verdict, Who}
-use Rattle.pulsar_laws.proofs.PlanWords.{begins, Built, Gives, is_answer, Order, Plan, Producing, Ways}
+use Rattle.pulsar_laws.proofs.PlanWords.{begins, Built, Gives, is_answer, ProducerOrder, Plan, Producing, Ways}
 use Rattle.pulsar_laws.proofs.RunWords.{Begins, begun_same, counted, draws_on, Entry, IsRun, may_call, notice, Options, producers_made, producers_rung, room_of, start_of, started, Then, view, View}
 use Rattle.pulsar_laws.proofs.LinkWords.{rings}
 use Rattle.pulsar_messages.specs.Content.{ProducerMessageValues, ProducerOptionsValues}
@@ -22,7 +22,7 @@ use Rattle.pulsar_calls.specs.Content as content
 use Rattle.pulsar_calls.specs.Who.{rank}
 use Rattle.pulsar_calls.specs.declared.act.Makes.TheVariants.{Producer}
 use Rattle.pulsar_calls.specs.declared.act.Procedure.TheVariants as procedure
-use Rattle.pulsar_calls.specs.declared.content.Building.{Building}
+use Rattle.pulsar_calls.specs.declared.content.BuiltProducer.{BuiltProducer}
 use Rattle.pulsar_plans.specs.Plan.{built_of}
 use Rattle.pulsar_producer_table.specs.Producers.{Producers, all_routed, called_on, changed, made_of, names_in, numbers_at, opened_on, partition_of, routed, sent_on, shut_all, timeout_in, why_not, with_built, with_topic, with_topics}
 use Rattle.pulsar_producer_table.specs.declared.table.Topic.{Topic}
@@ -75,29 +75,29 @@ ordered o t log p h =
 
 -- WHAT IT BUILDS has the options of its order
 
-record IsBuiltBy (log : List Entry) (t : ℕ) (b : Building) : Type 0 where
+record IsBuiltBy (log : List Entry) (t : ℕ) (b : BuiltProducer) : Type 0 where
   ways : Ways
-  order : Order
+  order : ProducerOrder
   started_so : started (Call t) log ≡ Some (procedure.Produce ways order)
   settings : b.settings ≡ order.options
 
-settings_of : (o : Order) (parts : List Built) (b : Building) → built_of o parts ≡ Producer b → b.settings ≡ o.options
+settings_of : (o : ProducerOrder) (parts : List Built) (b : BuiltProducer) → built_of o parts ≡ Producer b → b.settings ≡ o.options
 settings_of o parts b m =
-    let e : record { topic = o.topic; settings = o.options; parts = parts } ≡ b = cc in ap (λ (x : Building). x.settings) (sym e)
+    let e : record { topic = o.topic; settings = o.options; parts = parts } ≡ b = cc in ap (λ (x : BuiltProducer). x.settings) (sym e)
 
 -- a reply makes what its request does, or nothing
-plain_reply : (c : Bool) (m : Makes) (b : Building) → makes_producer m ≡ false → cond c m Nothing ≡ Producer b → ⊥
+plain_reply : (c : Bool) (m : Makes) (b : BuiltProducer) → makes_producer m ≡ false → cond c m Nothing ≡ Producer b → ⊥
 plain_reply true m b h e = let f : true ≡ false = ap makes_producer (sym e) ∙ h in absurd cc
 plain_reply false m b h e = absurd cc
 
-end_built : (Q : ℕ → Type 0) {p : Plan} {u : Outcome} {v : Verdict} → End p u v → (log : List Entry) (t : ℕ) (b : Building) → v.makes ≡ Producer b →
+end_built : (Q : ℕ → Type 0) {p : Plan} {u : Outcome} {v : Verdict} → End p u v → (log : List Entry) (t : ℕ) (b : BuiltProducer) → v.makes ≡ Producer b →
     OrderedSo log t p → IsSound Q p → IsBuiltBy log t b
 end_built Q (produced {w} {o} {parts} built) log t b m k s =
     record { ways = w; order = o; started_so = k; settings = settings_of o parts b m }
 end_built Q (answers {x} {r}) log t b m k s = absurd (plain_reply (is_answer x.number r.content.body) x.makes b s m)
 end_built Q _ log t b m k s = absurd cc
 
-begun_built : {p : Procedure} {v : Verdict} → BegunEnd p v → (log : List Entry) (t : ℕ) (b : Building) → v.makes ≡ Producer b →
+begun_built : {p : Procedure} {v : Verdict} → BegunEnd p v → (log : List Entry) (t : ℕ) (b : BuiltProducer) → v.makes ≡ Producer b →
     IsBuiltBy (Then (Starts (Call t) p) ∷ log) t b
 begun_built (begins_none {w} {o}) log t b m =
     record { ways = w; order = o; started_so = self_started log t (procedure.Produce w o); settings = settings_of o [] b m }
@@ -108,7 +108,7 @@ begun_end p v e =
     by_begun (λ t. (x : Verdict) → t ≡ Gives x → BegunEnd p x) p (λ q a k x h. absurd cc)
     (λ y k x h. (let f : y ≡ x = cc in subst (BegunEnd p) f k)) v e
 
-built_by : (o : Options) (log : List Entry) (t : ℕ) (verdict : Verdict) (b : Building) → verdict.makes ≡ Producer b →
+built_by : (o : Options) (log : List Entry) (t : ℕ) (verdict : Verdict) (b : BuiltProducer) → verdict.makes ≡ Producer b →
     IsRun o (Then (Answers (Call t) verdict) ∷ log) → IsBuiltBy log t b
 built_by o log t verdict b m run = elim (answers_from o log (Call t) verdict run) [
   | inl x ↦
@@ -207,7 +207,7 @@ made_options name options qs last p h = by (routed_from qs options.routing_polic
 record IsMade (v : View) (a : Act) (t : ℕ) (p : producer.Seen) : Type 0 where
   who : Who
   verdict : Verdict
-  building : Building
+  building : BuiltProducer
   is_act : a ≡ Answers who verdict
   makes : verdict.makes ≡ Producer building
   ticket : t ≡ (rank who).1
@@ -285,7 +285,7 @@ still_started o log a t p run h = h
 -- the order of a call, as which it has begun
 record IsOrdered (log : List Entry) (t : ℕ) (options : ProducerOptionsValues → Type 0) : Type 0 where
   ways : Ways
-  order : Order
+  order : ProducerOrder
   started_so : started (Call t) log ≡ Some (procedure.Produce ways order)
   so : options order.options
 
@@ -306,7 +306,7 @@ ordered_same : (log : List Entry) (t : ℕ) (P Q : ProducerOptionsValues → Typ
 ordered_same log t P Q f k = record { ways = k.ways; order = k.order; started_so = k.started_so; so = f k.order.options k.so }
 
 -- the one that a verdict makes
-verdict_ordered : (o : Options) (log : List Entry) (who : Who) (verdict : Verdict) (b : Building) → verdict.makes ≡ Producer b →
+verdict_ordered : (o : Options) (log : List Entry) (who : Who) (verdict : Verdict) (b : BuiltProducer) → verdict.makes ≡ Producer b →
     IsRun o (Then (Answers who verdict) ∷ log) → IsOrdered (Then (Answers who verdict) ∷ log) (rank who).1 (λ x. b.settings ≡ x)
 verdict_ordered o log who verdict b m run =
     let is : who ≡ Call (rank who).1 = who_call o log who verdict b m run in
@@ -408,7 +408,7 @@ batches_by_its_options_lem o log n row run h =
       (λ p there. (let b = built_run o log run row.owner p there in
           let same : Some (procedure.Produce b.ways b.order) ≡ Some (procedure.Produce k.ways k.order) = sym b.started_so ∙ k.started_so in
           let one : b.order ≡ k.order = cc in
-          ap timeout_in there ∙ ap (λ (x : ProducerOptionsValues). x.batch_timeout) (b.so ∙ ap (λ (x : Order). x.options) one))),
+          ap timeout_in there ∙ ap (λ (x : ProducerOptionsValues). x.batch_timeout) (b.so ∙ ap (λ (x : ProducerOrder). x.options) one))),
       λ some. (let x = topics_alone_lem o log n row run h in
           let s : Setup = record { built = x.0; first_number = o.chosen.first_number; limits = x.1 } in
           let not : is_ready row.seen.storage ≡ false =

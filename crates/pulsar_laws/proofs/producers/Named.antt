@@ -2,7 +2,7 @@
 use Rattle.std.proofs.Common.{◌≡◌, ◌⊎◌, inl, inr, ◌∙◌, sym, ap, subst, ℕ, ◌+◌, ◌==◌, ◌&&◌, not, List, [], ◌∷◌, ◌++◌, refl, map, length, Bool, true, false, cond, Option, Some, None, Result, Ok, Err}
 use Rattle.std.proofs.lemmas.Bool.{cases_Bool}
 use Rattle.pulsar_laws.proofs.ActWords.{Act, Action, Answers, Batch, Comes, Does, Draw, Flush, Makes, Nothing, Notice, Outcome, PassTurn, Procedure, Remake, Rings, Share, Shut, StopAll, Store, TakeBatch, TakeTurn, Tell, TellAll, Told, Verdict, Who}
-use Rattle.pulsar_laws.proofs.PlanWords.{action_of, Asking, Awaiting, Batches, Batching, begins, Building as Build, Built, Command, Deed, Errand, Gives, Heard, is_answer, Making, Member, Naming, News, news_of, Order, overrides, Plan, Producing, SearchTurn, Sending as Send, Served, Stays, told, Turn, Ways}
+use Rattle.pulsar_laws.proofs.PlanWords.{action_of, Asking, Awaiting, Batches, Batching, begins, BuildingProducer as Build, Built, Command, Deed, Errand, Gives, Heard, is_answer, Making, Member, Naming, News, news_of, ProducerOrder, overrides, Plan, Producing, SearchTurn, Sending as Send, Served, Stays, told, Turn, Ways}
 use Rattle.pulsar_laws.proofs.RunWords.{Begins, begun_same, Cause, Each, each_append, Entry, IsRun, notice, Options, producers_made, room_of, Then, view}
 use Rattle.pulsar_laws.proofs.LinkWords.{Failure, Fault, Named, Place, Reply}
 use Rattle.pulsar_exchange.specs.Request.{subscribed}
@@ -17,7 +17,7 @@ use Rattle.pulsar_searches.specs.declared.look.Looking.{Looking}
 use Rattle.pulsar_searches.specs.declared.making.Making.TheVariants as make
 use Rattle.pulsar_searches.specs.declared.retry.Retrying.{Retrying}
 use Rattle.pulsar_searches.specs.declared.turn.Action.TheVariants as wish
-use Rattle.pulsar_searches.specs.declared.turn.Outcome.TheVariants as told_in
+use Rattle.pulsar_searches.specs.declared.turn.SearchOutcome.TheVariants as told_in
 use Rattle.pulsar_searches.specs.declared.turn.Turn.TheVariants as search_turn
 use Rattle.pulsar_wire.specs.declared.error.Reason.{Reason}
 use Rattle.pulsar_outgoing.specs.Batch.{batch_of, entries_in, member_of}
@@ -31,7 +31,7 @@ use Rattle.pulsar_producer.specs.Topic as topic
 use Rattle.pulsar_producer.specs.Topic.{Act as TopicAct, Closes, Cuts, Draws, Flushes, Halts, Passes, Remakes, Seen, Stores, Takes, TakesBatch, cuts, is_settled, left_of, stores, takes_in}
 use Rattle.pulsar_producer.specs.declared.batching.Batching.TheVariants as batching
 use Rattle.pulsar_producer.specs.declared.batching.Goes.{Goes}
-use Rattle.pulsar_producer.specs.declared.building.Building.TheVariants as build
+use Rattle.pulsar_producer.specs.declared.building.BuildingProducer.TheVariants as build
 use Rattle.pulsar_producer.specs.declared.deed.Deed.TheVariants as deed
 use Rattle.pulsar_producer.specs.declared.deed.Step.TheVariants as step
 use Rattle.pulsar_producer.specs.declared.sending.Sending.TheVariants as send
@@ -132,7 +132,7 @@ makes_good c i left made (search_turn.Gives (Ok s)) h g =
     (each_append (λ b. IsText b.given.name) made (produce.built c.topic i s ∷ []) h (given_text s.reply g, tt))
 makes_good c i left made (search_turn.Gives (Err f)) h g = closes_good made f
 
-build_good : (w : Ways) (o : Order) (b : Build) (y : News) → BuildGood b → GoodNews y → BuildTurn (produce.build_told w o b y)
+build_good : (w : Ways) (o : ProducerOrder) (b : Build) (y : News) → BuildGood b → GoodNews y → BuildTurn (produce.build_told w o b y)
 build_good w o (build.Naming n) (news.Told x) h g = names_good (search.names_told w o.topic n x)
 build_good w o (build.Naming n) _ h g = (tt, tt)
 build_good w o (build.Numbering p) (news.Numbered i) h g = (h, tt)
@@ -217,7 +217,7 @@ deed_good (deed.Does (wish.Wait delay)) g = tt
 deed_good (deed.Remakes n l x) g = g
 deed_good _ g = tt
 
-built_good : (w : Ways) (o : Order) (t : Builds) → BuildTurn t → TurnGood (builds w o t)
+built_good : (w : Ways) (o : ProducerOrder) (t : Builds) → BuildTurn t → TurnGood (builds w o t)
 built_good w o (step.Stays b d) k = (k.0, deed_good d k.1)
 built_good w o (step.Gives (Ok parts)) k = k
 built_good w o (step.Gives (Err f)) k = tt

@@ -2,12 +2,12 @@
 -- that joins has numbers that no other has.
 use Rattle.std.proofs.Common.{◌≡◌, sym, ap, subst, ℕ, List, [], ◌∷◌, ◌++◌, refl, map, Bool, true, false, cond, Option, Some, None, Ok}
 use Rattle.pulsar_laws.proofs.ActWords.{Action, Makes, Nothing, Outcome, Procedure, Verdict}
-use Rattle.pulsar_laws.proofs.PlanWords.{Asking, Awaiting, begins, Building as Build, Built, Deed, Gives, is_answer, News, news_of, Order, Plan, Producing, Stays, told, Turn, Ways}
+use Rattle.pulsar_laws.proofs.PlanWords.{Asking, Awaiting, begins, BuildingProducer as Build, Built, Deed, Gives, is_answer, News, news_of, ProducerOrder, Plan, Producing, Stays, told, Turn, Ways}
 use Rattle.pulsar_laws.proofs.RunWords.{Each, each_append}
 use Rattle.pulsar_exchange.specs.Request.{subscribed}
 use Rattle.pulsar_exchange.specs.declared.content.Subscribed.{Subscribed}
 use Rattle.pulsar_producer.specs.Plans as produce
-use Rattle.pulsar_producer.specs.declared.building.Building.TheVariants as build
+use Rattle.pulsar_producer.specs.declared.building.BuildingProducer.TheVariants as build
 use Rattle.pulsar_outgoing.specs.declared.news.News.TheVariants as news
 use Rattle.pulsar_calls.specs.declared.act.Makes.TheVariants.{Producer}
 use Rattle.pulsar_calls.specs.declared.act.Outcome.TheVariants as outcome
@@ -51,7 +51,7 @@ map_end [] b = refl
 map_end (x ∷ made) b = ap (λ ns. x.number ∷ ns) (map_end made b)
 
 module _ (Q : ℕ → Type 0) where
-  build_sound : {w : Ways} {o : Order} {b q : Build} {y : News} {d : Deed} → BuildArc w o b y q d → Each Q (drawn_in b) →
+  build_sound : {w : Ways} {o : ProducerOrder} {b q : Build} {y : News} {d : Deed} → BuildArc w o b y q d → Each Q (drawn_in b) →
       ((m : ℕ) → y ≡ news.Numbered m → Q m) →
       Each Q (drawn_in q)
   build_sound (numbered_makes {p} {i}) k q = each_append Q (map number_of p.made) (i ∷ []) k (q i refl, tt)

@@ -5,7 +5,7 @@ use Rattle.std.specs.Ordering.{match_ordering, nat_cmp}
 use Rattle.std.specs.declared.cmp.Ordering.{Ordering}
 use Rattle.std.specs.declared.cmp.Ordering.TheVariants.{Less, Equal, Greater}
 use Rattle.pulsar_laws.proofs.ActWords.{Act, Action, Call, Consumer, Does, Flush, Notice, OfTopic, Outcome, Procedure, Producer, Store, TakeBatch, TakeTurn, TellAll, Told, Who, turn_of}
-use Rattle.pulsar_laws.proofs.PlanWords.{action_of, Batches, Batching, Building as Build, Deed, Errand, Fate, Member, News, news_of, Order, Plan, Sending as Send, told_to, Ways}
+use Rattle.pulsar_laws.proofs.PlanWords.{action_of, Batches, Batching, BuildingProducer as Build, Deed, Errand, Fate, Member, News, news_of, ProducerOrder, Plan, Sending as Send, told_to, Ways}
 use Rattle.pulsar_laws.proofs.RunWords.{Begins, Each, each_append, Entry, In, IsRun, notice, Options, Then, View, view}
 use Rattle.pulsar_messages.specs.Claims.{is_spent}
 use Rattle.pulsar_outgoing.specs.Batch.{cut_report, member_of, reports_from}
@@ -40,7 +40,7 @@ send_alone : {w : Ways} {e : Errand} {s q : Send} {y : News} {d : Deed} → Send
 send_alone draws = refl
 send_alone _ = refl
 
-build_alone : {w : Ways} {o : Order} {b q : Build} {y : News} {d : Deed} → BuildArc w o b y q d → is_tell (action_of d) ≡ false
+build_alone : {w : Ways} {o : ProducerOrder} {b q : Build} {y : News} {d : Deed} → BuildArc w o b y q d → is_tell (action_of d) ≡ false
 build_alone naming_rests = refl
 build_alone _ = refl
 

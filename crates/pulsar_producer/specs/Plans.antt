@@ -19,6 +19,7 @@ use Rattle.pulsar_outgoing.specs.Errors.{in_producer}
 use Rattle.pulsar_messages.specs.Message.{with_version}
 use Rattle.pulsar_outgoing.specs.Replies.{given}
 use Rattle.pulsar_outgoing.specs.declared.content.Built.{Built}
+use Rattle.pulsar_producer.specs.declared.deed.Deed.{Deed}
 use Rattle.pulsar_producer.specs.declared.deed.Deed.TheVariants.{Does, TakesTurn, Draws, Sends, PassesTurn, Recalls, Remakes, Numbers, Holds, ClosesProducer, Rests}
 use Rattle.pulsar_outgoing.specs.declared.news.Drawn.{Drawn}
 use Rattle.pulsar_producer.specs.News.{News}

@@ -587,7 +587,7 @@ begun_search : (w : Ways) (what : Sought) (t : SearchTurn Search (Result Answer 
 begun_search w what (search_turn.Stays q x) e = begins_search x e
 begun_search w what (search_turn.Gives a) e = begins_not _
 
-begun_names : (w : Ways) (o : ProducerOrder) (names : List Named) → BegunTo (procedure.Produce w o) (builds w o (produce.build_next names []))
+begun_names : (w : Ways) (o : ProducerOrder) (names : List Named) → BegunTo (procedure.Produce w o) (builds w o (produce.build_next deed.Numbers names []))
 begun_names w o [] = begins_none
 begun_names w o (n ∷ names) = begins_numbers n names
 

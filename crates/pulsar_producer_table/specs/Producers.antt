@@ -34,7 +34,8 @@ use Rattle.pulsar_calls.specs.Content.{Asked, sent_by}
 use Rattle.pulsar_calls.specs.Who.{in_turn}
 
 -- The producers, by the tickets of the calls that built them; their topic producers by number, and these numbers in the order in which they
--- were made; those that were made for calls that still make others; the numbers that raw calls have named, in order; and the number from which on the next one is drawn.
+-- were made; those that were made for calls that still make others; the numbers that raw calls have named, in order; and the number from which
+-- on the next one is drawn.
 pub record Producers : Type 0 where
   pub built : (ticket : ℕ) → Option producer.Seen
   pub topics : (number : ℕ) → Option Topic

@@ -51,6 +51,7 @@ use Rattle.pulsar_laws.proofs.producers.TextReplies.{NamesSo, given_text, reply_
 use Rattle.pulsar_laws.proofs.producers.Texts.{IsText}
 use Rattle.pulsar_laws.proofs.producers.Topics.{all_after, row_as, topic_all, CameFrom, acts_each}
 use Rattle.pulsar_laws.specs.ProducerLaws.{topic_acts}
+use Rattle.pulsar_outgoing.specs.declared.replies.Given.{Given}
 
 -- WHAT IS MADE by a reply has its name
 
@@ -429,7 +430,7 @@ acts_named o log n a run = acts_each ActNamed (view o log) n a named
   where
     named : (d : TopicAct) → CameFrom n a d → ActNamed d
     named (Remakes l g) k =
-        subst (λ x. IsText x.name) (sym k.4)
+        subst (λ (x : Given). IsText x.name) (sym k.4)
         (remade_good o log k.0 (OfTopic n (Remake k.1)) (subst (λ (x : Act). IsRun o (Then x ∷ log)) k.2 run))
     named d k = tt
 
@@ -448,5 +449,5 @@ names_are_texts o (Then a ∷ log) n t run h = from ((view o log).producers.topi
       | inr j ↦
           (let r : IsRun o (Then (Answers j.who j.verdict) ∷ log) = subst (λ (x : Act). IsRun o (Then x ∷ log)) j.is_act run in
           let g : AreNamed j.building.parts = subst MakesGood j.makes (answer_good o log j.who j.verdict r) in
-          subst RowNamed j.is_new.is_it (in_each (λ b. IsText b.given.name) j.is_new.built j.building.parts j.is_new.is_in g))
+          subst RowNamed j.is_new.is_it (in_each (λ (b : Built). IsText b.given.name) j.is_new.built j.building.parts j.is_new.is_in g))
     ]

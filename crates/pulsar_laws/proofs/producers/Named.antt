@@ -108,9 +108,9 @@ BuildTurn (step.Stays b d) = BuildGood b × DeedGood d
 BuildTurn (step.Gives (Ok parts)) = AreNamed parts
 BuildTurn (step.Gives (Err f)) = Unit {0}
 
-next_good : (names : List Named) (made : List Built) → AreNamed made → BuildTurn (produce.build_next names made)
-next_good [] made k = k
-next_good (n ∷ names) made k = (k, tt)
+next_good : (d : Deed) (names : List Named) (made : List Built) → DeedGood d → AreNamed made → BuildTurn (produce.build_next d names made)
+next_good d [] made g k = k
+next_good d (n ∷ names) made g k = (k, g)
 
 closes_good : (left : List Built) (f : Failure) → BuildTurn (produce.build_closes left f)
 closes_good [] f = tt
@@ -118,14 +118,14 @@ closes_good (b ∷ left) f = (tt, tt)
 
 names_good : (t : SearchTurn Naming (Result (List Named) Failure)) → BuildTurn (produce.build_names t)
 names_good (search_turn.Stays n a) = (tt, tt)
-names_good (search_turn.Gives (Ok names)) = next_good names [] tt
+names_good (search_turn.Gives (Ok names)) = next_good deed.Numbers names [] tt tt
 names_good (search_turn.Gives (Err f)) = tt
 
 makes_good : (c : Command) (i : ℕ) (left : List Named) (made : List Built) (t : SearchTurn Making (Result Served Failure)) → AreNamed made → MadeGood t →
     BuildTurn (produce.build_makes c i left made t)
 makes_good c i left made (search_turn.Stays k a) h g = (h, tt)
 makes_good c i left made (search_turn.Gives (Ok s)) h g =
-    next_good left (made ++ produce.built c.topic i s ∷ [])
+    next_good (deed.Holds s.link i) left (made ++ produce.built c.topic i s ∷ []) tt
     (each_append (λ b. IsText b.given.name) made (produce.built c.topic i s ∷ []) h (given_text s.reply g, tt))
 makes_good c i left made (search_turn.Gives (Err f)) h g = closes_good made f
 
@@ -133,6 +133,7 @@ build_good : (w : Ways) (o : ProducerOrder) (b : Build) (y : News) → BuildGood
 build_good w o (build.Naming n) (news.Told x) h g = names_good (search.names_told w o.topic n x)
 build_good w o (build.Naming n) _ h g = (tt, tt)
 build_good w o (build.Numbering p) (news.Numbered i) h g = (h, tt)
+build_good w o (build.Numbering p) news.Done h g = (h, tt)
 build_good w o (build.Numbering p) y h g = closes_good p.made _
 build_good w o (build.Making c k i left made) (news.Told x) h g = makes_good c i left made (search.made_told w c k x) h (made_good w c k x g)
 build_good w o (build.Making c k i left made) _ h g = (h, tt)

@@ -16,7 +16,6 @@ use Rattle.pulsar_producer.specs.Topic.{Act as Deed, fresh}
 use Rattle.pulsar_outgoing.specs.declared.storage.Limits.{Limits}
 use Rattle.pulsar_outgoing.specs.declared.news.News.TheVariants as news
 use Rattle.pulsar_calls.specs.declared.act.Makes.TheVariants.{Producer}
-use Rattle.pulsar_calls.specs.declared.act.Who.TheVariants as by
 use Rattle.pulsar_acts.specs.View.{producers_left}
 use Rattle.pulsar_calls.specs.declared.act.Outcome.TheVariants as outcome
 use Rattle.pulsar_calls.specs.declared.act.Who.TheVariants as one
@@ -88,6 +87,7 @@ called_kept v asked advice =
 -- several topic producers join: one that is there is new, or was there
 pub record IsNew (owner first_number : ℕ) (limits : Limits) (n : ℕ) (bs : List Built) (t : Topic) : Type 0 where
   pub built : Built
+  pub is_in : In built bs
   pub listed : In n (map number_of bs)
   pub number : built.number ≡ n
   pub is_it : record { owner = owner; seen = fresh (record { built = built; first_number = first_number; limits = limits }) } ≡ t
@@ -100,11 +100,11 @@ new_row owner f limits n (b ∷ bs) t h = by (topic_in owner f limits bs n) refl
         last_of r (cond (n == b.number) (Some (fresh_topic owner f limits b)) None) ≡ Some t →
         IsNew owner f limits n (b ∷ bs) t
     by (Some u) e rest k =
-        let i = rest (e ∙ k) in record { built = i.built; listed = inr i.listed; number = i.number; is_it = i.is_it }
+        let i = rest (e ∙ k) in record { built = i.built; is_in = inr i.is_in; listed = inr i.listed; number = i.number; is_it = i.is_it }
     by None e rest k = elim (cases_Bool (n == b.number)) [
       | inl q ↦
           (let is : Some (fresh_topic owner f limits b) ≡ Some t = rw q at k in
-          record { built = b; listed = inl (eqb-true n b.number q); number = sym (eqb-true n b.number q); is_it = cc })
+          record { built = b; is_in = inl refl; listed = inl (eqb-true n b.number q); number = sym (eqb-true n b.number q); is_it = cc })
       | inr q ↦ (let is : None ≡ Some t = rw q at k in absurd cc)
     ]
 
@@ -196,9 +196,9 @@ made_next v who (Producer b) =
 made_next v who _ = refl
 
 left_next : (who : Who) (ps : Producers) → (producers_left who ps).next ≡ ps.next
-left_next (by.Call t) ps = refl
-left_next (by.Consumer n t) ps = refl
-left_next (by.Producer n) ps = refl
+left_next (one.Call t) ps = refl
+left_next (one.Consumer n t) ps = refl
+left_next (one.Producer n) ps = refl
 
 next_more : (ps : Producers) → ps.next ≤ (numbered ps).next
 next_more ps =

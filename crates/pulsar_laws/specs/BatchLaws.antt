@@ -85,7 +85,7 @@ frames_queued o n [] = 0
 frames_queued o n (Then (Told x) ∷ log) =
     if is_same (Producer n) x.who && (is_queued x.outcome && asks_batch ((view o log).stand (Producer n)))
     then frames_queued o n log + 1 else frames_queued o n log
-frames_queued o n (Then (Does who (TakeBatch m)) ∷ log) = if is_same (Producer n) who then 0 else frames_queued o n log
+frames_queued o n (Then (Does who (OfTopic m TakeBatch)) ∷ log) = if is_same (Producer n) who then 0 else frames_queued o n log
 frames_queued o n (_ ∷ log) = frames_queued o n log
 
 -- the one who is told what becomes of a batch asked for a frame that bears this number

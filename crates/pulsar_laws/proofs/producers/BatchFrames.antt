@@ -354,7 +354,7 @@ pub record IsDrawnFor (o : Options) (log : List Entry) (n k s : ℕ) : Type 0 wh
   pub own : k ≡ n
   pub told : Notice
   pub behind : List Entry
-  pub there : log ≡ Then (Told told) ∷ Then (Does (Producer n) (Draw n)) ∷ behind
+  pub there : log ≡ Then (Told told) ∷ Then (Does (Producer n) (OfTopic n Draw)) ∷ behind
   pub before : Topic
   pub was : (view o behind).producers.topics n ≡ Some before
   pub number : s ≡ before.seen.next

@@ -88,6 +88,7 @@ called_kept v asked advice =
 -- several topic producers join: one that is there is new, or was there
 pub record IsNew (owner first_number : ℕ) (limits : Limits) (n : ℕ) (bs : List Built) (t : Topic) : Type 0 where
   pub built : Built
+  pub is_in : In built bs
   pub listed : In n (map number_of bs)
   pub number : built.number ≡ n
   pub is_it : record { owner = owner; seen = fresh (record { built = built; first_number = first_number; limits = limits }) } ≡ t
@@ -100,11 +101,11 @@ new_row owner f limits n (b ∷ bs) t h = by (topic_in owner f limits bs n) refl
         last_of r (cond (n == b.number) (Some (fresh_topic owner f limits b)) None) ≡ Some t →
         IsNew owner f limits n (b ∷ bs) t
     by (Some u) e rest k =
-        let i = rest (e ∙ k) in record { built = i.built; listed = inr i.listed; number = i.number; is_it = i.is_it }
+        let i = rest (e ∙ k) in record { built = i.built; is_in = inr i.is_in; listed = inr i.listed; number = i.number; is_it = i.is_it }
     by None e rest k = elim (cases_Bool (n == b.number)) [
       | inl q ↦
           (let is : Some (fresh_topic owner f limits b) ≡ Some t = rw q at k in
-          record { built = b; listed = inl (eqb-true n b.number q); number = sym (eqb-true n b.number q); is_it = cc })
+          record { built = b; is_in = inl refl; listed = inl (eqb-true n b.number q); number = sym (eqb-true n b.number q); is_it = cc })
       | inr q ↦ (let is : None ≡ Some t = rw q at k in absurd cc)
     ]
 

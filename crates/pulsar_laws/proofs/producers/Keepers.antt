@@ -1,7 +1,7 @@
 -- Those whose messages a topic producer stores, or has in a batch, wait for what becomes of them, or have ended.
-use Rattle.std.proofs.Common.{◌≡◌, inl, inr, ◌∙◌, sym, ap, subst, ℕ, ◌+◌, ◌≤◌, ◌==◌, arith, List, [], ◌∷◌, ◌++◌, refl, map, Bool, true, false, cond, Option, Some, None, Ok, Err}
+use Rattle.std.proofs.Common.{◌≡◌, inl, inr, ◌∙◌, sym, ap, subst, ℕ, ◌+◌, ◌≤◌, arith, List, [], ◌∷◌, ◌++◌, refl, map, Bool, true, false, cond, Option, Some, None, Ok, Err}
 use Rattle.std.proofs.lemmas.Bool.{cases_Bool}
-use Rattle.pulsar_laws.proofs.ActWords.{Act, Action, Call, Consumer, Does, Flush, Notice, OfTopic, Outcome, Procedure, Producer, Starts, Store, TakeBatch, Told, Who, is_same, turn_of}
+use Rattle.pulsar_laws.proofs.ActWords.{Act, Action, Call, Consumer, Does, Notice, OfTopic, Outcome, Procedure, Producer, Starts, Store, TakeBatch, Told, Who, is_same, turn_of}
 use Rattle.pulsar_laws.proofs.PlanWords.{action_of, Batches, Batching, begins, Deed, Errand, Member, News, news_of, Plan, Stored, Storing, told, Ways}
 use Rattle.pulsar_laws.proofs.RunWords.{Begins, begun_same, counted, Each, each_append, each_map, Entry, In, IsRun, Options, start_of, stays, stays_some, Then, told_some, view, View}
 use Rattle.pulsar_frame.specs.Batch.{EntryValues}
@@ -27,7 +27,7 @@ use Rattle.pulsar_laws.proofs.plans.Batchers.{batcher_does}
 use Rattle.pulsar_laws.proofs.plans.Fitting.{stores_so}
 use Rattle.pulsar_laws.proofs.plans.Granted.{GivenBy, does_fit, granted_by, grants_given, is_grant}
 use Rattle.pulsar_laws.proofs.calls.Once.{ends_once_lem}
-use Rattle.pulsar_laws.proofs.producers.Topics.{topics_alone_lem, CameFrom, came_from, in_since}
+use Rattle.pulsar_laws.proofs.producers.Topics.{topics_alone_lem, CameFrom, acts_each, came_from, in_since}
 use Rattle.pulsar_laws.proofs.plans.Servers.{server_does}
 use Rattle.pulsar_laws.proofs.plans.Consuming.{is_modest}
 use Rattle.pulsar_acts.specs.View.{topic_born}
@@ -99,35 +99,16 @@ is_store _ = false
 abbrev pub NoStore : topic.Act → Type 0
 NoStore act = is_store act ≡ false
 
-rung_none : (b : Bool) → Each NoStore (rung_by b)
-rung_none true = (refl, tt)
-rung_none false = tt
-
-drawn_none : (r : Option Bool) → Each NoStore (drawn_by r)
-drawn_none None = tt
-drawn_none (Some room) = (refl, tt)
-
-shut_none : (n : ℕ) (ns : List ℕ) → Each NoStore (shut_by n ns)
-shut_none n [] = tt
-shut_none n (m ∷ ns) = each_either NoStore (n == m) (topic.Closes ∷ shut_by n ns) (shut_by n ns) (refl, shut_none n ns) (shut_none n ns)
-
 abbrev pub stores_it : Act → Bool
-stores_it (Does who (Store n entry)) = true
+stores_it (Does who (OfTopic n (Store entry))) = true
 stores_it _ = false
 
 pub none_stored : (v : View) (n : ℕ) (a : Act) → stores_it a ≡ false → Each NoStore (topic_acts v n a)
-none_stored v n (Comes (Rings (Batch m))) h =
-    each_either NoStore (n == m) (rung_by (rings v.now (Batch m) v.alarms)) [] (rung_none (rings v.now (Batch m) v.alarms)) tt
-none_stored v n (Does who (TakeTurn m)) h = each_either NoStore (n == m) (topic.Takes (turn_of who) ∷ []) [] (refl, tt) tt
-none_stored v n (Does who (PassTurn m)) h = each_either NoStore (n == m) (topic.Passes ∷ []) [] (refl, tt) tt
-none_stored v n (Does who (Draw m)) h = each_either NoStore (n == m) (drawn_by (room_of v m)) [] (drawn_none (room_of v m)) tt
-none_stored v n (Does who (Remake r)) h = each_either NoStore (n == r.number) (topic.Remakes r.link r.given ∷ []) [] (refl, tt) tt
-none_stored v n (Does who (Flush m)) h = each_either NoStore (n == m) (topic.Flushes (turn_of who) ∷ []) [] (refl, tt) tt
-none_stored v n (Does who (TakeBatch m)) h = each_either NoStore (n == m) (topic.TakesBatch ∷ []) [] (refl, tt) tt
-none_stored v n (Does who StopAll) h = (refl, tt)
-none_stored v n (Does who (Shut t)) h = shut_none n (numbers_at (v.producers.built t))
-none_stored v n (Does who (Store m entry)) h = absurd cc
-none_stored v n _ h = tt
+none_stored v n a h = acts_each NoStore v n a none
+  where
+    none : (act : topic.Act) → CameFrom n a act → NoStore act
+    none (topic.Stores t entry) k = let e : true ≡ false = sym (ap stores_it k.1) ∙ h in absurd cc
+    none act k = refl
 
 module _ (o : Options) (n ticket : ℕ) (entry : EntryValues) where
   abbrev it : topic.Act

@@ -3,10 +3,9 @@ use Rattle.std.proofs.Common.{◌≡◌, ◌⊎◌, inl, inr, ◌∙◌, sym, ap
 use Rattle.std.proofs.lemmas.Bool.{cases_Bool, eqb-true}
 use Rattle.std.proofs.lemmas.Bool.Decides.{nat_tests}
 use Rattle.std.specs.Option.{is_some, option_map}
-use Rattle.pulsar_laws.proofs.ActWords.{Act, Action, Alarm, Answers, Asked, Batch, Call, Calls, Comes, Does, Draw, Heard, is_same, lacks_tickets, Makes, Nothing, Outcome, Procedure, Rings, shares, Shut, Starts, Told, Verdict, Who}
+use Rattle.pulsar_laws.proofs.ActWords.{Act, Action, Answers, Asked, Call, Calls, Comes, Does, Heard, is_same, lacks_tickets, Makes, Nothing, Outcome, Procedure, shares, Starts, Told, Verdict, Who, Number}
 use Rattle.pulsar_laws.proofs.PlanWords.{begins, Built, Gives, is_answer, ProducerOrder, Plan, Producing, Ways}
-use Rattle.pulsar_laws.proofs.RunWords.{Begins, begun_same, counted, draws_on, Entry, IsRun, may_call, notice, Options, producers_made, producers_rung, room_of, start_of, started, Then, view, View}
-use Rattle.pulsar_laws.proofs.LinkWords.{rings}
+use Rattle.pulsar_laws.proofs.RunWords.{Begins, begun_same, counted, Entry, IsRun, may_call, notice, Options, producers_made, start_of, started, Then, view, View}
 use Rattle.pulsar_messages.specs.Content.{ProducerMessageValues, ProducerOptionsValues}
 use Rattle.pulsar_wire.specs.Sink.{capped}
 use Rattle.pulsar_exchange.specs.Request.{named_producer}
@@ -15,7 +14,7 @@ use Rattle.pulsar_outgoing.specs.declared.storage.Limits.{Limits}
 use Rattle.pulsar_producer.specs.Producer as producer
 use Rattle.pulsar_producer.specs.Routing.{Routed, begun as routed_from}
 use Rattle.pulsar_producer.specs.Topic as topic
-use Rattle.pulsar_producer.specs.Topic.{Act as Deed, Closes, Setup}
+use Rattle.pulsar_producer.specs.Topic.{Act as Deed, Setup}
 use Rattle.pulsar_producer.specs.declared.routing.Partition.{Partition}
 use Rattle.pulsar_producer.proofs.Storages.{limits_stay, stored_is_not_ready}
 use Rattle.pulsar_calls.specs.Content as content
@@ -24,9 +23,11 @@ use Rattle.pulsar_calls.specs.declared.act.Makes.TheVariants.{Producer}
 use Rattle.pulsar_calls.specs.declared.act.Procedure.TheVariants as procedure
 use Rattle.pulsar_calls.specs.declared.content.BuiltProducer.{BuiltProducer}
 use Rattle.pulsar_plans.specs.Plan.{built_of}
-use Rattle.pulsar_producer_table.specs.Producers.{Producers, all_routed, called_on, changed, made_of, names_in, numbers_at, opened_on, partition_of, routed, sent_on, shut_all, timeout_in, why_not, with_built, with_topic, with_topics}
+use Rattle.pulsar_producer_table.specs.Producers.{Producers, all_routed, called_on, made_of, names_in, opened_on, partition_of, routed, sent_on, timeout_in, why_not, with_built, with_topic, with_topics}
 use Rattle.pulsar_producer_table.specs.declared.table.Topic.{Topic}
 use Rattle.pulsar_acts.specs.View as seen
+use Rattle.pulsar_acts.specs.View.{producers_left}
+use Rattle.pulsar_calls.specs.declared.act.Who.TheVariants as one
 use Rattle.pulsar_laws.proofs.Cases.{cond_so, none_some, some_is}
 use Rattle.pulsar_laws.specs.BatchLaws.{BatchesByItsOptions}
 use Rattle.pulsar_laws.specs.ProducerLaws.{acts_on, topic_acts}
@@ -178,18 +179,10 @@ called_built v asked advice t p h =
     either_built (lacks_tickets v.calls.drawn (shares asked)) ps ps (called_on (may_call v.calls) asked ps) t p (same_built ps t p)
     (either_built (may_call v.calls) ps (opened_on asked ps) ps t p (opened_built asked ps t p) (same_built ps t p)) h
 
-shut_built : (ns : List ℕ) (ps : Producers) → (shut_all ns ps).built ≡ ps.built
-shut_built [] ps = refl
-shut_built (n ∷ ns) ps = shut_built ns (changed n Closes ps)
-
-draws_built : (r : Option Bool) (n : ℕ) (ps : Producers) → (draws_on r n ps).built ≡ ps.built
-draws_built None n ps = refl
-draws_built (Some room) n ps = refl
-
-rung_built : (c : Bool) (a : Alarm) (ps : Producers) → (producers_rung c a ps).built ≡ ps.built
-rung_built true (Batch n) ps = refl
-rung_built false (Batch n) ps = refl
-rung_built c _ ps = refl
+left_built : (who : Who) (ps : Producers) → (producers_left who ps).built ≡ ps.built
+left_built (one.Call t) ps = refl
+left_built (one.Consumer n t) ps = refl
+left_built (one.Producer n) ps = refl
 
 joined_built : (owner first : ℕ) (limits : Limits) (bs : List Built) (ps : Producers) → (with_topics owner first limits bs ps).built ≡ ps.built
 joined_built owner first limits [] ps = refl
@@ -247,12 +240,10 @@ made_built v who verdict _ e t p h = inl (same_built v.producers t p h)
 
 built_from : (v : View) (a : Act) (t : ℕ) (p : producer.Seen) → (seen.after a v).producers.built t ≡ Some p → WasBuilt v.producers t p ⊎ IsMade v a t p
 built_from v (Comes (Calls asked advice)) t p h = inl (called_built v asked advice t p h)
-built_from v (Comes (Rings a)) t p h =
-    inl (same_built v.producers t p (ap (λ f. f t) (sym (rung_built (rings v.now a v.alarms) a v.producers)) ∙ h))
-built_from v (Does who (Draw n)) t p h = inl (same_built v.producers t p (ap (λ f. f t) (sym (draws_built (room_of v n) n v.producers)) ∙ h))
-built_from v (Does who (Shut u)) t p h =
-    inl (same_built v.producers t p (ap (λ f. f t) (sym (shut_built (numbers_at (v.producers.built u)) v.producers)) ∙ h))
-built_from v (Answers who verdict) t p h = made_built v who verdict verdict.makes refl t p h
+built_from v (Does who Number) t p h = inl (same_built v.producers t p h)
+built_from v (Answers who verdict) t p h =
+    made_built v who verdict verdict.makes refl t p
+    (ap (λ f. f t) (sym (left_built who (producers_made v.chosen who verdict.makes v.producers))) ∙ h)
 built_from v _ t p h = inl (same_built v.producers t p h)
 
 -- ALONG A LOG

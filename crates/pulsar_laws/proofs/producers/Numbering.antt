@@ -14,7 +14,7 @@ use Rattle.pulsar_calls.specs.declared.act.Outcome.TheVariants as outcome
 use Rattle.pulsar_plans.specs.Plan.{makes_of}
 use Rattle.pulsar_messages.specs.Words as words
 use Rattle.pulsar_plans.proofs.Arcs.{Arc, Begun, BegunEnd, End, answers, begins_asking, begins_none, builds_on, by_arcs, by_begun, departs_asks, got_asks, produced, queued_waits, stands_on}
-use Rattle.pulsar_producer.proofs.Arcs.{BuildArc, BuildEnd, build_done, building_rests, builds_on_asks, builds_on_gets, builds_on_waits, built_numbers, none_named, numbered_makes}
+use Rattle.pulsar_producer.proofs.Arcs.{BuildArc, BuildEnd, build_done, building_rests, builds_on_asks, builds_on_gets, builds_on_waits, built_numbers, held_numbers, none_named, numbered_makes}
 
 -- WHAT A PLAN HAS DRAWN
 
@@ -60,6 +60,7 @@ module _ (Q : ℕ → Type 0) where
   build_sound (builds_on_asks e) k q = k
   build_sound (builds_on_waits e) k q = k
   build_sound building_rests k q = k
+  build_sound held_numbers k q = k
   build_sound _ k q = tt
 
   built_sound : {b : Build} {y : News} {parts : List Built} → BuildEnd b y (Ok parts) → Each Q (drawn_in b) → Each Q (map number_of parts)

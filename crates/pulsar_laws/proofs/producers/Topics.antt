@@ -91,7 +91,7 @@ abbrev pub CameFrom : (number : ℕ) → Act → Deed → Type 0
 CameFrom n a (Takes t) = (who : Who) × (a ≡ Does who (OfTopic n TakeTurn)) × (t ≡ turn_of who)
 CameFrom n a Passes = (who : Who) × (a ≡ Does who (OfTopic n PassTurn))
 CameFrom n a Draws = (who : Who) × (a ≡ Does who (OfTopic n Draw))
-CameFrom n a (Remakes l g) = (who : Who) × (r : Remaking) × (a ≡ Does who (OfTopic n (Remake r)))
+CameFrom n a (Remakes l g) = (who : Who) × (r : Remaking) × (a ≡ Does who (OfTopic n (Remake r))) × (l ≡ r.link) × (g ≡ r.given)
 CameFrom n a (Stores t e) = (who : Who) × (a ≡ Does who (OfTopic n (Store e))) × (t ≡ turn_of who)
 CameFrom n a (Flushes t) = (who : Who) × (a ≡ Does who (OfTopic n Flush)) × (t ≡ turn_of who)
 CameFrom n a TakesBatch = (who : Who) × (a ≡ Does who (OfTopic n TakeBatch))
@@ -103,7 +103,7 @@ ask_came : (v : View) (who : Who) (n : ℕ) (ask : TopicAsk) → Each (CameFrom 
 ask_came v who n TakeTurn = ((who, refl, refl), tt)
 ask_came v who n PassTurn = ((who, refl), tt)
 ask_came v who n Draw = elim (room_of v n) as (λ r. Each (CameFrom n (Does who (OfTopic n Draw))) (drawn_by r)) [ None ↦ tt | Some room ↦ ((who, refl), tt) ]
-ask_came v who n (Remake r) = ((who, r, refl), tt)
+ask_came v who n (Remake r) = ((who, r, refl, refl, refl), tt)
 ask_came v who n (Store e) = ((who, refl, refl), tt)
 ask_came v who n Flush = ((who, refl, refl), tt)
 ask_came v who n TakeBatch = ((who, refl), tt)

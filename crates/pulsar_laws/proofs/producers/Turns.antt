@@ -1,6 +1,6 @@
 -- Whose turn it is: nobody has the turn of a topic producer beside the one that it was given to, who waits for it waits for no other, and
 -- one is told of a turn once.
-use Rattle.std.proofs.Common.{◌≡◌, ◌∙◌, ap, subst, ℕ, ◌+◌, ◌==◌, arith, List, [], ◌∷◌, ◌++◌, refl, Bool, true, false, ◌&&◌, cond, Option, Some, sym}
+use Rattle.std.proofs.Common.{◌≡◌, ◌∙◌, ap, subst, ℕ, ◌+◌, arith, List, [], ◌∷◌, ◌++◌, refl, Bool, true, false, ◌&&◌, cond, Option, Some, sym}
 use Rattle.pulsar_laws.proofs.ActWords.{Act, Action, Comes, Does, Notice, OfTopic, Outcome, Part, PassTurn, TakeTurn, Told, Who, below, is_same}
 use Rattle.pulsar_laws.proofs.RunWords.{agenda, at_once, Each, Entry, first_of, IsRun, joins, Options, performs, put_all, rest, rest_of, rules, Then, view, View}
 use Rattle.pulsar_run.specs.Order.{put}

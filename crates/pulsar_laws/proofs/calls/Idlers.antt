@@ -8,7 +8,7 @@ use Rattle.std.specs.Option.{option_map}
 use Rattle.std.specs.Ordering.{match_ordering}
 use Rattle.std.specs.declared.cmp.Ordering.{Ordering}
 use Rattle.std.specs.declared.cmp.Ordering.TheVariants.{Less, Equal, Greater}
-use Rattle.pulsar_laws.proofs.ActWords.{Act, Action, Alarm, Answers, Arrival, Ask, Batch, Bytes, Call, Calls, CheckIdle, Comes, Consumer, Dials, Does, Drains, Draw, Ends, FailConsumer, Find, FindConsumer, Flush, Get, Heard, KeepAlive, LinkAct, Makes, Number, OfTopic, Opens, Outcome, Pings, Polls, Producer, Reads, Recall, RecallConsumer, Rest, Retry, Revive, Rings, Shut, StopAll, Store, TakeFlow, TakeNumber, TakeTurn, Tell, TellAll, ToLink, Told, Wait, Wake, Who, Word, is_same, lacks_tickets, shares, ticket_of, turn_of}
+use Rattle.pulsar_laws.proofs.ActWords.{Act, Action, Alarm, Answers, Arrival, Ask, Batch, Bytes, Call, Calls, CheckIdle, Comes, Consumer, Dials, Does, Drains, Draw, Ends, FailConsumer, Find, FindConsumer, Flush, Get, Heard, KeepAlive, LinkAct, Makes, Number, OfTopic, Opens, Outcome, Pings, Polls, Producer, Reads, Recall, RecallConsumer, Rest, Retry, Revive, Rings, Shut, StopAll, Store, TakeFlow, TakeNumber, TakeTurn, Tell, TellAll, ToLink, Told, Wait, Wake, Who, Word, is_same, lacks_tickets, shares, ticket_of, turn_of, OfConsumer}
 use Rattle.pulsar_laws.proofs.PlanWords.{News}
 use Rattle.pulsar_laws.proofs.RunWords.{after, Begins, begun_live, Cause, Chosen, consumers_after, consumers_made, counted, Each, Entry, In, InThisStep, is_live, IsRun, link_got, live_begun, may_call, member_on, notice, Options, setup_of, start_of, Then, turned, Turned, view, View}
 use Rattle.pulsar_laws.proofs.LinkWords.{Addresses, arrival_at, Base, Becomes, Change, closing, Exhausted, Failure, Fault, got_at, is_body, IsOver, Nobody, Pause, Pauses, Place, Remains, Reply, rings, Runs, Seat, seat_asked, seat_fed, seat_got, Series, Serves, took_end, took_some, url_at, Words}
@@ -350,14 +350,14 @@ seekers_absent t v (Comes (Polls w)) u idle h = one_seeks t (u == w) (consumer.m
 seekers_absent t v (Does w (Ask l request)) u idle h = map_seeks t _ (v.consumers.rows u) (asks_seeks t l v.now request (v.links.live l)) h
 seekers_absent t v (Does w (TakeNumber wanted)) u idle h =
     subst (λ f. NotIn t (consumer.seekers_at (f u))) (sym (numbered_rows (ticket_of w) wanted v.consumers)) h
-seekers_absent t v (Does w (FindConsumer x)) u idle h =
+seekers_absent t v (Does w (OfConsumer (FindConsumer x))) u idle h =
     one_seeks t (u == x) (consumer.seeks w) (v.consumers.rows u)
-    (λ m k. finds_seeks t (consumer.sought (Some m)) w m (other_idle t w (FindConsumer x) idle refl) k) h
-seekers_absent t v (Does w TakeFlow) u idle h =
+    (λ m k. finds_seeks t (consumer.sought (Some m)) w m (other_idle t w (OfConsumer (FindConsumer x)) idle refl) k) h
+seekers_absent t v (Does w (OfConsumer TakeFlow)) u idle h =
     one_seeks t (u == ticket_of w) (consumer.member_after reader.Asks) (v.consumers.rows u) (λ m k. k) h
-seekers_absent t v (Does w (Revive l)) u idle h =
+seekers_absent t v (Does w (OfConsumer (Revive l))) u idle h =
     one_seeks t (u == ticket_of w) (consumer.revived l (url_at (v.links.live l))) (v.consumers.rows u) (λ m k. none_seeks t) h
-seekers_absent t v (Does w (FailConsumer f)) u idle h =
+seekers_absent t v (Does w (OfConsumer (FailConsumer f))) u idle h =
     one_seeks t (u == ticket_of w) (consumer.failed f) (v.consumers.rows u) (λ m k. none_seeks t) h
 seekers_absent t v (Does w StopAll) u idle h = map_seeks t consumer.stopped (v.consumers.rows u) (λ m k. none_seeks t) h
 seekers_absent t v (Answers who verdict) u idle h =
@@ -460,7 +460,7 @@ no_turn_given P o t e older run others n (other, number, turn, version, is, same
 
 no_find : (l : ℕ) (a : Action) (v : View) → is_idle a ≡ true → Finds l a v → ⊥
 no_find l (OfTopic n Find) v h k = absurd cc
-no_find l (FindConsumer u) v h k = absurd cc
+no_find l (OfConsumer (FindConsumer u)) v h k = absurd cc
 no_find l a v h k = k
 
 no_draw : (f : Fault) (a : Action) (v : View) → is_idle a ≡ true → DrawsNone f a v → ⊥
@@ -474,7 +474,7 @@ all_known : (who : Who) (a : Action) (v : View) → is_idle a ≡ true → IsUnk
 all_known who (OfTopic n TakeTurn) v h k = absurd cc
 all_known who (OfTopic n Recall) v h k = absurd cc
 all_known who (OfTopic n Find) v h k = absurd cc
-all_known who RecallConsumer v h k = absurd cc
+all_known who (OfConsumer RecallConsumer) v h k = absurd cc
 all_known who a v h k = k
 
 no_says : (who : Who) (w : Word) (a : Action) (v : View) → is_idle a ≡ true → SaysSo who w a v → ⊥

@@ -3,7 +3,7 @@ use Rattle.std.proofs.Common.{◌≡◌, ◌∙◌, sym, ap, subst, ℕ, ◌+◌
 use Rattle.std.proofs.lemmas.Bool.{and_parts, cases_Bool, eqb-true}
 use Rattle.std.proofs.lemmas.Bool.Decides.{nat_tests}
 use Rattle.std.specs.Option.{option_map}
-use Rattle.pulsar_laws.proofs.ActWords.{Act, Action, Answers, Ask, Asked, Call, Calls, Comes, Consumer, Does, Ends, FailConsumer, FindConsumer, Heard, is_same, lacks_tickets, Makes, Outcome, Part, Polls, Producer, Reads, Rest, Revive, shares, Starts, StopAll, TakeFlow, TakeNumber, ticket_of, Told, ToLink, Verdict, Who}
+use Rattle.pulsar_laws.proofs.ActWords.{Act, Action, Answers, Ask, Asked, Call, Calls, Comes, Consumer, Does, Ends, FailConsumer, FindConsumer, Heard, is_same, lacks_tickets, Makes, Outcome, Part, Polls, Producer, Reads, Rest, Revive, shares, Starts, StopAll, TakeFlow, TakeNumber, ticket_of, Told, ToLink, Verdict, Who, OfConsumer}
 use Rattle.pulsar_laws.proofs.PlanWords.{begins, Gives, Plan, Stays, told, Turn}
 use Rattle.pulsar_laws.proofs.RunWords.{agenda, at_once, Begins, begun_same, called, consumers_after, consumers_made, does, Each, each_append, each_first, each_map, each_rest, Entry, first, follows, follows_some, is_served, IsRun, may_call, Options, performs, rest, StartsIn, stays_some, Then, told_some, view, View}
 use Rattle.pulsar_messages.specs.Claims.{is_spent}
@@ -222,10 +222,10 @@ module _ (o : Options) (log : List Entry) (k : IsTicketed o log) where
   next_consumers (Does who (Ask l request)) is_due t m h = from_map _ t m h
   next_consumers (Does who (TakeNumber wanted)) is_due t m h =
       k.consumers t m (ap (λ f. f t) (sym (numbered_rows (ticket_of who) wanted (view o log).consumers)) ∙ h)
-  next_consumers (Does who (FindConsumer u)) is_due t m h = from_change u _ t m h
-  next_consumers (Does who TakeFlow) is_due t m h = from_change (ticket_of who) _ t m h
-  next_consumers (Does who (Revive l)) is_due t m h = from_change (ticket_of who) _ t m h
-  next_consumers (Does who (FailConsumer f)) is_due t m h = from_change (ticket_of who) _ t m h
+  next_consumers (Does who (OfConsumer (FindConsumer u))) is_due t m h = from_change u _ t m h
+  next_consumers (Does who (OfConsumer TakeFlow)) is_due t m h = from_change (ticket_of who) _ t m h
+  next_consumers (Does who (OfConsumer (Revive l))) is_due t m h = from_change (ticket_of who) _ t m h
+  next_consumers (Does who (OfConsumer (FailConsumer f))) is_due t m h = from_change (ticket_of who) _ t m h
   next_consumers (Does who StopAll) is_due t m h = from_map _ t m h
   next_consumers (Answers who verdict) is_due t m h =
       from_makes who verdict.makes is_due t m

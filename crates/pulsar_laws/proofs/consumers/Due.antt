@@ -6,7 +6,7 @@ use Rattle.std.specs.List.{flat_map}
 use Rattle.std.specs.Option.{is_some, option_map, option_to_list}
 use Rattle.std.specs.Ordering.{match_ordering, nat_cmp}
 use Rattle.std.specs.declared.cmp.Ordering.TheVariants.{Less, Equal, Greater}
-use Rattle.pulsar_laws.proofs.ActWords.{Act, Answers, Arrival, Ask, Asked, Call, Calls, Comes, Consumer, Does, Ends, FailConsumer, FindConsumer, is_same, lacks_tickets, Makes, Notice, opens, Polls, Producer, Reads, Revive, shares, StopAll, TakeFlow, TakeNumber, ticket_of, Told, ToLink, Verdict, Who, Word}
+use Rattle.pulsar_laws.proofs.ActWords.{Act, Answers, Arrival, Ask, Asked, Call, Calls, Comes, Consumer, Does, Ends, FailConsumer, FindConsumer, is_same, lacks_tickets, Makes, Notice, opens, Polls, Producer, Reads, Revive, shares, StopAll, TakeFlow, TakeNumber, ticket_of, Told, ToLink, Verdict, Who, Word, OfConsumer}
 use Rattle.pulsar_laws.proofs.RunWords.{Arises, Begins, begun_same, consumers_after, consumers_made, Entry, In, InOne, joins, may_call, member_on, Options, rules, Then, turned, view, View}
 use Rattle.pulsar_laws.proofs.LinkWords.{answer_at, arrival_at, closed_consumer, closing, Failure, Fault, is_asked, is_body, Reply, Seat, url_at}
 use Rattle.url.specs.Parts.{Parts}
@@ -119,10 +119,10 @@ module _ (t : ℕ) where
   after_has v (Comes (ToLink l (Ends end))) h = h
   after_has v (Comes (Polls u)) h = h
   after_has v (Does who (Ask l request)) h = h
-  after_has v (Does who (FindConsumer u)) h = h
-  after_has v (Does who TakeFlow) h = h
-  after_has v (Does who (Revive l)) h = h
-  after_has v (Does who (FailConsumer f)) h = h
+  after_has v (Does who (OfConsumer (FindConsumer u))) h = h
+  after_has v (Does who (OfConsumer TakeFlow)) h = h
+  after_has v (Does who (OfConsumer (Revive l))) h = h
+  after_has v (Does who (OfConsumer (FailConsumer f))) h = h
   after_has v (Does who StopAll) h = h
   after_has v a h = h
 
@@ -227,13 +227,13 @@ falls_asks s h = by s.engine.live h
 abbrev pub is_waker : Act → Bool
 is_waker (Comes (ToLink l Reads)) = true
 is_waker (Comes (Polls t)) = true
-is_waker (Does who (Revive l)) = true
+is_waker (Does who (OfConsumer (Revive l))) = true
 is_waker _ = false
 
 pub falls_due : (v : View) (t : ℕ) (m : Member) (a : Act) → is_waker a ≡ false → is_due (applied (does_to v t m a) m.seen) ≡ true → is_due m.seen ≡ true
 falls_due v t m (Comes (ToLink l Reads)) w h = absurd cc
 falls_due v t m (Comes (Polls u)) w h = absurd cc
-falls_due v t m (Does who (Revive l)) w h = absurd cc
+falls_due v t m (Does who (OfConsumer (Revive l))) w h = absurd cc
 falls_due v t m (Comes (ToLink l (Ends end))) w h = by (closing end v.now (v.links.live l)) h
   where
     by : (c : Option Fault) → is_due (applied (loss_does l c) m.seen) ≡ true → is_due m.seen ≡ true
@@ -242,8 +242,8 @@ falls_due v t m (Comes (ToLink l (Ends end))) w h = by (closing end v.now (v.lin
 falls_due v t m (Does who (Ask l request)) w h =
     falls_either (is_asked (answer_at v.now request (v.links.live l)) && is_closed_by (closed_consumer request) l m) (Over Closed ∷ []) m.seen
     (λ k. absurd cc) h
-falls_due v t m (Does who TakeFlow) w h = falls_either (t == ticket_of who) (Asks ∷ []) m.seen (falls_asks m.seen) h
-falls_due v t m (Does who (FailConsumer f)) w h = falls_either (t == ticket_of who) (Fails f ∷ []) m.seen (falls_fails f m.seen) h
+falls_due v t m (Does who (OfConsumer TakeFlow)) w h = falls_either (t == ticket_of who) (Asks ∷ []) m.seen (falls_asks m.seen) h
+falls_due v t m (Does who (OfConsumer (FailConsumer f))) w h = falls_either (t == ticket_of who) (Fails f ∷ []) m.seen (falls_fails f m.seen) h
 falls_due v t m (Does who StopAll) w h = absurd cc
 falls_due v t m a w h = h
 
@@ -351,7 +351,7 @@ module _ (o : Options) (log : List Entry) (t : ℕ) (m : Member) (there : (view 
   ]
 
   pub revived_due : (who : Who) (l : ℕ) → (t == ticket_of who) ≡ true → is_due (applied (subscription_does l (url_at (v.links.live l))) m.seen) ≡ true →
-      Arises rules o (due_to_plan m.seen.number t) (Then (Does who (Revive l))) log
+      Arises rules o (due_to_plan m.seen.number t) (Then (Does who (OfConsumer (Revive l)))) log
   revived_due who l e h =
       let url : Option Parts = url_at (v.links.live l) in
       let n : Member = revived l url m in
@@ -371,7 +371,7 @@ module _ (o : Options) (log : List Entry) (t : ℕ) (m : Member) (there : (view 
       seen_number url = ap (λ (s : Seen). s.number) (seen_so url) ∙ applied_number (subscription_does l url) m.seen
 
   revive_due : (who : Who) (l : ℕ) → is_due (applied (cond (t == ticket_of who) (subscription_does l (url_at (v.links.live l))) []) m.seen) ≡ true →
-      Rises (Does who (Revive l))
+      Rises (Does who (OfConsumer (Revive l)))
   revive_due who l h = elim (cases_Bool (t == ticket_of who)) [
     | inr e ↦ inr (sym (ap (λ b. is_due (applied (cond b (subscription_does l (url_at (v.links.live l))) []) m.seen)) e) ∙ h)
     | inl e ↦ inl (revived_due who l e (sym (ap (λ b. is_due (applied (cond b (subscription_does l (url_at (v.links.live l))) []) m.seen)) e) ∙ h))
@@ -380,7 +380,7 @@ module _ (o : Options) (log : List Entry) (t : ℕ) (m : Member) (there : (view 
   pub rises : (a : Act) → is_waker a ≡ true → is_due (applied (does_to v t m a) m.seen) ≡ true → Rises a
   rises (Comes (ToLink l Reads)) w h = reads_due l (ap is_due (arrival_done l (arrival_at (v.links.live l)) m) ∙ h)
   rises (Comes (Polls u)) w h = polls_due u h
-  rises (Does who (Revive l)) w h = revive_due who l h
+  rises (Does who (OfConsumer (Revive l))) w h = revive_due who l h
   rises a w h = absurd cc
 
 -- and where a consumer is made

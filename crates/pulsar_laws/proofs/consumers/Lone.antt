@@ -2,7 +2,7 @@
 use Rattle.std.proofs.Common.{◌≡◌, ◌≤◌, ℕ, ◌+◌, ◌∙◌, sym, ap, subst, List, [], ◌∷◌, ◌++◌, refl, arith, Bool, true, false, ◌&&◌, cond, Option, Some, None, inl, inr, ◌==◌}
 use Rattle.std.proofs.lemmas.Bool.{and_parts, cases_Bool}
 use Rattle.std.specs.Option.{option_map}
-use Rattle.pulsar_laws.proofs.ActWords.{Act, Answers, Arrival, Ask, Call, Calls, Comes, Consumer, Does, Ends, FailConsumer, FindConsumer, Heard, is_same, lacks_tickets, Makes, Polls, Producer, Reads, Revive, shares, StopAll, TakeFlow, TakeNumber, ticket_of, ToLink, Verdict, Who}
+use Rattle.pulsar_laws.proofs.ActWords.{Act, Answers, Arrival, Ask, Call, Calls, Comes, Consumer, Does, Ends, FailConsumer, FindConsumer, Heard, is_same, lacks_tickets, Makes, Polls, Producer, Reads, Revive, shares, StopAll, TakeFlow, TakeNumber, ticket_of, ToLink, Verdict, Who, OfConsumer}
 use Rattle.pulsar_laws.proofs.RunWords.{Begins, begun, begun_live, consumers_after, consumers_made, counted, EndsOnce, Entry, is_live, IsRun, may_call, member_on, Options, setup_of, Then, view, View}
 use Rattle.pulsar_laws.proofs.LinkWords.{answer_at, arrival_at, closed_consumer, closing, Fault, is_asked, is_body, Reply, Seat, url_at}
 use Rattle.url.specs.Parts.{Parts}
@@ -128,20 +128,20 @@ module _ (v : View) (t : ℕ) (m : Member) (h : v.consumers.rows t ≡ Some m) w
       (either_done (asked && consumer.is_closed_by (closed_consumer request) l m) (member_after (Over Closed) m) m (Over Closed ∷ []) [] m.seen refl refl)
   row_after (Does w (TakeNumber wanted)) other =
       same (Does w (TakeNumber wanted)) (ap (λ f. f t) (numbered_rows (ticket_of w) wanted v.consumers)) refl
-  row_after (Does w (FindConsumer u)) other =
+  row_after (Does w (OfConsumer (FindConsumer u))) other =
       let k = changed_row u (seeks w) [] (waits_done (consumer.sought (Some m)) w m) in
       record { row = k.0; is_it = k.1; seen = k.2 ∙ ap (λ xs. applied xs m.seen) (same_either (t == u)) }
     where
       same_either : (b : Bool) → ◌≡◌ {A = List Done} (cond b [] []) []
       same_either true = refl
       same_either false = refl
-  row_after (Does w TakeFlow) other =
+  row_after (Does w (OfConsumer TakeFlow)) other =
       let k = changed_row (ticket_of w) (member_after Asks) (Asks ∷ []) refl in record { row = k.0; is_it = k.1; seen = k.2 }
-  row_after (Does w (Revive l)) other =
+  row_after (Does w (OfConsumer (Revive l))) other =
       let url : Option Parts = url_at (v.links.live l) in
       let k = changed_row (ticket_of w) (consumer.revived l url) (subscription_does l url) (subscription_done l url m) in
       record { row = k.0; is_it = k.1; seen = k.2 }
-  row_after (Does w (FailConsumer f)) other =
+  row_after (Does w (OfConsumer (FailConsumer f))) other =
       let k = changed_row (ticket_of w) (consumer.failed f) (Fails f ∷ []) refl in record { row = k.0; is_it = k.1; seen = k.2 }
   row_after (Does w StopAll) other = mapped (Does w StopAll) consumer.stopped refl refl
   row_after (Answers who verdict) other =
@@ -169,10 +169,10 @@ none_after v t (Comes (ToLink l (Ends end))) other h = ap (option_map (loses_by 
 none_after v t (Comes (Polls u)) other h = changed_none (t == u) (member_after (Polled v.now)) (v.consumers.rows t) h
 none_after v t (Does w (Ask l request)) other h = ap (option_map (hears_ask l v.now request (v.links.live l))) h
 none_after v t (Does w (TakeNumber wanted)) other h = ap (λ f. f t) (numbered_rows (ticket_of w) wanted v.consumers) ∙ h
-none_after v t (Does w (FindConsumer u)) other h = changed_none (t == u) (seeks w) (v.consumers.rows t) h
-none_after v t (Does w TakeFlow) other h = changed_none (t == ticket_of w) (member_after Asks) (v.consumers.rows t) h
-none_after v t (Does w (Revive l)) other h = changed_none (t == ticket_of w) (consumer.revived l (url_at (v.links.live l))) (v.consumers.rows t) h
-none_after v t (Does w (FailConsumer f)) other h = changed_none (t == ticket_of w) (consumer.failed f) (v.consumers.rows t) h
+none_after v t (Does w (OfConsumer (FindConsumer u))) other h = changed_none (t == u) (seeks w) (v.consumers.rows t) h
+none_after v t (Does w (OfConsumer TakeFlow)) other h = changed_none (t == ticket_of w) (member_after Asks) (v.consumers.rows t) h
+none_after v t (Does w (OfConsumer (Revive l))) other h = changed_none (t == ticket_of w) (consumer.revived l (url_at (v.links.live l))) (v.consumers.rows t) h
+none_after v t (Does w (OfConsumer (FailConsumer f))) other h = changed_none (t == ticket_of w) (consumer.failed f) (v.consumers.rows t) h
 none_after v t (Does w StopAll) other h = ap (option_map consumer.stopped) h
 none_after v t (Answers who verdict) other h =
     ap (λ f. f t) (left_rows who (consumers_made v.links.live who verdict.makes v.consumers))

@@ -3,7 +3,7 @@ use Rattle.std.proofs.Common.{◌≡◌, ◌∙◌, sym, ap, ℕ, ◌-◌, ◌^�
 use Rattle.std.proofs.lemmas.Bool.Decides.{nat_tests}
 use Rattle.std.specs.List.{filter_map, flat_map}
 use Rattle.std.specs.Option.{option_map, option_to_list}
-use Rattle.pulsar_laws.proofs.ActWords.{Act, Action, Alarm, Answers, Ask, Asked, Call, Calls, CheckIdle, Comes, Dials, Does, Drains, Draw, End, Ends, Get, KeepAlive, LinkAct, Makes, Notice, OfTopic, Opens, Overdue, Part, Pings, Reads, CallRefusal, Revive, Rings, Shown, Starts, StopAll, ToLink, Who, lacks_tickets, numbers_from, opens, shares, ticket_of}
+use Rattle.pulsar_laws.proofs.ActWords.{Act, Action, Alarm, Answers, Ask, Asked, Call, Calls, CheckIdle, Comes, Dials, Does, Drains, Draw, End, Ends, Get, KeepAlive, LinkAct, Makes, Notice, OfTopic, Opens, Overdue, Part, Pings, Reads, CallRefusal, Revive, Rings, Shown, Starts, StopAll, ToLink, Who, lacks_tickets, numbers_from, opens, shares, ticket_of, OfConsumer}
 use Rattle.pulsar_laws.proofs.PlanWords.{fails}
 use Rattle.pulsar_laws.proofs.RunWords.{after, at_once, causes, dialed, further, joins, link_got, parts_of, procedure_for, room_of, setup_of, shares_unless, Turned, turned, turned_by, View, why_no_sends}
 use Rattle.pulsar_laws.proofs.LinkWords.{address_key, answer_at, arrival_at, closed_by, closed_consumer, closing, ConnectionError, Exhausted, Fault, got_at, is_asked, is_numbered, over_links, place_of, rings, Seat, seat_asked, seat_got, SendPing, stop_act, tells_asker, told_at, took, took_end, took_some, url_at, Words}
@@ -339,9 +339,9 @@ module _ (l : ℕ) (bytes : List ℕ) (v : View) where
       }) k
   does_ruled who (OfTopic n Draw) =
       λ i. record { once = tells who (draw_outcome (room_same n i) (v.producers.topics n)); joined = []; caused = []; more = []; shown = [] }
-  does_ruled who (Revive k) =
+  does_ruled who (OfConsumer (Revive k)) =
       λ i. record {
-        once = at_once v (Does who (Revive k));
+        once = at_once v (Does who (OfConsumer (Revive k)));
         joined = revived_at k (url_same k i) (ticket_of who) (v.consumers.rows (ticket_of who));
         caused = [];
         more = [];
@@ -513,8 +513,8 @@ module _ (l : ℕ) (bytes : List ℕ) (v : View) where
   after_same (Does who (OfTopic n Draw)) h =
       after_by l bytes bytes v (Does who (OfTopic n Draw)) (λ k. refl) refl refl refl
       (λ i. record v.producers { topics = λ m. row_by topic_after (cond (m == n) (drawn_by (room_same l bytes v n i)) []) (v.producers.topics m) })
-  after_same (Does who (Revive k)) h =
-      after_by l bytes bytes v (Does who (Revive k)) (λ j. refl) refl refl
+  after_same (Does who (OfConsumer (Revive k))) h =
+      after_by l bytes bytes v (Does who (OfConsumer (Revive k))) (λ j. refl) refl refl
       (ap (λ url. consumer.changed (ticket_of who) (consumer.revived k url) v.consumers) (url_same l bytes v k)) refl
   after_same (Answers who verdict) h =
       after_by l bytes bytes v (Answers who verdict) (λ k. refl) refl refl (ap (consumers_left who) (made_so who verdict.makes)) refl

@@ -11,7 +11,7 @@ use Rattle.pulsar_consumer_table.specs.Consumers.{Consumers, Deed, Member, calle
 
 -- WHAT IS DONE TO ONE
 
-row_is : (b : Bool) (act : Deed) (row : Option Member) →
+pub row_is : (b : Bool) (act : Deed) (row : Option Member) →
     cond b (option_map (member_by act) row) row ≡ row_by member_by (cond b (act ∷ []) []) row
 row_is true act row = refl
 row_is false act row = refl
@@ -20,7 +20,7 @@ pub changed_is : (t : ℕ) (act : Deed) (cs : Consumers) → changed t (member_b
 changed_is t act cs i = record cs { rows = λ u. row_is (u == t) act (cs.rows u) i }
 
 -- nothing is done to any
-row_same : (b : Bool) (row : Option Member) → row ≡ row_by member_by (cond b [] []) row
+pub row_same : (b : Bool) (row : Option Member) → row ≡ row_by member_by (cond b [] []) row
 row_same true row = refl
 row_same false row = refl
 

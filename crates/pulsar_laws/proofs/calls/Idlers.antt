@@ -11,7 +11,7 @@ use Rattle.std.specs.declared.cmp.Ordering.TheVariants.{Less, Equal, Greater}
 use Rattle.pulsar_laws.proofs.ActWords.{Act, Action, Alarm, Answers, Arrival, Ask, Batch, Bytes, Call, Calls, CheckIdle, Comes, Consumer, Dials, Does, Drains, Draw, Ends, FailConsumer, Find, FindConsumer, Flush, Get, Heard, KeepAlive, LinkAct, Makes, Number, OfTopic, Opens, Outcome, Pings, Polls, Producer, Reads, Recall, RecallConsumer, Rest, Retry, Revive, Rings, Shut, StopAll, Store, TakeFlow, TakeNumber, TakeTurn, Tell, TellAll, ToLink, Told, Wait, Wake, Who, Word, is_same, lacks_tickets, shares, ticket_of, turn_of, OfConsumer}
 use Rattle.pulsar_laws.proofs.PlanWords.{News}
 use Rattle.pulsar_laws.proofs.RunWords.{after, Begins, begun_live, Cause, Chosen, consumers_after, consumers_made, counted, Each, Entry, In, InThisStep, is_live, IsRun, link_got, live_begun, may_call, member_on, notice, Options, setup_of, start_of, Then, turned, Turned, view, View}
-use Rattle.pulsar_laws.proofs.LinkWords.{Addresses, arrival_at, Base, Becomes, Change, closing, Exhausted, Failure, Fault, got_at, is_body, IsOver, Nobody, Pause, Pauses, Place, Remains, Reply, rings, Runs, Seat, seat_asked, seat_fed, seat_got, Series, Serves, took_end, took_some, url_at, Words}
+use Rattle.pulsar_laws.proofs.LinkWords.{Addresses, answer_at, arrival_at, Base, Becomes, Change, closed_consumer, closing, Exhausted, Failure, Fault, got_at, is_asked, is_body, IsOver, Nobody, Pause, Pauses, Place, Remains, Reply, rings, Runs, Seat, seat_asked, seat_fed, seat_got, Series, Serves, took_end, took_some, url_at, Words}
 use Rattle.pulsar_wire.specs.Failures.{Disconnected}
 use Rattle.pulsar_messages.specs.Claims.{is_spent}
 use Rattle.pulsar_producer.specs.Topic as topic
@@ -27,7 +27,7 @@ use Rattle.pulsar_laws.proofs.Cases.{cond_so, none_some}
 use Rattle.pulsar_laws.proofs.calls.Causes.{IsToldBy}
 use Rattle.pulsar_laws.specs.Laws.{Acts, AttemptEnds, BecomesReady, DrawsNone, Finds, GetsTurn, GrantsSo, IsDropped, IsReady, IsReplied, IsUnknown, IsWoken, LineEnds, MovesUp, RequestEnds, IsServedAs, SaysSo, WordComes}
 use Rattle.pulsar_producer_table.specs.Producers.{is_bare, numbers_at, stored_at, timeout_at, topic_after, turn_passed}
-use Rattle.pulsar_acts.specs.View.{alarms_after, alarms_on, alarms_on_topic, alarms_over, alarms_rung, alarms_turned, alarms_waiting, base_after, base_on, clear_all, live_after, waits_for, waits_from, waits_on, hears_ask, joins_as}
+use Rattle.pulsar_acts.specs.View.{alarms_after, alarms_on, alarms_on_topic, alarms_over, alarms_rung, alarms_turned, alarms_waiting, base_after, base_on, clear_all, live_after, waits_for, waits_from, waits_on, joins_as}
 use Rattle.pulsar_links.specs.Seats.{asker_at, base_turned, nobody}
 use Rattle.pulsar_calls.specs.Who.{behind_all, in_turn}
 use Rattle.pulsar_laws.proofs.calls.Caused.{outcomes_are_caused_lem}
@@ -48,10 +48,12 @@ use Rattle.pulsar_consumer.specs.Frames.{frame_in}
 use Rattle.pulsar_consumer.specs.Topic as reader
 use Rattle.pulsar_incoming.specs.declared.polled.Ending.TheVariants.{Closed, TopicEnded}
 use Rattle.pulsar_consumer_table.specs.Consumers as consumer
-use Rattle.pulsar_consumer_table.specs.Consumers.{Member}
+use Rattle.pulsar_consumer_table.specs.Consumers.{Deed, FlowTaken, IsPolled, IsSought, Member, NotRevived, Revived, member_by}
 use Rattle.pulsar_consumer_table.specs.declared.row.Sought.{Sought}
 use Rattle.pulsar_consumer_table.specs.declared.row.Sought.TheVariants.{Found, Gone, Later}
-use Rattle.pulsar_laws.proofs.consumers.Members.{called_rows, left_rows, numbered_rows}
+use Rattle.pulsar_run.specs.Things.{row_by}
+use Rattle.pulsar_consumer_table.proofs.Asking.{row_same}
+use Rattle.pulsar_laws.proofs.consumers.Members.{made_at}
 use Rattle.pulsar_laws.proofs.calls.IdleCalls.{Mute, MuteBy, mute_older, only_start, mute_run}
 
 -- ONE THAT IS IDLE
@@ -288,10 +290,10 @@ map_seeks : (t : ℕ) (f : Member → Member) (row : Option Member) → ((m : Me
 map_seeks t f None k h = h
 map_seeks t f (Some m) k h = k m h
 
-one_seeks : (t : ℕ) (b : Bool) (f : Member → Member) (row : Option Member) → ((m : Member) → NotIn t m.seekers → NotIn t (f m).seekers) →
-    NotIn t (consumer.seekers_at row) → NotIn t (consumer.seekers_at (cond b (option_map f row) row))
-one_seeks t true f row k h = map_seeks t f row k h
-one_seeks t false f row k h = h
+one_seeks : (t : ℕ) (b : Bool) (d : Deed) (row : Option Member) → ((m : Member) → NotIn t m.seekers → NotIn t (member_by d m).seekers) →
+    NotIn t (consumer.seekers_at row) → NotIn t (consumer.seekers_at (row_by member_by (cond b (d ∷ []) []) row))
+one_seeks t true d row k h = map_seeks t (member_by d) row k h
+one_seeks t false d row k h = h
 
 frame_seeks : (t l : ℕ) (r : Reply) (m : Member) → NotIn t m.seekers → NotIn t (consumer.hears_frame l r m).seekers
 frame_seeks t l r m h =
@@ -308,7 +310,7 @@ loses_seeks : (t l : ℕ) (cause : Option Fault) (m : Member) → NotIn t m.seek
 loses_seeks t l None m h = h
 loses_seeks t l (Some cause) m h = h
 
-asks_seeks : (t l now : ℕ) (request : Words) (row : Option Seat) (m : Member) → NotIn t m.seekers → NotIn t (hears_ask l now request row m).seekers
+asks_seeks : (t l now : ℕ) (request : Words) (row : Option Seat) (m : Member) → NotIn t m.seekers → NotIn t (consumer.closes (closed_consumer request) l (is_asked (answer_at now request row)) m).seekers
 asks_seeks t l now request row m h = cond_so (λ z. NotIn t z.seekers) _ (consumer.member_after (reader.Ends Closed) m) m h h
 
 finds_seeks : (t : ℕ) (x : Sought) (w : Who) (m : Member) → (Call t ≡ w → ⊥) → NotIn t m.seekers → NotIn t (consumer.waits_so x w m).seekers
@@ -341,27 +343,24 @@ none_seeks t i = i
 
 seekers_absent : (t : ℕ) (v : View) (a : Act) (u : ℕ) → IdleBy t a → NotIn t (consumer.seekers_at (v.consumers.rows u)) →
     NotIn t (consumer.seekers_at ((consumers_after v a).rows u))
-seekers_absent t v (Comes (Calls asked advice)) u idle h =
-    subst (λ f. NotIn t (consumer.seekers_at (f u)))
-    (sym (called_rows (lacks_tickets v.calls.drawn (shares asked)) (may_call v.calls) asked v.consumers)) h
 seekers_absent t v (Comes (ToLink l Reads)) u idle h = map_seeks t _ (v.consumers.rows u) (hears_seeks t l (arrival_at (v.links.live l))) h
 seekers_absent t v (Comes (ToLink l (Ends end))) u idle h = map_seeks t _ (v.consumers.rows u) (loses_seeks t l (closing end v.now (v.links.live l))) h
-seekers_absent t v (Comes (Polls w)) u idle h = one_seeks t (u == w) (consumer.member_after (reader.Polls v.now)) (v.consumers.rows u) (λ m k. k) h
+seekers_absent t v (Comes (Polls w)) u idle h = one_seeks t (u == w) (IsPolled v.now) (v.consumers.rows u) (λ m k. k) h
 seekers_absent t v (Does w (Ask l request)) u idle h = map_seeks t _ (v.consumers.rows u) (asks_seeks t l v.now request (v.links.live l)) h
-seekers_absent t v (Does w (TakeNumber wanted)) u idle h =
-    subst (λ f. NotIn t (consumer.seekers_at (f u))) (sym (numbered_rows (ticket_of w) wanted v.consumers)) h
 seekers_absent t v (Does w (OfConsumer (FindConsumer x))) u idle h =
-    one_seeks t (u == x) (consumer.seeks w) (v.consumers.rows u)
+    one_seeks t (u == x) (IsSought w) (v.consumers.rows u)
     (λ m k. finds_seeks t (consumer.sought (Some m)) w m (other_idle t w (OfConsumer (FindConsumer x)) idle refl) k) h
 seekers_absent t v (Does w (OfConsumer TakeFlow)) u idle h =
-    one_seeks t (u == ticket_of w) (consumer.member_after reader.Asks) (v.consumers.rows u) (λ m k. k) h
+    one_seeks t (u == ticket_of w) FlowTaken (v.consumers.rows u) (λ m k. k) h
+seekers_absent t v (Does w (OfConsumer RecallConsumer)) u idle h =
+    subst (λ r. NotIn t (consumer.seekers_at r)) (row_same (u == ticket_of w) (v.consumers.rows u)) h
 seekers_absent t v (Does w (OfConsumer (Revive l))) u idle h =
-    one_seeks t (u == ticket_of w) (consumer.revived l (url_at (v.links.live l))) (v.consumers.rows u) (λ m k. none_seeks t) h
+    one_seeks t (u == ticket_of w) (Revived l (url_at (v.links.live l))) (v.consumers.rows u) (λ m k. none_seeks t) h
 seekers_absent t v (Does w (OfConsumer (FailConsumer f))) u idle h =
-    one_seeks t (u == ticket_of w) (consumer.failed f) (v.consumers.rows u) (λ m k. none_seeks t) h
+    one_seeks t (u == ticket_of w) (NotRevived f) (v.consumers.rows u) (λ m k. none_seeks t) h
 seekers_absent t v (Does w StopAll) u idle h = map_seeks t consumer.stopped (v.consumers.rows u) (λ m k. none_seeks t) h
 seekers_absent t v (Answers who verdict) u idle h =
-    subst (λ f. NotIn t (consumer.seekers_at (f u))) (sym (left_rows who (consumers_made v.links.live who verdict.makes v.consumers)))
+    subst (λ r. NotIn t (consumer.seekers_at r)) (sym (made_at v who verdict u))
     (made_seeks t v.links.live who verdict.makes v.consumers u h)
 seekers_absent t v _ u idle h = h
 

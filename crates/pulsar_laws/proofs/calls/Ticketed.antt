@@ -1,19 +1,21 @@
 -- A call that begins has a ticket that was drawn, and never the greatest; and a consumer has that of a call that began.
-use Rattle.std.proofs.Common.{◌≡◌, ◌∙◌, sym, ap, subst, ℕ, ◌+◌, ◌<◌, arith, List, [], ◌∷◌, ◌++◌, refl, true, false, cond, ◌==◌, ◌&&◌, Option, Some, None, inl, inr}
+use Rattle.std.proofs.Common.{◌≡◌, ◌∙◌, sym, ap, subst, ℕ, ◌+◌, ◌<◌, arith, List, [], ◌∷◌, ◌++◌, refl, Bool, true, false, cond, ◌==◌, ◌&&◌, Option, Some, None, inl, inr}
 use Rattle.std.proofs.lemmas.Bool.{and_parts, cases_Bool, eqb-true}
 use Rattle.std.proofs.lemmas.Bool.Decides.{nat_tests}
 use Rattle.std.specs.Option.{option_map}
-use Rattle.pulsar_laws.proofs.ActWords.{Act, Action, Answers, Ask, Asked, Call, Calls, Comes, Consumer, Does, Ends, FailConsumer, FindConsumer, Heard, is_same, lacks_tickets, Makes, Outcome, Part, Polls, Producer, Reads, Rest, Revive, shares, Starts, StopAll, TakeFlow, TakeNumber, ticket_of, Told, ToLink, Verdict, Who, OfConsumer}
+use Rattle.pulsar_run.specs.Things.{row_by}
+use Rattle.pulsar_laws.proofs.ActWords.{Act, Action, Answers, Ask, Asked, Call, Calls, Comes, Consumer, Does, Ends, FailConsumer, FindConsumer, Heard, is_same, lacks_tickets, Makes, Outcome, Part, Polls, Producer, Reads, RecallConsumer, Rest, Revive, shares, Starts, StopAll, TakeFlow, ticket_of, Told, ToLink, Verdict, Who, OfConsumer}
 use Rattle.pulsar_laws.proofs.PlanWords.{begins, Gives, Plan, Stays, told, Turn}
-use Rattle.pulsar_laws.proofs.RunWords.{agenda, at_once, Begins, begun_same, called, consumers_after, consumers_made, does, Each, each_append, each_first, each_map, each_rest, Entry, first, follows, follows_some, is_served, IsRun, may_call, Options, performs, rest, StartsIn, stays_some, Then, told_some, view, View}
+use Rattle.pulsar_laws.proofs.LinkWords.{url_at}
+use Rattle.pulsar_laws.proofs.RunWords.{agenda, at_once, Begins, begun_same, called, consumers_after, consumers_made, does, Each, each_append, each_first, each_map, each_rest, Entry, first, follows, follows_some, is_served, IsRun, Options, performs, rest, StartsIn, stays_some, Then, told_some, view, View}
 use Rattle.pulsar_messages.specs.Claims.{is_spent}
 use Rattle.pulsar_calls.specs.declared.act.Makes.TheVariants as makes
-use Rattle.pulsar_consumer_table.specs.Consumers as consumer
-use Rattle.pulsar_consumer_table.specs.Consumers.{Member}
+use Rattle.pulsar_consumer_table.specs.Consumers.{Deed, FlowTaken, IsPolled, IsSought, Member, NotRevived, Revived, member_by}
 use Rattle.pulsar_acts.specs.View.{drawn_after, joins_as, stand_after}
 use Rattle.pulsar_client.proofs.Acts.{called_each}
 use Rattle.pulsar_laws.proofs.Cases.{none_some}
-use Rattle.pulsar_laws.proofs.consumers.Members.{called_rows, left_rows, numbered_rows}
+use Rattle.pulsar_consumer_table.proofs.Asking.{row_is, row_same}
+use Rattle.pulsar_laws.proofs.consumers.Members.{made_at}
 use Rattle.pulsar_laws.proofs.calls.Quiet.{IsQuiet, comes_quiet, performs_quiet}
 use Rattle.pulsar_client.proofs.Raising.{IsRaised, raises}
 
@@ -206,30 +208,32 @@ module _ (o : Options) (log : List Entry) (k : IsTicketed o log) where
   from_map : (f : Member → Member) (t : ℕ) (m : Member) → option_map f ((view o log).consumers.rows t) ≡ Some m → Has drawn (Call t)
   from_map f t m h = let was = was_some f ((view o log).consumers.rows t) m h in k.consumers t was.0 was.1
 
-  from_change : (u : ℕ) (f : Member → Member) (t : ℕ) (m : Member) → (consumer.changed u f (view o log).consumers).rows t ≡ Some m → Has drawn (Call t)
-  from_change u f t m h = elim (cases_Bool (t == u)) [
-    | inl e ↦ from_map f t m (rw e at h)
-    | inr e ↦ k.consumers t m (rw e at h)
-  ]
+  from_deed : (u : ℕ) (d : Deed) (t : ℕ) (m : Member) → row_by member_by (cond (t == u) (d ∷ []) []) ((view o log).consumers.rows t) ≡ Some m →
+      Has drawn (Call t)
+  from_deed u d t m h = by (t == u) (row_is (t == u) d ((view o log).consumers.rows t) ∙ h)
+    where
+      by : (b : Bool) → cond b (option_map (member_by d) ((view o log).consumers.rows t)) ((view o log).consumers.rows t) ≡ Some m → Has drawn (Call t)
+      by true h = from_map (member_by d) t m h
+      by false h = k.consumers t m h
 
   next_consumers : (a : Act) → IsDue drawn a → (t : ℕ) (m : Member) → (consumers_after (view o log) a).rows t ≡ Some m → Has (drawn_after a drawn) (Call t)
   next_consumers (Comes (ToLink l Reads)) is_due t m h = from_map _ t m h
   next_consumers (Comes (ToLink l (Ends end))) is_due t m h = from_map _ t m h
-  next_consumers (Comes (Polls u)) is_due t m h = from_change u _ t m h
+  next_consumers (Comes (Polls u)) is_due t m h = from_deed u (IsPolled (view o log).now) t m h
   next_consumers (Comes (Calls asked advice)) is_due t m h =
       has_more (Comes (Calls asked advice)) drawn (Call t)
-      (k.consumers t m (ap (λ f. f t) (sym (called_rows (lacks_tickets drawn (shares asked)) (may_call (view o log).calls) asked (view o log).consumers)) ∙ h))
+      (k.consumers t m h)
   next_consumers (Does who (Ask l request)) is_due t m h = from_map _ t m h
-  next_consumers (Does who (TakeNumber wanted)) is_due t m h =
-      k.consumers t m (ap (λ f. f t) (sym (numbered_rows (ticket_of who) wanted (view o log).consumers)) ∙ h)
-  next_consumers (Does who (OfConsumer (FindConsumer u))) is_due t m h = from_change u _ t m h
-  next_consumers (Does who (OfConsumer TakeFlow)) is_due t m h = from_change (ticket_of who) _ t m h
-  next_consumers (Does who (OfConsumer (Revive l))) is_due t m h = from_change (ticket_of who) _ t m h
-  next_consumers (Does who (OfConsumer (FailConsumer f))) is_due t m h = from_change (ticket_of who) _ t m h
+  next_consumers (Does who (OfConsumer (FindConsumer u))) is_due t m h = from_deed u (IsSought who) t m h
+  next_consumers (Does who (OfConsumer TakeFlow)) is_due t m h = from_deed (ticket_of who) FlowTaken t m h
+  next_consumers (Does who (OfConsumer RecallConsumer)) is_due t m h = k.consumers t m (row_same (t == ticket_of who) ((view o log).consumers.rows t) ∙ h)
+  next_consumers (Does who (OfConsumer (Revive l))) is_due t m h =
+      from_deed (ticket_of who) (Revived l (url_at ((view o log).links.live l))) t m h
+  next_consumers (Does who (OfConsumer (FailConsumer f))) is_due t m h = from_deed (ticket_of who) (NotRevived f) t m h
   next_consumers (Does who StopAll) is_due t m h = from_map _ t m h
   next_consumers (Answers who verdict) is_due t m h =
       from_makes who verdict.makes is_due t m
-      (ap (λ f. f t) (sym (left_rows who (consumers_made (view o log).links.live who verdict.makes (view o log).consumers))) ∙ h)
+      (sym (made_at (view o log) who verdict t) ∙ h)
   next_consumers _ is_due t m h = k.consumers t m h
 
   next_ticketed : (a : Act) → first (agenda o log) ≡ Some a → IsTicketed o (Then a ∷ log)

@@ -35,7 +35,7 @@ use Rattle.pulsar_laws.proofs.Cases.{none_some, some_is}
 use Rattle.pulsar_laws.proofs.Lists.{in_right, into_flat}
 use Rattle.pulsar_laws.proofs.consumers.Lone.{applied, arrival_done, joins_here, none_after}
 use Rattle.pulsar_laws.proofs.calls.Same.{same_self}
-use Rattle.pulsar_laws.proofs.consumers.Members.{either_number, left_rows, lost_gone, polled_number}
+use Rattle.pulsar_laws.proofs.consumers.Members.{either_number, lost_gone, made_at, polled_number}
 use Rattle.pulsar_laws.specs.ConsumerLaws.{does_to, loss_does, subscription_does}
 
 -- THE TICKETS of all consumers are known
@@ -119,10 +119,7 @@ module _ (t : ℕ) where
   after_has v (Comes (ToLink l (Ends end))) h = h
   after_has v (Comes (Polls u)) h = h
   after_has v (Does who (Ask l request)) h = h
-  after_has v (Does who (OfConsumer (FindConsumer u))) h = h
-  after_has v (Does who (OfConsumer TakeFlow)) h = h
-  after_has v (Does who (OfConsumer (Revive l))) h = h
-  after_has v (Does who (OfConsumer (FailConsumer f))) h = h
+  after_has v (Does who (OfConsumer ask)) h = h
   after_has v (Does who StopAll) h = h
   after_has v a h = h
 
@@ -155,7 +152,7 @@ module _ (t : ℕ) where
       (consumers_after v a).rows t ≡ Some n → Has' (consumers_after v a)
   has_on v (Answers who verdict) k n h =
       let cs : Consumers = consumers_made v.links.live who verdict.makes v.consumers in
-      let made : cs.rows t ≡ Some n = sym (ap (λ f. f t) (left_rows who cs)) ∙ h in
+      let made : cs.rows t ≡ Some n = sym (made_at v who verdict t) ∙ h in
       elim (made_new v.links.live who verdict.makes n v.consumers made) [
         | inl e ↦ after_has v (Answers who verdict) (k n e)
         | inr e ↦ subst (In t) (sym (left_tickets who cs)) e
@@ -407,7 +404,7 @@ pub made_due_so : (v : View) (t : ℕ) (who : Who) (verdict : Verdict) (n : Memb
     (consumers_after v (Answers who verdict)).rows t ≡ Some n → is_due n.seen ≡ true →
     In (due_to_plan n.seen.number t) (map Told (joins v (Answers who verdict)))
 made_due_so v t who verdict n none is h =
-    by verdict.makes refl (sym (ap (λ f. f t) (left_rows who (consumers_made v.links.live who verdict.makes v.consumers))) ∙ is)
+    by verdict.makes refl (sym (made_at v who verdict t) ∙ is)
   where
     old : {A : Type 0} → v.consumers.rows t ≡ Some n → A
     old e = absurd (none_some (sym none ∙ e))
@@ -450,4 +447,4 @@ pub built_due : (v : View) (t : ℕ) (verdict : Verdict) (j : Joining) (n : Memb
 built_due v t verdict j n made is h =
     call_due v t verdict j n made
     (ap (λ x. (consumers_made v.links.live (Call t) x v.consumers).rows t) (sym made)
-    ∙ sym (ap (λ f. f t) (left_rows (Call t) (consumers_made v.links.live (Call t) verdict.makes v.consumers))) ∙ is) h
+    ∙ sym (made_at v (Call t) verdict t) ∙ is) h

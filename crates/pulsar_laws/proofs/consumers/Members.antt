@@ -2,10 +2,9 @@
 use Rattle.std.proofs.Common.{◌≡◌, ◌∙◌, sym, ap, subst, ℕ, List, [], ◌∷◌, refl, Bool, true, false, cond, ◌==◌, Option, Some, None, inl, inr, ◌+◌}
 use Rattle.std.specs.List.{flat_map}
 use Rattle.std.specs.Option.{option_map, option_to_list, is_some}
-use Rattle.pulsar_laws.proofs.ActWords.{Arrival, Asked, Call, Consumer, Notice, Producer, Who}
-use Rattle.pulsar_laws.proofs.RunWords.{Each, each_append, each_flat, In}
+use Rattle.pulsar_laws.proofs.ActWords.{Answers, Arrival, Call, Consumer, Notice, Producer, Verdict, Who}
+use Rattle.pulsar_laws.proofs.RunWords.{consumers_after, consumers_made, Each, each_append, each_flat, In, View}
 use Rattle.pulsar_laws.proofs.LinkWords.{Fault, is_body, Reply}
-use Rattle.pulsar_exchange.specs.Request.{named_consumer}
 use Rattle.pulsar_consumer.specs.Topic as reader
 use Rattle.pulsar_consumer.specs.Topic.{Hears, Loses, Live, Seen, first_of, gives, is_due, is_on, lives_on, first_due, counts_first, ends as reader_ends, loses as reader_loses, Ends as Over}
 use Rattle.pulsar_frame.specs.Items.{is_message, Item}
@@ -14,51 +13,31 @@ use Rattle.pulsar_incoming.specs.declared.polled.Ending.{Ending}
 use Rattle.pulsar_incoming.specs.declared.polled.Ending.TheVariants.{LinkLost, TopicEnded}
 use Rattle.pulsar_consumer.proofs.Histories.{counted_same}
 use Rattle.pulsar_consumer.proofs.Permits.{gives_dead}
-use Rattle.pulsar_calls.specs.Content as content
 use Rattle.pulsar_calls.specs.declared.act.Arrival.TheVariants as arrivals
 use Rattle.pulsar_calls.specs.declared.act.Word.TheVariants as word
 use Rattle.pulsar_consumer_table.specs.Consumers as consumer
-use Rattle.pulsar_consumer_table.specs.Consumers.{Consumers, Member, at_row, called_on, drew, ends_on, hears, hears_frame, holds, loses_by, member_after, names_in, next_free, numbered, numbering, opened_on, over_rows}
-use Rattle.pulsar_consumer_table.specs.declared.numbers.Numbering.{Numbering}
-use Rattle.pulsar_consumer_table.specs.declared.numbers.Numbering.TheVariants.{Has, InUse, Spent}
+use Rattle.pulsar_consumer_table.specs.Consumers.{Consumers, Member, at_row, ends_on, hears, hears_frame, loses_by, member_after, over_rows}
 use Rattle.pulsar_consumer_table.specs.Notices.{due_at, due_to, lost_at, word_to}
 use Rattle.pulsar_acts.specs.View.{consumers_left}
+use Rattle.pulsar_acts.proofs.Granting.{held_is}
 use Rattle.url.specs.Parts.{Parts}
 use Rattle.pulsar_wire.specs.Sink.{capped}
 use Rattle.pulsar_laws.proofs.Lists.{in_append}
 use Rattle.pulsar_laws.proofs.Cases.{cond_so}
 
--- WHAT KEEPS ALL ROWS
+-- A VERDICT leaves all rows, where it makes none
 
-names_rows : (number : Option ℕ) (cs : Consumers) → (names_in number cs).rows ≡ cs.rows
-names_rows None cs = refl
-names_rows (Some number) cs = refl
-
-opened_rows : (asked : Asked) (cs : Consumers) → (opened_on asked cs).rows ≡ cs.rows
-opened_rows (content.Raw l words) cs = names_rows (named_consumer words) cs
-opened_rows _ cs = refl
-
-pub called_rows : (lacks is_open : Bool) (asked : Asked) (cs : Consumers) → (cond lacks cs (called_on is_open asked cs)).rows ≡ cs.rows
-called_rows true is_open asked cs = refl
-called_rows false true asked cs = opened_rows asked cs
-called_rows false false asked cs = refl
-
-drew_rows : (free : ℕ) (wanted : Option ℕ) (cs : Consumers) → (drew free wanted cs).rows ≡ cs.rows
-drew_rows free None cs = refl
-drew_rows free (Some n) cs = refl
-
-holds_rows : (t : ℕ) (x : Numbering) (cs : Consumers) → (holds t x cs).rows ≡ cs.rows
-holds_rows t (Has n) cs = refl
-holds_rows t InUse cs = refl
-holds_rows t Spent cs = refl
-
-pub numbered_rows : (t : ℕ) (wanted : Option ℕ) (cs : Consumers) → (numbered t wanted cs).rows ≡ cs.rows
-numbered_rows t wanted cs = drew_rows (next_free cs) wanted (holds t (numbering cs wanted) cs) ∙ holds_rows t (numbering cs wanted) cs
-
-pub left_rows : (who : Who) (cs : Consumers) → (consumers_left who cs).rows ≡ cs.rows
+left_rows : (who : Who) (cs : Consumers) → (consumers_left who cs).rows ≡ cs.rows
 left_rows (Call t) cs = refl
 left_rows (Consumer n t) cs = refl
 left_rows (Producer n) cs = refl
+
+-- where a verdict makes one
+pub made_at : (v : View) (who : Who) (verdict : Verdict) (t : ℕ) →
+    (consumers_after v (Answers who verdict)).rows t ≡ (consumers_made v.links.live who verdict.makes v.consumers).rows t
+made_at v who verdict t =
+    sym (ap (λ cs. cs.rows t) (held_is v.links.live who verdict.makes v.consumers))
+    ∙ ap (λ f. f t) (left_rows who (consumers_made v.links.live who verdict.makes v.consumers))
 
 -- WHAT A ROW GIVES
 

@@ -40,7 +40,8 @@ use Rattle.url.specs.Parts.{Parts}
 use Rattle.pulsar_consumer.specs.Commands.{command_of}
 use Rattle.pulsar_consumer_table.specs.Consumers.{Member, over_rows}
 use Rattle.pulsar_consumer_table.specs.Notices.{again, again_at, due_at, due_to, heard_at, lost_at, stopped_seekers, word_to}
-use Rattle.pulsar_acts.specs.Reading.{closed_at, flow_said, heard_on, made_due, numbering_said, recalled_said, revived_said, sought_said, tells_word}
+use Rattle.pulsar_consumer_table.specs.Asks.{flow_said, recalled_said, revived_said, sought_said}
+use Rattle.pulsar_acts.specs.Reading.{closed_at, heard_on, made_due, numbering_said, tells_word}
 use Rattle.pulsar_consumer_table.specs.declared.numbers.Numbering.{Numbering}
 use Rattle.pulsar_consumer_table.specs.declared.numbers.Numbering.TheVariants.{Has, InUse, Spent}
 use Rattle.pulsar_consumer_table.specs.declared.row.Sought.{Sought}
@@ -256,7 +257,7 @@ module _ (o : Options) (who : Who) (u : Outcome) (older : List Entry) where
   found_link None l e = absurd cc
   found_link (Some m) l e = found_for (reader.is_ended m.seen) (reader.link_of m.seen) l e
 
-  sought_caused : (w : Who) (t : ℕ) (x : Sought) → consumer.sought (v.consumers.rows t) ≡ x → In (Told it) (sought_said w x) →
+  sought_caused : (w : Who) (t : ℕ) (x : Sought) → consumer.sought (v.consumers.rows t) ≡ x → In (Told it) (says_to w (sought_said x)) →
       Cause o who u (Then (Does w (OfConsumer (FindConsumer t)))) older
   sought_caused w t (Found l) e h =
       let k = told_is w (outcome.GotLink l) h in
@@ -273,7 +274,7 @@ module _ (o : Options) (who : Who) (u : Outcome) (older : List Entry) where
       word_said w (OfConsumer TakeFlow) (word.Flow x.0 x.1)
       (λ is. subst (λ y. consumer.flow_at (v.consumers.rows (ticket_of y)) ≡ Some (x.0, x.1)) (sym is) e) h
 
-  command_caused : (w : Who) (row : Option Member) → v.consumers.rows (ticket_of w) ≡ row → In (Told it) (recalled_said w (consumer.recalled row)) →
+  command_caused : (w : Who) (row : Option Member) → v.consumers.rows (ticket_of w) ≡ row → In (Told it) (tells w (recalled_said (consumer.recalled row))) →
       Cause o who u (Then (Does w (OfConsumer RecallConsumer))) older
   command_caused w None e h =
       let k = told_is w outcome.Disconnected h in

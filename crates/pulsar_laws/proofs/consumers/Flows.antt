@@ -13,7 +13,8 @@ use Rattle.pulsar_calls.specs.declared.act.Word.TheVariants as word
 use Rattle.pulsar_plans.specs.declared.service.Service.TheVariants as service
 use Rattle.pulsar_plans.specs.Plan.{resubscribing}
 use Rattle.pulsar_consumer_table.specs.Consumers.{Member, word_if, word_of, word_of_frame, word_of_loss}
-use Rattle.pulsar_acts.specs.Reading.{flow_said, tells_word}
+use Rattle.pulsar_consumer_table.specs.Asks.{flow_said}
+use Rattle.pulsar_acts.specs.Reading.{tells_word}
 use Rattle.pulsar_laws.proofs.Cases.{cond_so}
 use Rattle.pulsar_laws.proofs.plans.Standing.{run_older, stands_so, starts_so}
 use Rattle.pulsar_plans.proofs.Arcs.{Arc, due_takes, ended_closes, flow_asks, flowed_takes, lives_rests, lost_recalls, no_flow_rests, over_closes, recalled_fails, recalled_resumes_asks, recalled_resumes_gets, recalled_resumes_waits, recalled_revives, resumed_fails, resumed_revives, resumes_on_asks, resumes_on_gets, resumes_on_waits, serving_rests, told_arc}

@@ -29,8 +29,9 @@ use Rattle.pulsar_plans.specs.declared.service.Service.{Service}
 use Rattle.pulsar_plans.specs.declared.service.Service.TheVariants as service
 use Rattle.pulsar_plans.specs.Plan.{told_service}
 use Rattle.pulsar_consumer_table.specs.Consumers as consumer
-use Rattle.pulsar_consumer_table.specs.Consumers.{Member, flow_at, member_after}
-use Rattle.pulsar_acts.specs.Reading.{flow_said}
+use Rattle.pulsar_run.specs.Things.{row_by}
+use Rattle.pulsar_consumer_table.specs.Consumers.{FlowTaken, Member, flow_at, member_after, member_by}
+use Rattle.pulsar_consumer_table.specs.Asks.{flow_said}
 use Rattle.pulsar_plans.proofs.Arcs.{Arc, StaysSo, due_takes, flowed_takes, is_flow, serving_rests, stays_by}
 use Rattle.pulsar_laws.proofs.Cases.{none_some, some_is}
 use Rattle.pulsar_laws.specs.ConsumerLaws.{FlowsArePlaced, done_to, place_on}
@@ -303,7 +304,7 @@ pub asked_there : (o : Options) (older : List Entry) (n t : ℕ) (x : Notice) (m
     (view o (Then (Told x) ∷ Then (Does (Consumer n t) (OfConsumer TakeFlow)) ∷ older)).consumers.rows t ≡ Some (member_after Asks m)
 asked_there o older n t x m h =
     let row : Option Member = (view o older).consumers.rows t in
-    ap (λ b. cond b (option_map (member_after Asks) row) row) (eq-eqb t t refl) ∙ ap (option_map (member_after Asks)) h
+    ap (λ b. row_by member_by (cond b (FlowTaken ∷ []) []) row) (eq-eqb t t refl) ∙ ap (option_map (member_after Asks)) h
 
 pub record IsPlaced (o : Options) (log : List Entry) (n t l m p : ℕ) : Type 0 where
   pub older : List Entry

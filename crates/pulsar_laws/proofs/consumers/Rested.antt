@@ -13,7 +13,8 @@ use Rattle.pulsar_client.proofs.Raising.{IsRaised, raises}
 use Rattle.pulsar_consumer_table.specs.Consumers.{is_ended_at}
 use Rattle.pulsar_outgoing.specs.Storage.{is_batching}
 use Rattle.pulsar_plans.specs.declared.service.Service.TheVariants as service
-use Rattle.pulsar_acts.specs.Reading.{revived_said, serves}
+use Rattle.pulsar_consumer_table.specs.Asks.{revived_said}
+use Rattle.pulsar_acts.specs.Reading.{serves}
 use Rattle.pulsar_acts.specs.Rules.{batches_from}
 use Rattle.pulsar_laws.proofs.Cases.{none_some, some_is}
 use Rattle.pulsar_laws.proofs.calls.Same.{same_self}

@@ -11,8 +11,9 @@ use Rattle.pulsar_consumer.specs.Laws.{asked_since}
 use Rattle.pulsar_consumer.specs.Topic.{Live, Seen, Asks, asked, behind, first_due, first_in, is_due, link_of}
 use Rattle.pulsar_calls.specs.declared.act.Outcome.TheVariants as outcome
 use Rattle.pulsar_calls.specs.declared.act.Word.TheVariants as word
-use Rattle.pulsar_consumer_table.specs.Consumers.{Member, flow_at, member_after}
-use Rattle.pulsar_acts.specs.Reading.{flow_said}
+use Rattle.pulsar_run.specs.Things.{row_by}
+use Rattle.pulsar_consumer_table.specs.Consumers.{FlowTaken, Member, flow_at, member_after, member_by}
+use Rattle.pulsar_consumer_table.specs.Asks.{flow_said}
 use Rattle.pulsar_laws.proofs.Cases.{none_some, some_is}
 use Rattle.pulsar_laws.proofs.calls.Done.{IsLeftIn, arises, first_done, none_left, stays as stays_left}
 use Rattle.pulsar_laws.proofs.calls.Same.{same_self, same_who}
@@ -75,7 +76,7 @@ took_none o older n t m is none h = by ((view o older).consumers.rows t) refl no
         now : (row : Option Member) → (view o older).consumers.rows t ≡ row →
             (view o (Then (Does (Consumer n t) (OfConsumer TakeFlow)) ∷ older)).consumers.rows t ≡ option_map (member_after Asks) row
         now row e =
-            ap (λ b. cond b (option_map (member_after Asks) ((view o older).consumers.rows t)) ((view o older).consumers.rows t)) (eq-eqb t t refl)
+            ap (λ b. row_by member_by (cond b (FlowTaken ∷ []) []) ((view o older).consumers.rows t)) (eq-eqb t t refl)
             ∙ ap (option_map (member_after Asks)) e
 
         on : (row : Option Member) → flow_at row ≡ None → option_map (member_after Asks) row ≡ Some m → ⊥

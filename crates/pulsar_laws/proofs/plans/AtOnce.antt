@@ -13,7 +13,8 @@ use Rattle.pulsar_producer_table.specs.declared.table.Topic.{Topic}
 use Rattle.pulsar_producer_table.specs.Producers.{drawn, is_settled_at, link_at, next_batch_at, number_drawn, recalled, turn_taken}
 use Rattle.pulsar_producer_table.specs.Asks.{draw_outcome, draw_said, grants_it, link_said, recall_said, turn_said}
 use Rattle.pulsar_acts.specs.Rules.{gets_from, number_said, says_to}
-use Rattle.pulsar_acts.specs.Reading.{recalled_said, sought_said, numbering_said}
+use Rattle.pulsar_consumer_table.specs.Asks.{recalled_said, sought_said}
+use Rattle.pulsar_acts.specs.Reading.{numbering_said}
 use Rattle.pulsar_consumer_table.specs.Consumers as consumer
 use Rattle.pulsar_consumer_table.specs.declared.row.Sought.{Sought}
 use Rattle.pulsar_consumer_table.specs.declared.row.Sought.TheVariants.{Found, Gone, Later}
@@ -114,12 +115,12 @@ module _ (v : View) (who : Who) where
   numbering_once wanted InUse = says tt refl
   numbering_once wanted Spent = says tt refl
 
-  sought_once : (t : ℕ) (x : Sought) → AtOnce v who (OfConsumer (FindConsumer t)) (sought_said who x)
+  sought_once : (t : ℕ) (x : Sought) → AtOnce v who (OfConsumer (FindConsumer t)) (says_to who (sought_said x))
   sought_once t (Found l) = says tt refl
   sought_once t Gone = says tt refl
   sought_once t Later = nothing
 
-  command_once : (r : Option Command) → AtOnce v who (OfConsumer RecallConsumer) (recalled_said who r)
+  command_once : (r : Option Command) → AtOnce v who (OfConsumer RecallConsumer) (tells who (recalled_said r))
   command_once None = says tt refl
   command_once (Some c) = says tt refl
 

@@ -1,5 +1,5 @@
 -- What becomes of the consumers, row by row: what is done to one, and where one joins.
-use Rattle.std.proofs.Common.{◌≡◌, ◌∙◌, ap, ℕ, ◌==◌, List, [], ◌∷◌, refl, Bool, true, false, cond, Option, Some, None}
+use Rattle.std.proofs.Common.{◌≡◌, ◌∙◌, ap, ℕ, ◌==◌, [], ◌∷◌, refl, Bool, true, false, cond, Option, Some, None}
 use Rattle.std.specs.Option.{option_map}
 use Rattle.pulsar_run.specs.Things.{row_after, row_by}
 use Rattle.pulsar_exchange.specs.Request.{named_consumer}

@@ -1,6 +1,6 @@
 -- One that does nothing but to store and to tell waits for no link, request or moment. One that does nothing at all is told only what parts of
 -- calls say.
-use Rattle.std.proofs.Common.{◌≡◌, ◌⊎◌, inl, inr, ◌∙◌, sym, ap, subst, ℕ, ◌≤◌, ◌==◌, List, [], ◌∷◌, ◌++◌, refl, Bool, true, false, cond, not, Option, Some, None}
+use Rattle.std.proofs.Common.{◌≡◌, ◌⊎◌, inl, inr, ◌∙◌, sym, ap, subst, ℕ, ◌≤◌, ◌==◌, List, [], ◌∷◌, ◌++◌, refl, Bool, true, false, cond, not, Option, Some, None, ◌&&◌}
 use Rattle.std.proofs.lemmas.Bool.{cases_Bool}
 use Rattle.std.specs.BTreeMap.{insert_entry}
 use Rattle.std.specs.Map.{lookup}
@@ -8,10 +8,10 @@ use Rattle.std.specs.Option.{option_map}
 use Rattle.std.specs.Ordering.{match_ordering}
 use Rattle.std.specs.declared.cmp.Ordering.{Ordering}
 use Rattle.std.specs.declared.cmp.Ordering.TheVariants.{Less, Equal, Greater}
-use Rattle.pulsar_laws.proofs.ActWords.{Act, Action, Alarm, Answers, Arrival, Ask, Batch, Bytes, Call, Calls, CheckIdle, Comes, Consumer, Dials, Does, Drains, Draw, Ends, FailConsumer, Find, FindConsumer, Flush, Get, Heard, KeepAlive, LinkAct, Makes, Number, OfTopic, Opens, Outcome, Pings, Polls, Producer, Reads, Recall, RecallConsumer, Rest, Retry, Revive, Rings, Shut, StopAll, Store, TakeFlow, TakeNumber, TakeTurn, Tell, TellAll, ToLink, Told, Wait, Wake, Who, Word, is_same, lacks_tickets, shares, ticket_of, turn_of, OfConsumer}
+use Rattle.pulsar_laws.proofs.ActWords.{Act, Action, Alarm, Answers, Arrival, Ask, Batch, Bytes, Call, CheckIdle, Comes, Consumer, Dials, Does, Drains, Draw, Ends, Find, FindConsumer, Flush, Get, Heard, KeepAlive, LinkAct, Makes, Number, OfTopic, Opens, Outcome, Pings, Producer, Reads, Recall, RecallConsumer, Rest, Retry, Rings, Shut, StopAll, Store, TakeTurn, Tell, TellAll, ToLink, Told, Wait, Wake, Who, Word, is_same, ticket_of, turn_of, OfConsumer}
 use Rattle.pulsar_laws.proofs.PlanWords.{News}
-use Rattle.pulsar_laws.proofs.RunWords.{after, Begins, begun_live, Cause, Chosen, consumers_after, consumers_made, counted, Each, Entry, In, InThisStep, is_live, IsRun, link_got, live_begun, may_call, member_on, notice, Options, setup_of, start_of, Then, turned, Turned, view, View}
-use Rattle.pulsar_laws.proofs.LinkWords.{Addresses, answer_at, arrival_at, Base, Becomes, Change, closed_consumer, closing, Exhausted, Failure, Fault, got_at, is_asked, is_body, IsOver, Nobody, Pause, Pauses, Place, Remains, Reply, rings, Runs, Seat, seat_asked, seat_fed, seat_got, Series, Serves, took_end, took_some, url_at, Words}
+use Rattle.pulsar_laws.proofs.RunWords.{after, Begins, begun_live, Cause, Chosen, consumers_after, counted, Each, Entry, In, InThisStep, is_live, IsRun, link_got, live_begun, notice, Options, setup_of, start_of, Then, turned, Turned, view, View}
+use Rattle.pulsar_laws.proofs.LinkWords.{Addresses, Base, Becomes, Change, Exhausted, Failure, Fault, got_at, is_body, IsOver, Nobody, Pause, Pauses, Place, Remains, Reply, rings, Runs, Seat, seat_asked, seat_fed, seat_got, Series, Serves, took_end, took_some, url_at, Words}
 use Rattle.pulsar_wire.specs.Failures.{Disconnected}
 use Rattle.pulsar_messages.specs.Claims.{is_spent}
 use Rattle.pulsar_producer.specs.Topic as topic
@@ -23,11 +23,11 @@ use Rattle.pulsar_calls.specs.declared.act.Procedure.TheVariants as procedure
 use Rattle.pulsar_producer_table.specs.declared.table.Topic.{Topic}
 use Rattle.pulsar_links.specs.Alarms.{alarm_cmp, clear, is_same_alarm, moment_of, set}
 use Rattle.pulsar_laws.proofs.Lists.{in_append, in_each}
-use Rattle.pulsar_laws.proofs.Cases.{cond_so, none_some}
+use Rattle.pulsar_laws.proofs.Cases.{cond_so, none_some, some_is}
 use Rattle.pulsar_laws.proofs.calls.Causes.{IsToldBy}
 use Rattle.pulsar_laws.specs.Laws.{Acts, AttemptEnds, BecomesReady, DrawsNone, Finds, GetsTurn, GrantsSo, IsDropped, IsReady, IsReplied, IsUnknown, IsWoken, LineEnds, MovesUp, RequestEnds, IsServedAs, SaysSo, WordComes}
 use Rattle.pulsar_producer_table.specs.Producers.{is_bare, numbers_at, stored_at, timeout_at, topic_after, turn_passed}
-use Rattle.pulsar_acts.specs.View.{alarms_after, alarms_on, alarms_on_topic, alarms_over, alarms_rung, alarms_turned, alarms_waiting, base_after, base_on, clear_all, live_after, waits_for, waits_from, waits_on, joins_as}
+use Rattle.pulsar_acts.specs.View.{alarms_after, alarms_on, alarms_on_topic, alarms_over, alarms_rung, alarms_turned, alarms_waiting, base_after, base_on, clear_all, live_after, waits_for, waits_from, waits_on, member_made}
 use Rattle.pulsar_links.specs.Seats.{asker_at, base_turned, nobody}
 use Rattle.pulsar_calls.specs.Who.{behind_all, in_turn}
 use Rattle.pulsar_laws.proofs.calls.Caused.{outcomes_are_caused_lem}
@@ -48,12 +48,10 @@ use Rattle.pulsar_consumer.specs.Frames.{frame_in}
 use Rattle.pulsar_consumer.specs.Topic as reader
 use Rattle.pulsar_incoming.specs.declared.polled.Ending.TheVariants.{Closed, TopicEnded}
 use Rattle.pulsar_consumer_table.specs.Consumers as consumer
-use Rattle.pulsar_consumer_table.specs.Consumers.{Deed, FlowTaken, IsPolled, IsSought, Member, NotRevived, Revived, member_by}
+use Rattle.pulsar_consumer_table.specs.Consumers.{Arrives, ClientStops, CloseAsked, Deed, FlowTaken, IsPolled, IsSought, LinkEnds, Member, NotRevived, Revived, member_by}
 use Rattle.pulsar_consumer_table.specs.declared.row.Sought.{Sought}
 use Rattle.pulsar_consumer_table.specs.declared.row.Sought.TheVariants.{Found, Gone, Later}
-use Rattle.pulsar_run.specs.Things.{row_by}
-use Rattle.pulsar_consumer_table.proofs.Asking.{row_same}
-use Rattle.pulsar_laws.proofs.consumers.Members.{made_at}
+use Rattle.pulsar_laws.proofs.consumers.Members.{CameFrom, after_holds}
 use Rattle.pulsar_laws.proofs.calls.IdleCalls.{Mute, MuteBy, mute_older, only_start, mute_run}
 
 -- ONE THAT IS IDLE
@@ -285,16 +283,6 @@ alarms_absent t v _ idle k = k
 
 -- those who wait for the link of a consumer
 
-map_seeks : (t : ℕ) (f : Member → Member) (row : Option Member) → ((m : Member) → NotIn t m.seekers → NotIn t (f m).seekers) →
-    NotIn t (consumer.seekers_at row) → NotIn t (consumer.seekers_at (option_map f row))
-map_seeks t f None k h = h
-map_seeks t f (Some m) k h = k m h
-
-one_seeks : (t : ℕ) (b : Bool) (d : Deed) (row : Option Member) → ((m : Member) → NotIn t m.seekers → NotIn t (member_by d m).seekers) →
-    NotIn t (consumer.seekers_at row) → NotIn t (consumer.seekers_at (row_by member_by (cond b (d ∷ []) []) row))
-one_seeks t true d row k h = map_seeks t (member_by d) row k h
-one_seeks t false d row k h = h
-
 frame_seeks : (t l : ℕ) (r : Reply) (m : Member) → NotIn t m.seekers → NotIn t (consumer.hears_frame l r m).seekers
 frame_seeks t l r m h =
     cond_so (λ z. NotIn t z.seekers) (is_body 9 r.content.body) (consumer.member_after (reader.Hears l (frame_in r)) m) _ h
@@ -310,9 +298,6 @@ loses_seeks : (t l : ℕ) (cause : Option Fault) (m : Member) → NotIn t m.seek
 loses_seeks t l None m h = h
 loses_seeks t l (Some cause) m h = h
 
-asks_seeks : (t l now : ℕ) (request : Words) (row : Option Seat) (m : Member) → NotIn t m.seekers → NotIn t (consumer.closes (closed_consumer request) l (is_asked (answer_at now request row)) m).seekers
-asks_seeks t l now request row m h = cond_so (λ z. NotIn t z.seekers) _ (consumer.member_after (reader.Ends Closed) m) m h h
-
 finds_seeks : (t : ℕ) (x : Sought) (w : Who) (m : Member) → (Call t ≡ w → ⊥) → NotIn t m.seekers → NotIn t (consumer.waits_so x w m).seekers
 finds_seeks t (Found l) w m other h = h
 finds_seeks t Gone w m other h = h
@@ -322,47 +307,38 @@ on_seeks : (t l : ℕ) (url : Option Parts) (s : reader.Seen) → NotIn t (consu
 on_seeks t l None s i = i
 on_seeks t l (Some url) s i = i
 
-joins_seeks : (t : ℕ) (who : Who) (m : Member) (cs : consumer.Consumers) (u : ℕ) → NotIn t m.seekers → NotIn t (consumer.seekers_at (cs.rows u)) →
-    NotIn t (consumer.seekers_at ((joins_as who m cs).rows u))
-joins_seeks t (Call x) m cs u h k = elim (u == x) as (λ b. NotIn t (consumer.seekers_at (cond b (Some m) (cs.rows u)))) [ true ↦ h | false ↦ k ]
-joins_seeks t (Consumer n x) m cs u h k = k
-joins_seeks t (Producer n) m cs u h k = k
-
-made_seeks : (t : ℕ) (live : ℕ → Option Seat) (who : Who) (m : Makes) (cs : consumer.Consumers) (u : ℕ) → NotIn t (consumer.seekers_at (cs.rows u)) →
-    NotIn t (consumer.seekers_at ((consumers_made live who m cs).rows u))
-made_seeks t live who makes.Nothing cs u k = k
-made_seeks t live who makes.Client cs u k = k
-made_seeks t live who (makes.Producer b) cs u k = k
-made_seeks t live who (makes.Consumer j) cs u k =
-    joins_seeks t who (member_on live j.link (setup_of j)) cs u (on_seeks t j.link (url_at (live j.link)) (reader.fresh (setup_of j))) k
-made_seeks t live who (makes.RawConsumer l made) cs u k =
-    joins_seeks t who (member_on live l (reader.of_raw made)) cs u (on_seeks t l (url_at (live l)) (reader.fresh (reader.of_raw made))) k
-
 none_seeks : (t : ℕ) → NotIn t []
 none_seeks t i = i
 
+-- one that joins has none, and no deed adds this one
+joins_seeks : (t : ℕ) (live : ℕ → Option Seat) (x : Makes) (m : Member) → member_made live x ≡ Some m → NotIn t m.seekers
+joins_seeks t live (makes.Consumer j) m e =
+    subst (λ n. NotIn t n.seekers) (some_is e) (on_seeks t j.link (url_at (live j.link)) (reader.fresh (setup_of j)) (none_seeks t))
+joins_seeks t live (makes.RawConsumer l made) m e =
+    subst (λ n. NotIn t n.seekers) (some_is e) (on_seeks t l (url_at (live l)) (reader.fresh (reader.of_raw made)) (none_seeks t))
+joins_seeks t live makes.Nothing m e = absurd cc
+joins_seeks t live makes.Client m e = absurd cc
+joins_seeks t live (makes.Producer b) m e = absurd cc
+
+deed_seeks : (t : ℕ) (v : View) (a : Act) (u : ℕ) (d : Deed) → CameFrom v u a d → IdleBy t a → (m : Member) → NotIn t m.seekers →
+    NotIn t (member_by d m).seekers
+deed_seeks t v a u (Arrives l x) c idle m h = hears_seeks t l x m h
+deed_seeks t v a u (LinkEnds l cause) c idle m h = loses_seeks t l cause m h
+deed_seeks t v a u (CloseAsked closed l b) c idle m h =
+    cond_so (λ z. NotIn t z.seekers) (b && consumer.is_closed_by closed l m) (consumer.member_after (reader.Ends Closed) m) m h h
+deed_seeks t v a u (IsPolled clock) c idle m h = h
+deed_seeks t v a u (IsSought w) c idle m h =
+    finds_seeks t (consumer.sought (Some m)) w m (other_idle t w (OfConsumer (FindConsumer u)) (subst (IdleBy t) c idle) refl) h
+deed_seeks t v a u FlowTaken c idle m h = h
+deed_seeks t v a u (Revived l url) c idle m h = none_seeks t
+deed_seeks t v a u (NotRevived f) c idle m h = none_seeks t
+deed_seeks t v a u ClientStops c idle m h = none_seeks t
+
 seekers_absent : (t : ℕ) (v : View) (a : Act) (u : ℕ) → IdleBy t a → NotIn t (consumer.seekers_at (v.consumers.rows u)) →
     NotIn t (consumer.seekers_at ((consumers_after v a).rows u))
-seekers_absent t v (Comes (ToLink l Reads)) u idle h = map_seeks t _ (v.consumers.rows u) (hears_seeks t l (arrival_at (v.links.live l))) h
-seekers_absent t v (Comes (ToLink l (Ends end))) u idle h = map_seeks t _ (v.consumers.rows u) (loses_seeks t l (closing end v.now (v.links.live l))) h
-seekers_absent t v (Comes (Polls w)) u idle h = one_seeks t (u == w) (IsPolled v.now) (v.consumers.rows u) (λ m k. k) h
-seekers_absent t v (Does w (Ask l request)) u idle h = map_seeks t _ (v.consumers.rows u) (asks_seeks t l v.now request (v.links.live l)) h
-seekers_absent t v (Does w (OfConsumer (FindConsumer x))) u idle h =
-    one_seeks t (u == x) (IsSought w) (v.consumers.rows u)
-    (λ m k. finds_seeks t (consumer.sought (Some m)) w m (other_idle t w (OfConsumer (FindConsumer x)) idle refl) k) h
-seekers_absent t v (Does w (OfConsumer TakeFlow)) u idle h =
-    one_seeks t (u == ticket_of w) FlowTaken (v.consumers.rows u) (λ m k. k) h
-seekers_absent t v (Does w (OfConsumer RecallConsumer)) u idle h =
-    subst (λ r. NotIn t (consumer.seekers_at r)) (row_same (u == ticket_of w) (v.consumers.rows u)) h
-seekers_absent t v (Does w (OfConsumer (Revive l))) u idle h =
-    one_seeks t (u == ticket_of w) (Revived l (url_at (v.links.live l))) (v.consumers.rows u) (λ m k. none_seeks t) h
-seekers_absent t v (Does w (OfConsumer (FailConsumer f))) u idle h =
-    one_seeks t (u == ticket_of w) (NotRevived f) (v.consumers.rows u) (λ m k. none_seeks t) h
-seekers_absent t v (Does w StopAll) u idle h = map_seeks t consumer.stopped (v.consumers.rows u) (λ m k. none_seeks t) h
-seekers_absent t v (Answers who verdict) u idle h =
-    subst (λ r. NotIn t (consumer.seekers_at r)) (sym (made_at v who verdict u))
-    (made_seeks t v.links.live who verdict.makes v.consumers u h)
-seekers_absent t v _ u idle h = h
+seekers_absent t v a u idle h =
+    after_holds (λ row. NotIn t (consumer.seekers_at row)) v u a (λ m j. joins_seeks t v.links.live j.verdict.makes m j.makes)
+    (λ d c m k. deed_seeks t v a u d c idle m k) h
 
 then_absent : (t : ℕ) (v : View) (a : Act) → IdleBy t a → Absent t v → Absent t (after a v)
 then_absent t v a idle k = record {

@@ -1,10 +1,9 @@
 -- A consumer is what was done to it since it was made.
 use Rattle.std.proofs.Common.{◌≡◌, ◌≤◌, ℕ, ◌+◌, ◌∙◌, sym, ap, subst, List, [], ◌∷◌, ◌++◌, refl, arith, Bool, true, false, ◌&&◌, cond, Option, Some, None, inl, inr, ◌==◌}
 use Rattle.std.proofs.lemmas.Bool.{and_parts, cases_Bool}
-use Rattle.std.specs.Option.{option_map}
 use Rattle.pulsar_laws.proofs.ActWords.{Act, Answers, Arrival, Ask, Call, Comes, Consumer, Does, Ends, FailConsumer, FindConsumer, Heard, is_same, Makes, OfConsumer, Polls, Producer, Reads, RecallConsumer, Revive, StopAll, TakeFlow, ticket_of, ToLink, Verdict, Who}
 use Rattle.pulsar_laws.proofs.RunWords.{Begins, begun, begun_live, consumers_after, consumers_made, counted, EndsOnce, Entry, is_live, IsRun, member_on, Options, setup_of, Then, view, View}
-use Rattle.pulsar_laws.proofs.LinkWords.{answer_at, arrival_at, closed_consumer, closing, Fault, is_asked, is_body, Reply, Seat, url_at}
+use Rattle.pulsar_laws.proofs.LinkWords.{answer_at, arrival_at, closed_consumer, closing, Fault, is_asked, is_body, Reply, url_at}
 use Rattle.url.specs.Parts.{Parts}
 use Rattle.pulsar_messages.specs.Claims.{is_spent}
 use Rattle.pulsar_consumer.specs.Frames.{frame_in}

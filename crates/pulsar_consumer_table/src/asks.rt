@@ -38,7 +38,7 @@ impl Consumers {
             ≡ (asked_in (consumers_in self.old.rows self.old.numbers) ticket who url ask).serves) }
         ensures after { OnOk result (consumers_in self.new.rows self.new.numbers
             ≡ done_to ticket (asked_in (consumers_in self.old.rows self.old.numbers) ticket who url ask).acts
-                (consumers_in self.old.rows self.old.numbers)) }
+            (consumers_in self.old.rows self.old.numbers)) }
     {
         match ask {
             ConsumerAsk::Find(_) => self.finds(ticket, who),
@@ -141,10 +141,8 @@ pub fn link_asked(ask: &ConsumerAsk) -> Option<u64>
 {
     match ask {
         ConsumerAsk::Revive { link } => Some(*link),
-        ConsumerAsk::Find(_)
-        | ConsumerAsk::TakeFlow
-        | ConsumerAsk::Recall
-        | ConsumerAsk::Fail(_) => None,
+        ConsumerAsk::Find(_) | ConsumerAsk::TakeFlow | ConsumerAsk::Recall | ConsumerAsk::Fail(_) =>
+            None,
     }
 }
 

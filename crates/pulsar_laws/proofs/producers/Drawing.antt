@@ -16,7 +16,6 @@ use Rattle.pulsar_producer.specs.Topic.{Act as Deed, fresh}
 use Rattle.pulsar_outgoing.specs.declared.storage.Limits.{Limits}
 use Rattle.pulsar_outgoing.specs.declared.news.News.TheVariants as news
 use Rattle.pulsar_calls.specs.declared.act.Makes.TheVariants.{Producer}
-use Rattle.pulsar_calls.specs.declared.act.Who.TheVariants as by
 use Rattle.pulsar_acts.specs.View.{producers_left}
 use Rattle.pulsar_calls.specs.declared.act.Outcome.TheVariants as outcome
 use Rattle.pulsar_calls.specs.declared.act.Who.TheVariants as one
@@ -197,9 +196,9 @@ made_next v who (Producer b) =
 made_next v who _ = refl
 
 left_next : (who : Who) (ps : Producers) → (producers_left who ps).next ≡ ps.next
-left_next (by.Call t) ps = refl
-left_next (by.Consumer n t) ps = refl
-left_next (by.Producer n) ps = refl
+left_next (one.Call t) ps = refl
+left_next (one.Consumer n t) ps = refl
+left_next (one.Producer n) ps = refl
 
 next_more : (ps : Producers) → ps.next ≤ (numbered ps).next
 next_more ps =

@@ -20,6 +20,8 @@ pub mod OnceSent
 pub mod Rise
 pub mod TurnActs
 pub mod TurnRun
+pub mod Owed
+pub mod Spotting
 pub mod Users
 pub mod Reread
 pub mod Texts

@@ -191,7 +191,7 @@ unasked_not m = elim (is 36 m) as (λ b. is_settling (cond b session.Challenged 
 not_settling : (c : Came) (ps : List ℕ) (m : MessageValues) → is_settling c ≡ false → c ≡ Settles ps m → ⊥
 not_settling c ps m h e = let f : true ≡ false = sym (ap is_settling e) ∙ h in cc
 
-settles_these : (stage : Stage) (f : Front) (v : Seen) (ps : List ℕ) (m : MessageValues) → came_in stage f v ≡ Settles ps m → ps ≡ places (settled_by m v)
+pub settles_these : (stage : Stage) (f : Front) (v : Seen) (ps : List ℕ) (m : MessageValues) → came_in stage f v ≡ Settles ps m → ps ≡ places (settled_by m v)
 settles_these Dialing f v ps m h = absurd cc
 settles_these Over f v ps m h = absurd cc
 settles_these Handshaking Short v ps m h = absurd cc

@@ -20,7 +20,9 @@ pub mod OnceSent
 pub mod Rise
 pub mod TurnActs
 pub mod TurnRun
+pub mod OneAtATime
 pub mod Owed
+pub mod Since
 pub mod Spotting
 pub mod Users
 pub mod Reread

@@ -8,6 +8,7 @@ use Rattle.pulsar_wire.specs.Sink.{capped}
 use Rattle.pulsar_wire.specs.declared.key.RequestKey.TheVariants as key
 use Rattle.pulsar_messages.specs.Content.{ProducerMessageValues}
 use Rattle.pulsar_messages.specs.Words as words
+use Rattle.pulsar_messages.specs.Words.{Words}
 use Rattle.pulsar_searches.specs.declared.turn.Ways.{Ways}
 use Rattle.pulsar_wire.specs.Failures.{Failure, Shutdown}
 use Rattle.pulsar_wire.specs.declared.error.Reason.{Reason}
@@ -88,11 +89,16 @@ frames_queued o n (Then (Told x) ∷ log) =
 frames_queued o n (Then (Does who (OfTopic m TakeBatch)) ∷ log) = if is_same (Producer n) who then 0 else frames_queued o n log
 frames_queued o n (_ ∷ log) = frames_queued o n log
 
--- the one who is told what becomes of a batch asked for a frame that bears this number
-abbrev pub AskedAs : (number sequence : ℕ) → List Entry → Type 0
-AskedAs n s log =
-    (l : ℕ) × (name : List ℕ) × (m : ProducerMessageValues) × (block : Bool)
-    × In (Then (Does (Producer n) (Ask l (words.Send n name s m block)))) log
+-- what a topic producer asked for since it took a batch, newest first
+abbrev pub asked_since : (number : ℕ) → List Entry → List Words
+asked_since n [] = []
+asked_since n (Then (Does who (Ask l request)) ∷ log) = if is_same (Producer n) who then request ∷ asked_since n log else asked_since n log
+asked_since n (Then (Does who (OfTopic m TakeBatch)) ∷ log) = if is_same (Producer n) who then [] else asked_since n log
+asked_since n (_ ∷ log) = asked_since n log
+
+-- since it took this batch it asked for a frame that bears this number
+abbrev pub AskedSince : (number sequence : ℕ) → List Entry → Type 0
+AskedSince n s log = (name : List ℕ) × (m : ProducerMessageValues) × (block : Bool) × In (words.Send n name s m block) (asked_since n log)
 
 -- what a topic producer was told since it took a batch, newest first
 abbrev pub told_since : (number : ℕ) → List Entry → List Outcome
@@ -108,12 +114,12 @@ FailedSo n log items cause =
     (w : Ways) × (e : Errand) × (m : ProducerMessageValues) × (e.producer ≡ n) × (batch_of (entries_in items) ≡ Ok m)
     × FailsSo (procedure.Send w e None m) (told_since n log) cause
 
--- its frame was queued, once, and a receipt came for one that its topic producer asked for; or its send failed, for this cause; or it could not be
+-- its frame was queued, once, and a receipt came for one that its topic producer asked for since it took this batch; or its send failed, for this cause; or it could not be
 -- written; or the client was stopped; or there was no message in it
 abbrev pub IsFateOf : Options → (number : ℕ) → List Entry → List Item → Outcome → Fate → Type 0
 IsFateOf o n log items u f =
     ((r : Reply) × (s : ℕ) × (u ≡ outcome.Replied r) × (is_body 7 r.content.body ≡ true) × (r.content.key ≡ Some (key.ProducerSend n s))
-    × AskedAs n s log × (frames_queued o n log ≡ 1) × (f ≡ receipt_fate r.content))
+    × AskedSince n s log × (frames_queued o n log ≡ 1) × (f ≡ receipt_fate r.content))
     ⊎ ((cause : Failure) × FailedSo n log items cause × (f ≡ failed cause))
     ⊎ ((r : Reason) × (batch_of (entries_in items) ≡ Err r) × (f ≡ not_written r))
     ⊎ ((overrides u ≡ true) × (f ≡ fate.Halted))

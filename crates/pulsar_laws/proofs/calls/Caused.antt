@@ -720,7 +720,7 @@ module _ (o : Options) (who : Who) (u : Outcome) (older : List Entry) where
       ]
   cause_caused _ h = absurd h
 
-  is_caused : (e : Entry) → IsRun o (e ∷ older) → Arises rules o (Told it) e older → Cause o who u e older
+  pub is_caused : (e : Entry) → IsRun o (e ∷ older) → Arises rules o (Told it) e older → Cause o who u e older
   is_caused (Begins e) run h = absurd (mute_told it (parts o v e) h)
   is_caused (Then b) run (inl h) = once_caused b h
   is_caused (Then b) run (inr (inl h)) = joins_caused b run (in_told it (joins v b) h)

@@ -126,7 +126,7 @@ module _ (me : Who) where
     took_free Pings now (Some seat) h = h
     took_free (Ends end) now (Some seat) h = end_free _ seat h
 
-    got_free : (k : Option ℕ) (now l : ℕ) (row : Option Seat) → Asker row → Asker (got_at k now l row)
+    pub got_free : (k : Option ℕ) (now l : ℕ) (row : Option Seat) → Asker row → Asker (got_at k now l row)
     got_free None now l row h = h
     got_free (Some k) now l row h = cond_so (Asker) (l == k) (option_map (seat_got now) row) row (by row h) h
       where
@@ -322,7 +322,12 @@ module _ (me : Who) where
   none_seeks : Away []
   none_seeks = λ i. i
 
-  pub seekers_absent : (v : View) (a : Act) (u : ℕ) → ApartBy a → Away (consumer.seekers_at (v.consumers.rows u)) →
+  -- nor looks for one
+  abbrev pub NoFind : Act → Type 0
+  NoFind (Does who (FindConsumer t)) = me ≡ who → ⊥
+  NoFind _ = Unit {0}
+
+  pub seekers_absent : (v : View) (a : Act) (u : ℕ) → NoFind a → Away (consumer.seekers_at (v.consumers.rows u)) →
       Away (consumer.seekers_at ((consumers_after v a).rows u))
   seekers_absent v (Comes (Calls asked advice)) u idle h =
       subst (λ f. Away (consumer.seekers_at (f u)))
@@ -335,7 +340,7 @@ module _ (me : Who) where
       subst (λ f. Away (consumer.seekers_at (f u))) (sym (numbered_rows (ticket_of w) wanted v.consumers)) h
   seekers_absent v (Does w (FindConsumer x)) u idle h =
       one_seeks (u == x) (consumer.seeks w) (v.consumers.rows u)
-      (λ m k. finds_seeks (consumer.sought (Some m)) w m (other_apart w (FindConsumer x) idle refl) k) h
+      (λ m k. finds_seeks (consumer.sought (Some m)) w m idle k) h
   seekers_absent v (Does w TakeFlow) u idle h =
       one_seeks (u == ticket_of w) (consumer.member_after reader.Asks) (v.consumers.rows u) (λ m k. k) h
   seekers_absent v (Does w (Revive l)) u idle h =

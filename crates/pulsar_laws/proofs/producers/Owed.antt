@@ -33,7 +33,7 @@ word_soft u h = absurd cc
 abbrev pub count : ℕ → List ℕ → ℕ
 count p ps = sum (λ q. cond (q == p) 1 0) ps
 
-one_or_none : (b : Bool) → cond b 1 0 ≤ 1
+pub one_or_none : (b : Bool) → cond b 1 0 ≤ 1
 one_or_none true = omega arith
 one_or_none false = omega arith
 
@@ -91,7 +91,7 @@ module _ (n : ℕ) where
   took [] a = 0
   took (x ∷ now) a = 0
 
-  rest_owed : (now : List Act) (here : List Notice) (behind : List (List Notice)) (parts : List Part) (a : Act) →
+  pub rest_owed : (now : List Act) (here : List Notice) (behind : List (List Notice)) (parts : List Part) (a : Act) →
       first_of rules now here behind parts ≡ Some a →
       owed here + all_owed behind ≡ took now a + (owed (rest_of now here behind parts).here + all_owed (rest_of now here behind parts).behind)
   rest_owed (x ∷ now) here behind parts a h = omega arith
@@ -136,20 +136,20 @@ module _ (n : ℕ) where
         | inr s ↦ (let none : note (notice w (says q)) ≡ 0 = other_note (notice w (says q)) s in omega (arith, more, none))
       ]
 
-  none_sum : (ps : List ℕ) → sum (λ q. 0) ps ≡ 0
+  none_sum : (ps : List ℕ) → sum {A = ℕ} (λ q. 0) ps ≡ 0
   none_sum [] = refl
-  none_sum (p ∷ ps) = none_sum ps
+  none_sum (p ∷ ps) = let k : sum {A = ℕ} (λ q. 0) ps ≡ 0 = none_sum ps in omega (arith, k)
 
   pub unasked_owed : (says : ℕ → Outcome) (f : ℕ → Option Who) → ((q : ℕ) → f q ≡ Some me → ⊥) → (ps : List ℕ) →
       owed (filter_map (tells_asker says f) ps) ≡ 0
   unasked_owed says f none ps =
-      let k = askers_owed says f (λ q. 0) (λ q e. absurd (none q e)) ps in let z : sum (λ q. 0) ps ≡ 0 = none_sum ps in omega (arith, k, z)
+      let k = askers_owed says f (λ q. 0) (λ q e. absurd (none q e)) ps in let z : sum {A = ℕ} (λ q. 0) ps ≡ 0 = none_sum ps in omega (arith, k, z)
 
   pub asked_owed : (says : ℕ → Outcome) (f : ℕ → Option Who) (p : ℕ) → ((q : ℕ) → f q ≡ Some me → q ≡ p) → (ps : List ℕ) →
       owed (filter_map (tells_asker says f) ps) ≤ count p ps
   asked_owed says f p only ps =
       askers_owed says f (λ q. cond (q == p) 1 0)
-      (λ q e. (let one : cond (q == p) 1 0 ≡ 1 = ap (λ x. cond (x == p) 1 0) (only q e) ∙ ap (λ b. cond b 1 0) (equal_self p) in omega (arith, one))) ps
+      (λ q e. (let one : ◌≡◌ {A = ℕ} (cond (q == p) 1 0) 1 = ap (λ x. cond (x == p) 1 0) (only q e) ∙ ap (λ b. cond b 1 0) (equal_self p) in omega (arith, one))) ps
 
   -- those who wait for an address
   pub waiters_owed : (f : Who → Outcome) (ws : List Who) → owed (map (λ w. notice w (f w)) ws) ≤ times me ws
@@ -174,11 +174,11 @@ rising_once p lo hi (x ∷ ps) r =
     elim (cases_Bool (x.place == p)) [
       | inl e ↦
           (let same : x.place ≡ p = eqb-true x.place p e in
-          let one : cond (x.place == p) 1 0 ≡ 1 = ap (λ b. cond b 1 0) e in
+          let one : ◌≡◌ {A = ℕ} (cond (x.place == p) 1 0) 1 = ap (λ b. cond b 1 0) e in
           let none : count p (places ps) ≡ 0 = k.1 (omega (arith, same)) in
           (omega (arith, one, none), (λ h. absurd (omega (arith, h, low, same))), (λ h. absurd (omega (arith, h, le, same)))))
       | inr e ↦
-          (let no : cond (x.place == p) 1 0 ≡ 0 = ap (λ b. cond b 1 0) e in
+          (let no : ◌≡◌ {A = ℕ} (cond (x.place == p) 1 0) 0 = ap (λ b. cond b 1 0) e in
           let few = k.0 in
           (
             omega (arith, no, few),
@@ -194,11 +194,11 @@ numbers_once p a (suc len) =
     elim (cases_Bool (a == p)) [
       | inl e ↦
           (let same : a ≡ p = eqb-true a p e in
-          let one : cond (a == p) 1 0 ≡ 1 = ap (λ b. cond b 1 0) e in
+          let one : ◌≡◌ {A = ℕ} (cond (a == p) 1 0) 1 = ap (λ b. cond b 1 0) e in
           let none : count p (numbers_from (suc a) len) ≡ 0 = k.1 (omega (arith, same)) in
           (omega (arith, one, none), (λ h. absurd (omega (arith, h, same)))))
       | inr e ↦
-          (let no : cond (a == p) 1 0 ≡ 0 = ap (λ b. cond b 1 0) e in
+          (let no : ◌≡◌ {A = ℕ} (cond (a == p) 1 0) 0 = ap (λ b. cond b 1 0) e in
           let few = k.0 in
           (omega (arith, no, few), (λ h. (let z : count p (numbers_from (suc a) len) ≡ 0 = k.1 (omega (arith, h)) in omega (arith, no, z)))))
     ]

@@ -1,14 +1,14 @@
 -- Where a topic producer waits: at one place at most. What an act brings to it comes from there, and then it waits no longer.
 use Rattle.std.specs.Prelude.{bytes_eq}
 use Rattle.std.proofs.Common.{◌≡◌, ◌⊎◌, inl, inr, ◌∙◌, sym, ap, subst, ℕ, ◌+◌, ◌≤◌, ◌<◌, ◌==◌, arith, List, [], ◌∷◌, ◌++◌, refl, length, map, Bool, true, false, ◌&&◌, cond, not, Option, Some, None}
-use Rattle.std.proofs.lemmas.Bool.{cases_Bool, eqb-true}
-use Rattle.std.specs.List.{list_any}
+use Rattle.std.proofs.lemmas.Bool.{cases_Bool, cases_lt, eqb-true}
+use Rattle.std.specs.List.{filter_map, list_any}
 use Rattle.std.specs.Map.{lookup}
 use Rattle.std.specs.Option.{option_map, option_to_list}
-use Rattle.pulsar_laws.proofs.ActWords.{Act, Action, Alarm, Answers, Ask, Batch, below, Call, CheckIdle, Comes, Consumer, Does, Drains, End, Ends, FailConsumer, Flush, is_same, KeepAlive, LinkAct, Notice, numbers_from, OfTopic, opens, Opens, Outcome, PassTurn, Pings, Polls, Procedure, Producer, Reads, Retry, Revive, Rings, Shut, StopAll, Store, TakeBatch, Tell, TellAll, ToLink, turn_of, Wake, Who}
+use Rattle.pulsar_laws.proofs.ActWords.{Act, Action, Alarm, Answers, Ask, Batch, below, Call, CheckIdle, Comes, Consumer, Does, Drains, End, Ends, FailConsumer, Flush, is_same, KeepAlive, LinkAct, Notice, numbers_from, OfTopic, opens, Opens, Outcome, PassTurn, Pings, Polls, Procedure, Producer, Reads, Rest, Retry, Revive, Rings, Shut, StopAll, Store, TakeBatch, Tell, TellAll, ToLink, turn_of, Wake, Who}
 use Rattle.pulsar_laws.proofs.PlanWords.{action_of, Batches, BuildingProducer as Build, closed_notice, Deed, Errand, News, Plan, ProducerOrder as Order, Sending as Send, told_to, Ways}
 use Rattle.pulsar_laws.proofs.RunWords.{after, causes, Each, Entry, In, IsRun, joins, lost_on, notice, Options, readied, ready_notice, Then, Turned, turned, turn_notice, view, View}
-use Rattle.pulsar_laws.proofs.LinkWords.{Addresses, Base, Becomes, Change, closed_by, Fault, IsOver, Pause, Remains, rings, Runs, Seat, Series, took_end, took_some}
+use Rattle.pulsar_laws.proofs.LinkWords.{Addresses, Base, Becomes, Change, closed_by, Fault, IsOver, Pause, Remains, rings, Runs, Seat, Series, tells_asker, took_end, took_some}
 use Rattle.pulsar_frame.specs.Frame.{front}
 use Rattle.pulsar_frame.specs.Message.{MessageValues}
 use Rattle.pulsar_requests.specs.Soonest.{has_come}
@@ -47,7 +47,9 @@ use Rattle.pulsar_laws.proofs.links.Settling.{live_rises}
 use Rattle.pulsar_laws.proofs.plans.Granted.{does_from}
 use Rattle.pulsar_laws.proofs.plans.Takers.{told_by_own}
 use Rattle.pulsar_laws.proofs.plans.Wording.{heard_words, is_worded, joins_words, lost_words}
-use Rattle.pulsar_laws.proofs.producers.BatchTold.{members_are_told_lem}
+use Rattle.pulsar_laws.proofs.plans.Batched.{IsSettling, tells_where}
+use Rattle.pulsar_laws.proofs.producers.BatchRun.{batched_run, deed_at}
+use Rattle.pulsar_producer.specs.declared.batching.Batching.TheVariants as batching
 use Rattle.pulsar_laws.proofs.producers.Drawing.{drawn_run}
 use Rattle.pulsar_laws.proofs.producers.Owed.{all_owed, asked_owed, brings, count, is_hard, me, note, numbers_once, one_or_none, opens_owed, other_note, others_owed, owed, rising_once, soft_owed, unasked_owed, waiters_owed, words_owed}
 use Rattle.pulsar_laws.proofs.producers.Topics.{CameFrom, acts_each, all_after, row_as}
@@ -123,9 +125,8 @@ all_busy : (ds : List topic.Act) (x : topic.Seen) → Each (λ d. leaves_busy d 
 all_busy [] x k h = h
 all_busy (d ∷ ds) x k h = one_busy d (all_after ds x) k.0 (all_busy ds x k.1 h)
 
-abbrev pub takes_batch : Act → Bool
-takes_batch (Does who (OfTopic n TakeBatch)) = true
-takes_batch _ = false
+abbrev pub NoTake : ℕ → Act → Type 0
+NoTake n a = (who : Who) → a ≡ Does who (OfTopic n TakeBatch) → ⊥
 
 -- WHO TELLS ANOTHER tells a call
 
@@ -170,6 +171,10 @@ tell_calls o log who m run = elim (does_from o log who (Tell m) run) [
 abbrev ToOther : ℕ → Notice → Type 0
 ToOther n m = is_same (me n) m.who ≡ false
 
+abbrev notices_in : List Notice → Action → List Notice
+notices_in ns (TellAll ms) = ms
+notices_in ns _ = ns
+
 pub tell_others : (o : Options) (log : List Entry) (n : ℕ) (who : Who) (m : Notice) → IsRun o (Then (Does who (Tell m)) ∷ log) → ToOther n m
 tell_others o log n who m run = by m.who (tell_calls o log who m run)
   where
@@ -180,11 +185,22 @@ tell_others o log n who m run = by m.who (tell_calls o log who m run)
 pub all_others : (o : Options) (log : List Entry) (n : ℕ) (who : Who) (ns : List Notice) → IsRun o (Then (Does who (TellAll ns)) ∷ log) → Each (ToOther n) ns
 all_others o log n who ns run =
     let k = told_by_own o log who ns run in
-    let m = members_are_told_lem o log k.0 ns (subst (λ (w : Who). IsRun o (Then (Does w (TellAll ns)) ∷ log)) k.1 run) in
-    elim m.5 [ inl x ↦ subst (Each (ToOther n)) (sym x.2) (reported _) | inr x ↦ subst (Each (ToOther n)) (sym x.1) (reported _) ]
+    let r : IsRun o (Then (Does (Producer k.0) (TellAll ns)) ∷ log) = subst (λ (w : Who). IsRun o (Then (Does w (TellAll ns)) ∷ log)) k.1 run in
+    elim (deed_at o log k.0 (TellAll ns) r (batched_run o log r.0)) [
+      | inl d ↦
+          settled d.was.ways d.was.errand d.was.state d.outcome (tells_where d.was.ways d.was.errand d.was.state d.outcome d.state ns d.step).1
+      | inr e ↦ (let f : TellAll ns ≡ Rest = e in absurd cc)
+    ]
   where
-    reported : (rs : List Report) → Each (ToOther n) (map told_to rs)
-    reported rs = each_made (ToOther n) told_to (λ r. refl) rs
+    reported : (rs : List Report) → TellAll ns ≡ TellAll (map told_to rs) → Each (ToOther n) ns
+    reported rs e = subst (Each (ToOther n)) (sym (ap (notices_in ns) e)) (each_made (ToOther n) told_to (λ r. refl) rs)
+
+    settled : (w : Ways) (e : Errand) (b : Batches) (u : Outcome) → IsSettling w e (TellAll ns) b u → Each (ToOther n) ns
+    settled w e batching.Resting u k = absurd k
+    settled w e batching.Taking u k = reported _ k.4
+    settled w e (batching.Sending ms c s) u (inl k) = reported _ k.1
+    settled w e (batching.Sending ms c s) u (inr k) = reported _ k.2
+    settled w e batching.Settling u k = absurd k
 
 abbrev pub is_stop : Act → Bool
 is_stop (Does who StopAll) = true
@@ -199,7 +215,7 @@ any_count p (q ∷ ps) h = by (q == p) refl h (any_count p ps)
     by : (b : Bool) → (q == p) ≡ b → cond b true (list_any (λ q. q == p) ps) ≡ false → (list_any (λ q. q == p) ps ≡ false → count p ps ≡ 0) →
         cond b 1 0 + count p ps ≡ 0
     by true e h more = absurd cc
-    by false e h more = more h
+    by false e h more = let z = more h in omega (arith, z)
 
 module _ (n : ℕ) where
   abbrev NoAsker : Option Seat → Type 0
@@ -217,15 +233,15 @@ module _ (n : ℕ) where
       by session.Nothing = refl
       by _ = refl
 
+  abbrev AnsweredSo : Seat → Came → Type 0
+  AnsweredSo seat c = (owed n (answered_by c seat.askers) ≡ 0)
+      ⊎ ((owed n (answered_by c seat.askers) ≤ 1) × ((q : ℕ) → askers_left (settled_in c) seat.askers q ≡ Some (me n) → ⊥))
+
   answered_one : (p now : ℕ) (seat : Seat) → Rises 0 seat.seen.waits.waiting seat.seen.waits.queued → OneAsker p (Some seat) →
       (owed n (answered_on (Some seat)) ≡ 0) ⊎ ((owed n (answered_on (Some seat)) ≤ 1) × NoAsker (took_some Reads now (Some seat)))
   answered_one p now seat rises h = by (came seat.seen) refl
     where
-      abbrev So : Came → Type 0
-      So c = (owed n (answered_by c seat.askers) ≡ 0)
-          ⊎ ((owed n (answered_by c seat.askers) ≤ 1) × ((q : ℕ) → askers_left (settled_in c) seat.askers q ≡ Some (me n) → ⊥))
-
-      settles : (ps : List ℕ) (m : MessageValues) → came seat.seen ≡ session.Settles ps m → So (session.Settles ps m)
+      settles : (ps : List ℕ) (m : MessageValues) → came seat.seen ≡ session.Settles ps m → AnsweredSo seat (session.Settles ps m)
       settles ps m e =
           let few : owed n (answered_by (session.Settles ps m) seat.askers) ≤ count p ps =
           asked_owed n (λ q. outcome.Replied (read m)) seat.askers p h ps in
@@ -248,10 +264,10 @@ module _ (n : ℕ) where
               let f : true ≡ false = sym t ∙ ap (λ y. list_any (λ x. x == y) ps) (sym same) ∙ e in
               cc
 
-      by : (c : Came) → came seat.seen ≡ c → So (came seat.seen)
-      by (session.Settles ps m) e = subst So (sym e) (settles ps m e)
-      by session.Nothing e = subst So (sym e) (inl refl)
-      by _ e = subst So (sym e) (inl refl)
+      by : (c : Came) → came seat.seen ≡ c → AnsweredSo seat (came seat.seen)
+      by (session.Settles ps m) e = subst (AnsweredSo seat) (sym e) (settles ps m e)
+      by session.Nothing e = subst (AnsweredSo seat) (sym e) (inl refl)
+      by _ e = subst (AnsweredSo seat) (sym e) (inl refl)
 
   ended_none : (end : End) (now : ℕ) (row : Option Seat) → NoAsker row → owed n (ended_on end now row) ≡ 0
   ended_none end now None h = refl
@@ -262,7 +278,8 @@ module _ (n : ℕ) where
       by (Some cause) =
           let a = unasked_owed n (lost end now seat.seen) seat.askers h (ends seat.seen) in
           let b = unasked_owed n (λ q. dropped end) seat.askers h (line_places seat.seen) in
-          let s = sum_append (note n) _ _ in
+          let s = sum_append (note n) (filter_map (tells_asker (lost end now seat.seen) seat.askers) (ends seat.seen))
+          (filter_map (tells_asker (λ q. dropped end) seat.askers) (line_places seat.seen)) in
           omega (arith, a, b, s)
 
   once_placed : (p : ℕ) (x : Seen) → Rises 0 x.waits.waiting x.waits.queued → count p (ends x) + count p (line_places x) ≤ 1
@@ -274,14 +291,11 @@ module _ (n : ℕ) where
         | false ↦ apart a b
       ]
     where
-      low_or_not : (a b : ℕ) → (a < b) ⊎ (b ≤ a)
-      low_or_not a b = omega arith
-
       apart : (count p (places x.waits.waiting) ≤ 1) × (p < 0 → count p (places x.waits.waiting) ≡ 0)
           × (x.waits.queued ≤ p → count p (places x.waits.waiting) ≡ 0) →
           (count p (line_places x) ≤ 1) × (p < x.waits.queued → count p (line_places x) ≡ 0) →
           count p (places x.waits.waiting) + count p (line_places x) ≤ 1
-      apart a b = elim (low_or_not p x.waits.queued) [
+      apart a b = elim (cases_lt p x.waits.queued) [
         | inl lt ↦ (let k = a.0 in let z = b.1 lt in omega (arith, k, z))
         | inr le ↦ (let k = b.0 in let z = a.2 le in omega (arith, k, z))
       ]
@@ -294,7 +308,8 @@ module _ (n : ℕ) where
     | Some cause ↦
         (let a = asked_owed n (lost end now seat.seen) seat.askers p h (ends seat.seen) in
         let b = asked_owed n (λ q. dropped end) seat.askers p h (line_places seat.seen) in
-        let s = sum_append (note n) _ _ in
+        let s = sum_append (note n) (filter_map (tells_asker (lost end now seat.seen) seat.askers) (ends seat.seen))
+        (filter_map (tells_asker (λ q. dropped end) seat.askers) (line_places seat.seen)) in
         let k = once_placed p seat.seen rises in
         inr (omega (arith, a, b, s, k), tt))
   ]
@@ -358,7 +373,7 @@ module _ (n : ℕ) where
                 (let one = one_or_none (bytes_eq k t.key) in
                 inr (omega (arith, a, b, one), (λ key. gone e c key (bytes_eq t.key key) refl)))
           ]
-          | inr e ↦ (let z : cond (bytes_eq k t.key) 1 0 ≡ 0 = ap (λ x. cond x 1 0) e in inl (omega (arith, a, b, z)))
+          | inr e ↦ (let z : ◌≡◌ {A = ℕ} (cond (bytes_eq k t.key) 1 0) 0 = ap (λ x. cond x 1 0) e in inl (omega (arith, a, b, z)))
         ]
       where
         gone : bytes_eq k t.key ≡ true → ((x : Base) → times (me n) (base_turned t.link t.change t.pause x).waiting ≡ 0) → (key : List ℕ) (c : Bool) →
@@ -366,11 +381,11 @@ module _ (n : ℕ) where
         gone e f key true y = let z = f (known.base key) in omega (arith, z)
         gone e f key false y =
             let a : times (me n) (known.base key).waiting ≤ cond (bytes_eq k key) 1 0 = at key in
-            let z : cond (bytes_eq k key) 1 0 ≡ 0 =
+            let z : ◌≡◌ {A = ℕ} (cond (bytes_eq k key) 1 0) 0 =
             ap (λ x. cond (bytes_eq x key) 1 0) (same_key k t.key e) ∙ ap (λ x. cond x 1 0) y in
             omega (arith, a, z)
 
-asker_map : (n : ℕ) (P Q : ℕ → Type 0) (row : Option Seat) → ((q : ℕ) → P q → Q q) → Asker (me n) P row → Asker (me n) Q row
+pub asker_map : (n : ℕ) (P Q : ℕ → Type 0) (row : Option Seat) → ((q : ℕ) → P q → Q q) → Asker (me n) P row → Asker (me n) Q row
 asker_map n P Q None f k = tt
 asker_map n P Q (Some seat) f k = λ q e. f q (k q e)
 
@@ -402,12 +417,12 @@ module _ (o : Options) (n : ℕ) (log : List Entry) where
   abbrev pub Gone : Act → Spot → Type 0
   Gone a s = (brings n v a ≡ 0) ⊎ ((brings n v a ≤ 1) × (out s ≡ 1) × IsAt n Nowhere (after a v))
 
-  pub row_busy : (a : Act) → IsRun o (Then a ∷ log) → takes_batch a ≡ false → is_busy (v.producers.topics n) ≡ true →
+  pub row_busy : (a : Act) → IsRun o (Then a ∷ log) → NoTake n a → is_busy (v.producers.topics n) ≡ true →
       is_busy ((after a v).producers.topics n) ≡ true
   row_busy a run plain b = by (v.producers.topics n) refl b
     where
       leaves : (d : topic.Act) → CameFrom n a d → leaves_busy d ≡ true
-      leaves topic.TakesBatch k = let f : true ≡ false = sym (ap takes_batch k.1) ∙ plain in absurd cc
+      leaves topic.TakesBatch k = absurd (plain k.0 k.1)
       leaves d k = refl
 
       by : (row : Option Topic) → v.producers.topics n ≡ row → is_busy row ≡ true → is_busy ((after a v).producers.topics n) ≡ true
@@ -416,14 +431,14 @@ module _ (o : Options) (n : ℕ) (log : List Entry) where
           ap is_busy (row_as o log (drawn_run o log run.0) n t e a run)
           ∙ all_busy (topic_acts v n a) t.seen (acts_each (λ d. leaves_busy d ≡ true) v n a leaves) b
 
-  row_still : (s : Spot) (a : Act) → IsRun o (Then a ∷ log) → takes_batch a ≡ false → (is_busy (v.producers.topics n) ≡ false → on_row s) →
+  pub row_still : (s : Spot) (a : Act) → IsRun o (Then a ∷ log) → NoTake n a → (is_busy (v.producers.topics n) ≡ false → on_row s) →
       is_busy ((after a v).producers.topics n) ≡ false → on_row s
   row_still s a run plain k h = elim (cases_Bool (is_busy (v.producers.topics n))) [
     | inl b ↦ (let f : true ≡ false = sym (row_busy a run plain b) ∙ h in absurd cc)
     | inr b ↦ k b
   ]
 
-  pub still : (s : Spot) (a : Act) → IsRun o (Then a ∷ log) → takes_batch a ≡ false → ApartBy (me n) a → IsAt n s v → IsAt n s (after a v)
+  pub still : (s : Spot) (a : Act) → IsRun o (Then a ∷ log) → NoTake n a → ApartBy (me n) a → IsAt n s v → IsAt n s (after a v)
   still s a run plain apart k = record {
     place = then_there (me n) (at_place s) (at_base s) (at_moment s) v a apart k.place;
     row = row_still s a run plain k.row;
@@ -465,7 +480,7 @@ module _ (o : Options) (n : ℕ) (log : List Entry) where
             (let w : owed n ws ≡ 0 = idle k.place.base in
             let few : owed n as' ≤ 1 = y.0 in
             let t = total in
-            let there = still (OnLink j p) comes run refl tt k in
+            let there = still (OnLink j p) comes run (λ w e. absurd cc) tt k in
             inr (omega (arith, w, few, t), refl, record {
               place = record {
                 base = there.place.base;
@@ -489,7 +504,7 @@ module _ (o : Options) (n : ℕ) (log : List Entry) where
           (let a : owed n as' ≡ 0 = none (k.place.asker l) in
           let few : owed n ws ≤ 1 = y.0 in
           let t = total in
-          let there = still (AtBase key) comes run refl tt k in
+          let there = still (AtBase key) comes run (λ w e. absurd cc) tt k in
           inr (omega (arith, a, few, t), refl, record {
             place = record { base = y.1; asker = there.place.asker; alarm = there.place.alarm };
             row = there.row;
@@ -544,7 +559,7 @@ module _ (o : Options) (n : ℕ) (log : List Entry) where
   woke : (s : Spot) (w : Who) → rings v.now (Wake w) v.alarms ≡ true → IsRun o (Then (wakes w) ∷ log) → w ≡ me n → at_moment s → IsAt n s v →
       IsAt n Nowhere (after (wakes w) v)
   woke AtMoment w e run same at k =
-      let there = still AtMoment (wakes w) run refl tt k in
+      let there = still AtMoment (wakes w) run (λ w e. absurd cc) tt k in
       record {
         place = record {
           base = there.place.base;
@@ -589,7 +604,7 @@ module _ (o : Options) (n : ℕ) (log : List Entry) where
   ]
 
   -- a batch is cut where none is under way
-  freed : (s : Spot) (a : Act) → IsRun o (Then a ∷ log) → takes_batch a ≡ false → ApartBy (me n) a → on_row s →
+  freed : (s : Spot) (a : Act) → IsRun o (Then a ∷ log) → NoTake n a → ApartBy (me n) a → on_row s →
       is_busy ((after a v).producers.topics n) ≡ true → IsAt n s v → IsAt n Nowhere (after a v)
   freed OnRow a run plain apart on busy k =
       let there = still OnRow a run plain apart k in
@@ -599,7 +614,7 @@ module _ (o : Options) (n : ℕ) (log : List Entry) where
       }
   freed s a run plain apart on busy k = absurd on
 
-  readied_gone : (s : Spot) (a : Act) (m : ℕ) (act : topic.Act) → IsRun o (Then a ∷ log) → takes_batch a ≡ false → ApartBy (me n) a →
+  readied_gone : (s : Spot) (a : Act) (m : ℕ) (act : topic.Act) → IsRun o (Then a ∷ log) → NoTake n a → ApartBy (me n) a →
       brings n v a ≡ owed n (readied m act (v.producers.topics m)) → (m ≡ n → topic_acts v n a ≡ act ∷ []) → IsAt n s v → Gone a s
   readied_gone s a m act run plain apart is acts k = elim (cases_Bool (is_woken act (v.producers.topics m))) [
     | inr e ↦ inl (is ∙ ap (λ b. owed n (cond b (ready_notice m ∷ []) [])) e)
@@ -641,7 +656,7 @@ module _ (o : Options) (n : ℕ) (log : List Entry) where
   rings_gone (Batch m) s run k = elim (cases_Bool (rings v.now (Batch m) v.alarms)) [
     | inr e ↦ inl (rung_brings (Batch m) false e)
     | inl e ↦
-        readied_gone s (Comes (Rings (Batch m))) m topic.Cuts run refl tt (rung_brings (Batch m) true e)
+        readied_gone s (Comes (Rings (Batch m))) m topic.Cuts run (λ w e. absurd cc) tt (rung_brings (Batch m) true e)
         (λ same. at_own m (rung_by (rings v.now (Batch m) v.alarms)) same ∙ ap rung_by e) k
   ]
   rings_gone (Retry l) s run k = inl (none_rung (Retry l) refl)
@@ -668,10 +683,10 @@ module _ (o : Options) (n : ℕ) (log : List Entry) where
   gone (Does who (FailConsumer f)) s run plain k = inl (worded (Does who (FailConsumer f)) refl refl)
   gone (Answers who verdict) s run plain k = inl (worded (Answers who verdict) refl refl)
   gone (Does who (OfTopic m (Store e))) s run plain k =
-      readied_gone s (Does who (OfTopic m (Store e))) m (topic.Stores (turn_of who) e) run refl (λ w. refl) (omega arith)
+      readied_gone s (Does who (OfTopic m (Store e))) m (topic.Stores (turn_of who) e) run (λ w e. absurd cc) (λ w. refl) (omega arith)
       (λ same. at_own m (topic.Stores (turn_of who) e ∷ []) same) k
   gone (Does who (OfTopic m Flush)) s run plain k =
-      readied_gone s (Does who (OfTopic m Flush)) m (topic.Flushes (turn_of who)) run refl (λ w. refl) (omega arith)
+      readied_gone s (Does who (OfTopic m Flush)) m (topic.Flushes (turn_of who)) run (λ w e. absurd cc) (λ w. refl) (omega arith)
       (λ same. at_own m (topic.Flushes (turn_of who) ∷ []) same) k
   gone (Does who (OfTopic m PassTurn)) s run plain k = let z = passed m (turn_passed (v.producers.topics m)) in inl (omega (arith, z))
   gone (Does who (OfTopic m _)) s run plain k = inl refl

@@ -151,6 +151,12 @@ gives_sent w e s u r h = elim (cases_Bool (is_sent s)) [
 
 -- THE LAW
 
+stays_on : (w : Ways) (e : Errand) (b : Batches) → is_leaving (spot_of (Some (Batching w e b))) ≡ false
+stays_on w e batching.Resting = refl
+stays_on w e batching.Taking = refl
+stays_on w e (batching.Sending ms c s) = refl
+stays_on w e batching.Settling = refl
+
 abbrev notices_in : List Notice → Action → List Notice
 notices_in ns (TellAll ms) = ms
 notices_in ns _ = ns
@@ -164,7 +170,7 @@ module _ (o : Options) (log : List Entry) (n : ℕ) (ns : List Notice) (run : Is
       let r : IsRun o (Then (Told (notice (Producer n) (outcome.Replied reply))) ∷ older) = subst (IsRun o) there run.0 in
       elim (cases_Bool (stopped older)) [
         | inl h ↦
-            (let f : false ≡ true = ap (λ row. is_leaving (spot_of row)) (sym stood) ∙ never_replied o older (Producer n) reply r h in
+            (let f : false ≡ true = sym (stays_on w e b) ∙ ap (λ row. is_leaving (spot_of row)) (sym stood) ∙ never_replied o older (Producer n) reply r h in
             absurd cc)
         | inr h ↦
             (let k = receipt_since o n older reply r h body in

@@ -37,7 +37,8 @@ use Rattle.pulsar_calls.specs.declared.act.Outcome.TheVariants as outcome
 use Rattle.pulsar_client.proofs.Raising.{IsRaised, raises}
 use Rattle.pulsar_plans.proofs.Arcs.{Arc, BatchArc, StaysSo, batch_sends, batch_takes, batches_go, told_arc}
 use Rattle.pulsar_producer.proofs.Arcs.{SendArc, asks, draws, looked_makes, looks_on_asks, looks_on_gets, looks_on_waits, makes_on_asks, makes_on_gets, makes_on_waits, recalled_looks_asks, recalled_looks_gets, recalled_looks_waits, recalled_makes}
-use Rattle.pulsar_laws.specs.Laws.{IsServedAs, IsToldBy, SaysSo, WordComes, stopped}
+use Rattle.pulsar_laws.specs.Laws.{IsServedAs, SaysSo, WordComes, stopped}
+use Rattle.pulsar_laws.proofs.calls.Causes.{IsToldBy}
 use Rattle.pulsar_laws.proofs.Cases.{none_some, some_is}
 use Rattle.pulsar_laws.proofs.calls.Same.{same_producer, same_self, same_who}
 use Rattle.pulsar_laws.proofs.calls.Whereabouts.{ApartBy, Asker, NoFind, NotWake, begun_there, goes_nowhere, got_free, seekers_absent, times}
@@ -744,7 +745,7 @@ module _ (n : ℕ) where
         waits ws = times (me n) ws
 
         got_base : (r c : Bool) (s : Series) (ws : List Who) → waits ws ≤ 0 →
-            waits (cond (r && c) (record { series = s; waiting = waits_for s (me n) ws }) (record { series = s; waiting = ws })).waiting ≤ cond c 1 0
+            waits (cond {A = Base} (r && c) (record { series = s; waiting = waits_for s (me n) ws }) (record { series = s; waiting = ws })).waiting ≤ cond c 1 0
         got_base false c s ws h = omega (arith, h)
         got_base true false s ws h = h
         got_base true true s ws h = by s
@@ -800,7 +801,7 @@ module _ (n : ℕ) where
             not_reached : is_reachable p ≡ false → (key : List ℕ) → waits ((view o got).addresses.base key).waiting ≤ 0
             not_reached e key =
                 let b = v.addresses.base key in
-                subst (λ r. waits (cond (r && bytes_eq (address_key p) key) (record { series = b.series; waiting = waits_for b.series (me n) b.waiting }) b).waiting ≤ 0)
+                subst (λ r. waits (cond {A = Base} (r && bytes_eq (address_key p) key) (record { series = b.series; waiting = waits_for b.series (me n) b.waiting }) b).waiting ≤ 0)
                 (sym e) (at.place.base key)
 
             is_served : (l : ℕ) → series ≡ Serves l → (key : List ℕ) → waits ((view o got).addresses.base key).waiting ≤ 0
@@ -808,7 +809,7 @@ module _ (n : ℕ) where
                 (λ y. ap (λ z. (v.addresses.base z).series) (sym (same_key (address_key p) key y)) ∙ e)
               where
                 so : (b : Base) (r c : Bool) → waits b.waiting ≤ 0 → (c ≡ true → b.series ≡ Serves l) →
-                    waits (cond (r && c) (record { series = b.series; waiting = waits_for b.series (me n) b.waiting }) b).waiting ≤ 0
+                    waits (cond {A = Base} (r && c) (record { series = b.series; waiting = waits_for b.series (me n) b.waiting }) b).waiting ≤ 0
                 so b false c h f = h
                 so b true false h f = h
                 so b true true h f = subst (λ s. waits (waits_for s (me n) b.waiting) ≤ 0) (sym (f refl)) h
@@ -902,16 +903,16 @@ module _ (n : ℕ) where
                 (λ q h. none_some (sym (ap place_of y) ∙ h))))
             at_seat seat e none (Ok r) y = placing r y
               where
-                placing : (r : Placed) → session.asked v.now request seat.seen ≡ Ok r → Single asked
-                placing (placed.Queued place) y = at_place_of (placed.Queued place) place y refl
-                placing (placed.Waiting place) y = at_place_of (placed.Waiting place) place y refl
-
                 at_place_of : (r : Placed) (place : ℕ) → session.asked v.now request seat.seen ≡ Ok r → place_of (Ok r) ≡ Some place → Single asked
                 at_place_of r place y z =
                     put r place (ap (answer_at v.now request) e ∙ y)
                     (subst (λ w. Asker (me n) (at_place (OnLink l place) l) (option_map (seat_asked (me n) v.now request) w)) (sym e)
                     (asked_askers (is_awaited request) (place_of (session.asked v.now request seat.seen)) seat.askers (at_place (OnLink l place) l) none
                     (λ q h. (refl, some_is (sym h ∙ ap place_of y ∙ z)))))
+
+                placing : (r : Placed) → session.asked v.now request seat.seen ≡ Ok r → Single asked
+                placing (placed.Queued place) y = at_place_of (placed.Queued place) place y refl
+                placing (placed.Waiting place) y = at_place_of (placed.Waiting place) place y refl
 
             by : (r : Option Seat) → v.links.live l ≡ r → Asker (me n) (at_place Nowhere l) r → Single asked
             by None e none =

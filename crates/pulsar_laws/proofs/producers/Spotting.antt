@@ -1,6 +1,6 @@
 -- Where a topic producer waits: at one place at most. What an act brings to it comes from there, and then it waits no longer.
 use Rattle.std.specs.Prelude.{bytes_eq}
-use Rattle.std.proofs.Common.{◌≡◌, ◌⊎◌, inl, inr, ◌∙◌, sym, ap, subst, ℕ, ◌+◌, ◌≤◌, ◌<◌, ◌==◌, arith, List, [], ◌∷◌, ◌++◌, refl, length, map, Bool, true, false, ◌&&◌, cond, not, Option, Some, None}
+use Rattle.std.proofs.Common.{◌≡◌, ◌⊎◌, inl, inr, ◌∙◌, sym, ap, subst, ℕ, ◌+◌, ◌≤◌, ◌<◌, ◌==◌, ◌||◌, arith, List, [], ◌∷◌, ◌++◌, refl, length, map, Bool, true, false, ◌&&◌, cond, not, Option, Some, None}
 use Rattle.std.proofs.lemmas.Bool.{cases_Bool, cases_lt, eqb-true}
 use Rattle.std.specs.List.{filter_map, list_any}
 use Rattle.std.specs.Map.{lookup}
@@ -212,7 +212,7 @@ any_count : (p : ℕ) (ps : List ℕ) → list_any (λ q. q == p) ps ≡ false �
 any_count p [] h = refl
 any_count p (q ∷ ps) h = by (q == p) refl h (any_count p ps)
   where
-    by : (b : Bool) → (q == p) ≡ b → cond b true (list_any (λ q. q == p) ps) ≡ false → (list_any (λ q. q == p) ps ≡ false → count p ps ≡ 0) →
+    by : (b : Bool) → (q == p) ≡ b → (b || list_any (λ q. q == p) ps) ≡ false → (list_any (λ q. q == p) ps ≡ false → count p ps ≡ 0) →
         cond b 1 0 + count p ps ≡ 0
     by true e h more = absurd cc
     by false e h more = let z = more h in omega (arith, z)

@@ -89,16 +89,16 @@ frames_queued o n (Then (Told x) ∷ log) =
 frames_queued o n (Then (Does who (OfTopic m TakeBatch)) ∷ log) = if is_same (Producer n) who then 0 else frames_queued o n log
 frames_queued o n (_ ∷ log) = frames_queued o n log
 
--- what a topic producer asked for since it took a batch, newest first
-abbrev pub asked_since : (number : ℕ) → List Entry → List Words
-asked_since n [] = []
-asked_since n (Then (Does who (Ask l request)) ∷ log) = if is_same (Producer n) who then request ∷ asked_since n log else asked_since n log
-asked_since n (Then (Does who (OfTopic m TakeBatch)) ∷ log) = if is_same (Producer n) who then [] else asked_since n log
-asked_since n (_ ∷ log) = asked_since n log
+-- what a topic producer asked for last, since it took a batch
+abbrev pub asked_last : (number : ℕ) → List Entry → Option Words
+asked_last n [] = None
+asked_last n (Then (Does who (Ask l request)) ∷ log) = if is_same (Producer n) who then Some request else asked_last n log
+asked_last n (Then (Does who (OfTopic m TakeBatch)) ∷ log) = if is_same (Producer n) who then None else asked_last n log
+asked_last n (_ ∷ log) = asked_last n log
 
--- since it took this batch it asked for a frame that bears this number
+-- since it took this batch it asked for a frame that bears this number, and for nothing behind that
 abbrev pub AskedSince : (number sequence : ℕ) → List Entry → Type 0
-AskedSince n s log = (name : List ℕ) × (m : ProducerMessageValues) × (block : Bool) × In (words.Send n name s m block) (asked_since n log)
+AskedSince n s log = (name : List ℕ) × (m : ProducerMessageValues) × (block : Bool) × (asked_last n log ≡ Some (words.Send n name s m block))
 
 -- what a topic producer was told since it took a batch, newest first
 abbrev pub told_since : (number : ℕ) → List Entry → List Outcome
@@ -114,8 +114,8 @@ FailedSo n log items cause =
     (w : Ways) × (e : Errand) × (m : ProducerMessageValues) × (e.producer ≡ n) × (batch_of (entries_in items) ≡ Ok m)
     × FailsSo (procedure.Send w e None m) (told_since n log) cause
 
--- its frame was queued, once, and a receipt came for one that its topic producer asked for since it took this batch; or its send failed, for this cause; or it could not be
--- written; or the client was stopped; or there was no message in it
+-- its frame was queued, once, and its receipt came: that of the one that its topic producer asked for since it took this batch; or its send
+-- failed, for this cause; or it could not be written; or the client was stopped; or there was no message in it
 abbrev pub IsFateOf : Options → (number : ℕ) → List Entry → List Item → Outcome → Fate → Type 0
 IsFateOf o n log items u f =
     ((r : Reply) × (s : ℕ) × (u ≡ outcome.Replied r) × (is_body 7 r.content.body ≡ true) × (r.content.key ≡ Some (key.ProducerSend n s))

@@ -24,7 +24,7 @@ use Rattle.pulsar_producer.specs.declared.deed.Step.TheVariants as step
 use Rattle.pulsar_producer.specs.declared.sending.Sending.TheVariants as send
 use Rattle.pulsar_calls.specs.declared.act.Outcome.TheVariants as outcome
 use Rattle.pulsar_laws.proofs.Cases.{cond_so}
-use Rattle.pulsar_laws.specs.BatchLaws.{AskedSince, asked_since, IsFateOf, MembersAreTold, frames_queued, under_way}
+use Rattle.pulsar_laws.specs.BatchLaws.{AskedSince, asked_last, IsFateOf, MembersAreTold, frames_queued, under_way}
 use Rattle.pulsar_laws.proofs.producers.BatchQueued.{queued_once}
 use Rattle.pulsar_laws.proofs.plans.Batched.{Comes, IsSettling, Unsent, tells_where}
 use Rattle.pulsar_laws.proofs.producers.BatchFailing.{Kept, KeepsSo, Why, fails_so, is_told_news, kept_run, never_told}
@@ -33,7 +33,7 @@ use Rattle.pulsar_laws.proofs.producers.BatchRun.{PromptSo, StateSo, batched_run
 use Rattle.pulsar_laws.specs.Laws.{stopped}
 use Rattle.pulsar_laws.proofs.producers.Drawing.{here}
 use Rattle.pulsar_laws.proofs.plans.Productions.{SendKeeps}
-use Rattle.pulsar_laws.proofs.producers.Since.{receipt_since, since_asked}
+use Rattle.pulsar_laws.proofs.producers.Since.{last_asked, receipt_since}
 use Rattle.pulsar_laws.proofs.calls.Stopping.{never_replied}
 use Rattle.pulsar_laws.proofs.plans.LastWords.{is_leaving}
 use Rattle.pulsar_laws.proofs.plans.Spots.{spot_of}
@@ -174,17 +174,15 @@ module _ (o : Options) (log : List Entry) (n : ℕ) (ns : List Notice) (run : Is
             absurd cc)
         | inr h ↦
             (let k = receipt_since o n older reply r h body in
-            let i = since_asked o n older (words.Send k.producer k.name k.sequence k.message k.block) k.listed in
-            let own : k.producer ≡ n = asked_own o older n i.0 k.producer k.sequence k.name k.message k.block r.0 i.1 in
-            let listed : In (words.Send k.producer k.name k.sequence k.message k.block) (asked_since n log) =
-            subst (In (words.Send k.producer k.name k.sequence k.message k.block)) (sym (ap (asked_since n) there)) k.listed in (
+            let i = last_asked o n older (words.Send k.producer k.name k.sequence k.message k.block) k.listed in
+            let own : k.producer ≡ n = asked_own o older n i.0 k.producer k.sequence k.name k.message k.block r.0 i.1 in (
               k.sequence,
               k.bears ∙ ap (λ m. Some (keys.ProducerSend m k.sequence)) own,
               (
                 k.name,
                 k.message,
                 k.block,
-                subst (λ m. In (words.Send m k.name k.sequence k.message k.block) (asked_since n log)) own listed,
+                ap (asked_last n) there ∙ k.listed ∙ ap (λ m. Some (words.Send m k.name k.sequence k.message k.block)) own,
               ),
             ))
       ]

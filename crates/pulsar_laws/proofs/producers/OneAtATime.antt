@@ -102,7 +102,7 @@ abbrev is_rest : Action → Bool
 is_rest Rest = true
 is_rest _ = false
 
-abbrev is_passing : Action → Bool
+abbrev pub is_passing : Action → Bool
 is_passing (OfTopic n PassTurn) = true
 is_passing _ = false
 
@@ -1015,17 +1015,17 @@ module _ (n : ℕ) where
       clear_on (OfTopic m ask) run stop clear = plain_on (OfTopic m ask) run stop clear (λ w h. absurd cc) refl
       clear_on x run stop clear = plain_on x run stop clear (λ w h. absurd cc) refl
 
-      -- as it takes a batch
-      takes_clear : (m : ℕ) → IsRun o (Then (Does (me n) (OfTopic m TakeBatch)) ∷ log) → Clear log k.spot
-      takes_clear m run = elim (first_head (OfTopic m TakeBatch) run refl) [ inl clear ↦ clear | inr y ↦ (let f : false ≡ true = y.0 in absurd cc) ]
+      -- as it does something else than to pass its turn on it is owed nothing, and waits for nothing
+      does_clear : (x : Action) (run : IsRun o (Then (Does (me n) x) ∷ log)) → is_stop (Does (me n) x) ≡ false → is_passing x ≡ false → Clear log k.spot
+      does_clear x run stop pass = elim (first_head x run stop) [ inl clear ↦ clear | inr y ↦ (let f : false ≡ true = sym pass ∙ y.0 in absurd cc) ]
 
-      pub take_clear : (m : ℕ) → IsRun o (Then (Does (me n) (OfTopic m TakeBatch)) ∷ log) → owing n o log ≡ 0
-      take_clear m run = let c = takes_clear m run in omega (arith, c)
+      pub owes_none : (x : Action) → IsRun o (Then (Does (me n) x) ∷ log) → is_stop (Does (me n) x) ≡ false → is_passing x ≡ false → owing n o log ≡ 0
+      owes_none x run stop pass = let c = does_clear x run stop pass in omega (arith, c)
 
-      pub take_free : (m : ℕ) → IsRun o (Then (Does (me n) (OfTopic m TakeBatch)) ∷ log) → (l : ℕ) (seat : Seat) → v.links.live l ≡ Some seat → (p : ℕ) →
-          seat.askers p ≡ Some (me n) → ⊥
-      take_free m run l seat live p i =
-          subst (Asker (me n) (λ q. ⊥)) live ((nowhere (OfTopic m TakeBatch) run refl (takes_clear m run)).place.asker l) p i
+      pub waits_none : (x : Action) → IsRun o (Then (Does (me n) x) ∷ log) → is_stop (Does (me n) x) ≡ false → is_passing x ≡ false → (l : ℕ) (seat : Seat) →
+          v.links.live l ≡ Some seat → (p : ℕ) → seat.askers p ≡ Some (me n) → ⊥
+      waits_none x run stop pass l seat live p i =
+          subst (Asker (me n) (λ q. ⊥)) live ((nowhere x run stop (does_clear x run stop pass)).place.asker l) p i
 
       own_does : (x : Action) (run : IsRun o (Then (Does (me n) x) ∷ log)) → is_stop (Does (me n) x) ≡ false → Single (Then (Does (me n) x) ∷ log)
       own_does x run stop = elim (first_head x run stop) [

@@ -1,4 +1,4 @@
--- A receipt that a topic producer is told is that of a frame that it asked for since it took its batch.
+-- A receipt that a topic producer is told is that of the frame that it asked for last, and since it took its batch.
 use Rattle.std.proofs.Common.{◌≡◌, ◌⊎◌, inl, inr, ◌∙◌, sym, ap, subst, ℕ, ◌+◌, arith, List, [], ◌∷◌, ◌++◌, refl, map, Bool, true, false, ◌&&◌, cond, Option, Some, None}
 use Rattle.std.proofs.lemmas.Bool.{cases_Bool}
 use Rattle.pulsar_run.specs.Laws.{Arises, InOne}
@@ -8,14 +8,16 @@ use Rattle.pulsar_laws.proofs.RunWords.{agenda, arranged, at_once, Begins, cause
 use Rattle.pulsar_laws.proofs.LinkWords.{is_body, Reply, Seat, Words}
 use Rattle.pulsar_wire.specs.declared.key.RequestKey.{RequestKey}
 use Rattle.pulsar_calls.specs.declared.act.Outcome.TheVariants as outcome
-use Rattle.pulsar_laws.specs.BatchLaws.{asked_since}
+use Rattle.pulsar_laws.specs.BatchLaws.{asked_last}
 use Rattle.pulsar_laws.specs.Laws.{stopped}
 use Rattle.pulsar_laws.proofs.Lists.{each_arranged, each_put_all}
 use Rattle.pulsar_laws.proofs.calls.Caused.{is_caused}
 use Rattle.pulsar_laws.proofs.calls.Same.{same_self, same_who}
 use Rattle.pulsar_laws.proofs.links.Receipts.{IsSentFor, receipt_so}
-use Rattle.pulsar_laws.proofs.producers.OneAtATime.{Single, going, left_not, NotOwn, single_run, take_clear, take_free}
-use Rattle.pulsar_laws.proofs.producers.Owed.{all_owed, is_hard, me, note, owed, owing, rest_owed, took}
+use Rattle.pulsar_laws.proofs.producers.OneAtATime.{Single, going, is_passing, left_not, NotOwn, owes_none, single_run, waits_none}
+use Rattle.pulsar_laws.proofs.producers.Spotting.{is_stop}
+use Rattle.pulsar_laws.proofs.Cases.{none_some, some_is}
+use Rattle.pulsar_laws.proofs.producers.Owed.{all_owed, is_hard, me, note, owed, owing, rest_owed}
 
 -- what is first of all that is left, and what is left behind it
 module _ (Q : Act → Type 0) where
@@ -51,56 +53,55 @@ every_in P f [] k = tt
 every_in P f (xs ∷ xss) k = (each_in P f xs (λ y i. k y (inl i)), every_in P f xss (λ y i. k y (inr i)))
 
 module _ (o : Options) (n : ℕ) where
-  -- it takes a batch
+  -- it takes a batch, or asks for something
   abbrev own_take : Act → Bool
   own_take (Does w (OfTopic m TakeBatch)) = is_same (me n) w
+  own_take (Does w (Ask l r)) = is_same (me n) w
   own_take _ = false
 
-  since_more : (a : Act) (log : List Entry) (r : Words) → own_take a ≡ false → In r (asked_since n log) → In r (asked_since n (Then a ∷ log))
-  since_more (Does w (Ask l q)) log r h i = elim (is_same (me n) w) as (λ b. In r (cond b (q ∷ asked_since n log) (asked_since n log))) [
-    | true ↦ inr i
-    | false ↦ i
-  ]
-  since_more (Does w (OfTopic m TakeBatch)) log r h i = subst (λ b. In r (cond b [] (asked_since n log))) (sym h) i
-  since_more (Does w (OfTopic m PassTurn)) log r h i = i
-  since_more (Does w (OfTopic m _)) log r h i = i
-  since_more (Does w _) log r h i = i
-  since_more _ log r h i = i
+  last_same : (a : Act) (log : List Entry) → own_take a ≡ false → asked_last n (Then a ∷ log) ≡ asked_last n log
+  last_same (Does w (Ask l q)) log h = ap (λ b. cond b (Some q) (asked_last n log)) h
+  last_same (Does w (OfTopic m TakeBatch)) log h = ap (λ b. cond b None (asked_last n log)) h
+  last_same (Does w (OfTopic m _)) log h = refl
+  last_same (Does w _) log h = refl
+  last_same _ log h = refl
 
   abbrev Goes : List Entry → Type 0
   Goes log = IsRun o log × (stopped log ≡ false)
 
   abbrev Since : List Entry → (link : ℕ) → Who → Words → Type 0
-  Since log l w r = w ≡ me n → In r (asked_since n log)
+  Since log l w r = w ≡ me n → asked_last n log ≡ Some r
 
   goes_older : (e : Entry) (log : List Entry) → Goes (e ∷ log) → Goes log
   goes_older (Begins e) log ok = (ok.0.0, ok.1)
   goes_older (Then a) log ok = (ok.0.0, (going n o a log ok.1).1)
 
-  -- as it takes one it asks for nothing
+  -- as it does so it waits for nothing
   free_take : (a : Act) (log : List Entry) → IsRun o (Then a ∷ log) → own_take a ≡ true → Single n o log →
       (l : ℕ) (seat : Seat) → (view o log).links.live l ≡ Some seat → (p : ℕ) → seat.askers p ≡ Some (me n) → ⊥
   free_take (Does w (OfTopic m TakeBatch)) log run h k l seat live p i =
-      take_free n o log k m (subst (λ (x : Who). IsRun o (Then (Does x (OfTopic m TakeBatch)) ∷ log)) (sym (same_who (me n) w h)) run) l seat live p i
+      waits_none n o log k (OfTopic m TakeBatch)
+      (subst (λ (x : Who). IsRun o (Then (Does x (OfTopic m TakeBatch)) ∷ log)) (sym (same_who (me n) w h)) run) refl refl l seat live p i
+  free_take (Does w (Ask j r)) log run h k l seat live p i =
+      waits_none n o log k (Ask j r) (subst (λ (x : Who). IsRun o (Then (Does x (Ask j r)) ∷ log)) (sym (same_who (me n) w h)) run) refl refl l seat live p i
   free_take _ log run h k l seat live p i = absurd cc
 
   since_kept : (e : Entry) (log : List Entry) → Goes (e ∷ log) → (l : ℕ) (seat : Seat) → (view o log).links.live l ≡ Some seat → (p : ℕ) (w : Who) →
       seat.askers p ≡ Some w → (r : Words) → Since log l w r → Since (e ∷ log) l w r
   since_kept (Begins e) log ok l seat live p w i r k = k
   since_kept (Then a) log ok l seat live p w i r k = λ same. elim (cases_Bool (own_take a)) [
-    | inr f ↦ since_more a log r f (k same)
+    | inr f ↦ last_same a log f ∙ k same
     | inl t ↦
         absurd (free_take a log ok.0 t (single_run n o log ok.0.0 (going n o a log ok.1).1) l seat live p (i ∙ ap Some same))
   ]
 
   since_new : (log : List Entry) (l : ℕ) (w : Who) (r : Words) → Since (Then (Does w (Ask l r)) ∷ log) l w r
-  since_new log l w r = λ same.
-      subst (λ b. In r (cond b (r ∷ asked_since n log) (asked_since n log))) (sym (ap (is_same (me n)) same ∙ same_self (me n))) (inl refl)
+  since_new log l w r = λ same. ap (λ b. cond b (Some r) (asked_last n log)) (ap (is_same (me n)) same ∙ same_self (me n))
 
   -- WHAT IS LEFT TO BE TOLD
 
   abbrev IsSince : List Entry → Option RequestKey → Type 0
-  IsSince log k = IsSentFor (λ r. In r (asked_since n log)) k
+  IsSince log k = IsSentFor (λ r. asked_last n log ≡ Some r) k
 
   abbrev FreshSo : List Entry → Who → Outcome → Type 0
   FreshSo log w u = is_same (me n) w ≡ true → (r : Reply) → u ≡ outcome.Replied r → is_body 7 r.content.body ≡ true → IsSince log r.content.key
@@ -116,7 +117,7 @@ module _ (o : Options) (n : ℕ) where
     name = s.name;
     message = s.message;
     block = s.block;
-    listed = since_more a log _ h s.listed;
+    listed = last_same a log h ∙ s.listed;
     bears = s.bears;
   }
 
@@ -187,13 +188,12 @@ module _ (o : Options) (n : ℕ) where
   abbrev Left : List Entry → List Entry → Type 0
   Left later log = let g = rest (agenda o log) in AllFresh later g.now g.here g.behind
 
-  taken_left : (later log : List Entry) (w : Who) (m : ℕ) → IsRun o (Then (Does w (OfTopic m TakeBatch)) ∷ log) → is_same (me n) w ≡ true → Single n o log →
-      Left later log
-  taken_left later log w m run same k =
+  taken_left : (later log : List Entry) (x : Action) → IsRun o (Then (Does (me n) x) ∷ log) → is_stop (Does (me n) x) ≡ false → is_passing x ≡ false →
+      Single n o log → Left later log
+  taken_left later log x run stop pass k =
       let g = agenda o log in
-      let c : owing n o log ≡ 0 =
-      take_clear n o log k m (subst (λ (x : Who). IsRun o (Then (Does x (OfTopic m TakeBatch)) ∷ log)) (sym (same_who (me n) w same)) run) in
-      let e = rest_owed n g.now g.here g.behind g.parts (Does w (OfTopic m TakeBatch)) run.1 in (
+      let c : owing n o log ≡ 0 = owes_none n o log k x run stop pass in
+      let e = rest_owed n g.now g.here g.behind g.parts (Does (me n) x) run.1 in (
         not_fresh later (rest g).now (left_not n o log k),
         owed_fresh later (rest g).here (omega (arith, c, e)),
         all_fresh later (rest g).behind (omega (arith, c, e)),
@@ -216,7 +216,12 @@ module _ (o : Options) (n : ℕ) where
   ]
     where
       taken : (b : Act) → IsRun o (Then b ∷ log) → own_take b ≡ true → Left (Then a ∷ log) log
-      taken (Does w (OfTopic m TakeBatch)) r t = taken_left (Then a ∷ log) log w m r t (single_run n o log r.0 h)
+      taken (Does w (OfTopic m TakeBatch)) r t =
+          taken_left (Then a ∷ log) log (OfTopic m TakeBatch)
+          (subst (λ (x : Who). IsRun o (Then (Does x (OfTopic m TakeBatch)) ∷ log)) (sym (same_who (me n) w t)) r) refl refl (single_run n o log r.0 h)
+      taken (Does w (Ask l q)) r t =
+          taken_left (Then a ∷ log) log (Ask l q) (subst (λ (x : Who). IsRun o (Then (Does x (Ask l q)) ∷ log)) (sym (same_who (me n) w t)) r) refl refl
+          (single_run n o log r.0 h)
       taken _ r t = absurd cc
 
   fresh_run : (log : List Entry) → IsRun o log → stopped log ≡ false → AllFresh log (agenda o log).now (agenda o log).here (agenda o log).behind
@@ -243,29 +248,21 @@ module _ (o : Options) (n : ℕ) where
       first_so (Fresh log) g.now g.here g.behind g.parts (notice (me n) (outcome.Replied r)) (fresh_run log run.0 h) run.1 (same_self (me n)) r refl body
 
   -- which it asked for on some link
-  pub since_asked : (log : List Entry) (q : Words) → In q (asked_since n log) → (l : ℕ) × In (Then (Does (me n) (Ask l q))) log
-  since_asked [] q i = absurd i
-  since_asked (Then (Does w (Ask l r)) ∷ log) q i = elim (cases_Bool (is_same (me n) w)) [
-    | inr e ↦ later (Then (Does w (Ask l r))) log q (since_asked log q (subst (λ b. In q (cond b (r ∷ asked_since n log) (asked_since n log))) e i))
-    | inl e ↦ elim (subst (λ b. In q (cond b (r ∷ asked_since n log) (asked_since n log))) e i) [
-      | inl same ↦
-          (let h : me n ≡ w = same_who (me n) w e in
-          (l, inl (λ i. Then (Does (h i) (Ask l (same i))))))
-      | inr j ↦ later (Then (Does w (Ask l r))) log q (since_asked log q j)
-    ]
+  pub last_asked : (log : List Entry) (q : Words) → asked_last n log ≡ Some q → (l : ℕ) × In (Then (Does (me n) (Ask l q))) log
+  last_asked [] q i = absurd (none_some i)
+  last_asked (Then (Does w (Ask l r)) ∷ log) q i = elim (cases_Bool (is_same (me n) w)) [
+    | inr e ↦ (let k = last_asked log q (sym (ap (λ b. cond b (Some r) (asked_last n log)) e) ∙ i) in (k.0, inr k.1))
+    | inl e ↦
+        (let same : r ≡ q = some_is (sym (ap (λ b. cond b (Some r) (asked_last n log)) e) ∙ i) in
+        let h : me n ≡ w = same_who (me n) w e in
+        (l, inl (λ j. Then (Does (h j) (Ask l (sym same j))))))
   ]
-    where
-      later : (e : Entry) (log : List Entry) (q : Words) → (l : ℕ) × In (Then (Does (me n) (Ask l q))) log →
-          (l : ℕ) × In (Then (Does (me n) (Ask l q))) (e ∷ log)
-      later e log q k = (k.0, inr k.1)
-  since_asked (Then (Does w (OfTopic m TakeBatch)) ∷ log) q i = elim (cases_Bool (is_same (me n) w)) [
-    | inr e ↦
-        (let k = since_asked log q (subst (λ b. In q (cond b [] (asked_since n log))) e i) in
-        (k.0, inr k.1))
-    | inl e ↦ absurd (subst (λ b. In q (cond b [] (asked_since n log))) e i)
+  last_asked (Then (Does w (OfTopic m TakeBatch)) ∷ log) q i = elim (cases_Bool (is_same (me n) w)) [
+    | inr e ↦ (let k = last_asked log q (sym (ap (λ b. cond b None (asked_last n log)) e) ∙ i) in (k.0, inr k.1))
+    | inl e ↦ absurd (none_some (sym (ap (λ b. cond b None (asked_last n log)) e) ∙ i))
   ]
-  since_asked (Then (Does w (OfTopic m PassTurn)) ∷ log) q i = let k = since_asked log q i in (k.0, inr k.1)
-  since_asked (Then (Does w (OfTopic m _)) ∷ log) q i = let k = since_asked log q i in (k.0, inr k.1)
-  since_asked (Then (Does w _) ∷ log) q i = let k = since_asked log q i in (k.0, inr k.1)
-  since_asked (Then _ ∷ log) q i = let k = since_asked log q i in (k.0, inr k.1)
-  since_asked (Begins e ∷ log) q i = let k = since_asked log q i in (k.0, inr k.1)
+  last_asked (Then (Does w (OfTopic m PassTurn)) ∷ log) q i = let k = last_asked log q i in (k.0, inr k.1)
+  last_asked (Then (Does w (OfTopic m _)) ∷ log) q i = let k = last_asked log q i in (k.0, inr k.1)
+  last_asked (Then (Does w _) ∷ log) q i = let k = last_asked log q i in (k.0, inr k.1)
+  last_asked (Then _ ∷ log) q i = let k = last_asked log q i in (k.0, inr k.1)
+  last_asked (Begins e ∷ log) q i = let k = last_asked log q i in (k.0, inr k.1)

@@ -125,6 +125,11 @@ IsFateOf o n log items u f =
     ⊎ ((overrides u ≡ true) × (f ≡ fate.Halted))
     ⊎ ((entries_in items ≡ []) × (f ≡ fate.Flushed))
 
+-- A receipt that a topic producer is told is that of the frame that it asked for since it took its batch. So none of an earlier batch settles it.
+abbrev pub ReceiptsOfBatches : Type 0
+ReceiptsOfBatches = (o : Options) (log : List Entry) (n : ℕ) (r : Reply) → IsRun o (Then (Told (notice (Producer n) (outcome.Replied r))) ∷ log) →
+    is_body 7 r.content.body ≡ true → (s : ℕ) × (r.content.key ≡ Some (key.ProducerSend n s)) × AskedSince n s log
+
 -- Those of a batch are told together, right behind what its producer is told of it: each what became of its message, with its place in the
 -- batch and the count of its messages. Where the client is stopped while its frame waits for a receipt, its messages are lost.
 abbrev pub TellsBatch : Options → (number : ℕ) → List Notice → List Entry → Type 0

@@ -28,15 +28,10 @@ use Rattle.pulsar_laws.specs.BatchLaws.{AskedSince, asked_last, IsFateOf, Member
 use Rattle.pulsar_laws.proofs.producers.BatchQueued.{queued_once}
 use Rattle.pulsar_laws.proofs.plans.Batched.{Comes, IsSettling, Unsent, tells_where}
 use Rattle.pulsar_laws.proofs.producers.BatchFailing.{Kept, KeepsSo, Why, fails_so, is_told_news, kept_run, never_told}
-use Rattle.pulsar_laws.proofs.producers.BatchFrames.{asked_own}
 use Rattle.pulsar_laws.proofs.producers.BatchRun.{PromptSo, StateSo, batched_run, deed_at, some_batch, was_done}
-use Rattle.pulsar_laws.specs.Laws.{stopped}
 use Rattle.pulsar_laws.proofs.producers.Drawing.{here}
 use Rattle.pulsar_laws.proofs.plans.Productions.{SendKeeps}
-use Rattle.pulsar_laws.proofs.producers.Since.{last_asked, receipt_since}
-use Rattle.pulsar_laws.proofs.calls.Stopping.{never_replied}
-use Rattle.pulsar_laws.proofs.plans.LastWords.{is_leaving}
-use Rattle.pulsar_laws.proofs.plans.Spots.{spot_of}
+use Rattle.pulsar_laws.proofs.producers.Since.{receipts_of_batches_lem}
 
 -- A SEND THAT GIVES A RECEIPT was told its reply
 
@@ -151,41 +146,17 @@ gives_sent w e s u r h = elim (cases_Bool (is_sent s)) [
 
 -- THE LAW
 
-stays_on : (w : Ways) (e : Errand) (b : Batches) → is_leaving (spot_of (Some (Batching w e b))) ≡ false
-stays_on w e batching.Resting = refl
-stays_on w e batching.Taking = refl
-stays_on w e (batching.Sending ms c s) = refl
-stays_on w e batching.Settling = refl
-
 abbrev notices_in : List Notice → Action → List Notice
 notices_in ns (TellAll ms) = ms
 notices_in ns _ = ns
 
 module _ (o : Options) (log : List Entry) (n : ℕ) (ns : List Notice) (run : IsRun o (Then (Does (Producer n) (TellAll ns)) ∷ log)) where
   -- the one whose receipt came
-  receipt_bears : (older : List Entry) (reply : Reply) (w : Ways) (e : Errand) (b : Batches) →
-      log ≡ Then (Told (notice (Producer n) (outcome.Replied reply))) ∷ older → (view o older).stand (Producer n) ≡ Some (Batching w e b) →
+  receipt_bears : (older : List Entry) (reply : Reply) → log ≡ Then (Told (notice (Producer n) (outcome.Replied reply))) ∷ older →
       is_body 7 reply.content.body ≡ true → (s : ℕ) × (reply.content.key ≡ Some (keys.ProducerSend n s)) × AskedSince n s log
-  receipt_bears older reply w e b there stood body =
-      let r : IsRun o (Then (Told (notice (Producer n) (outcome.Replied reply))) ∷ older) = subst (IsRun o) there run.0 in
-      elim (cases_Bool (stopped older)) [
-        | inl h ↦
-            (let f : false ≡ true = sym (stays_on w e b) ∙ ap (λ row. is_leaving (spot_of row)) (sym stood) ∙ never_replied o older (Producer n) reply r h in
-            absurd cc)
-        | inr h ↦
-            (let k = receipt_since o n older reply r h body in
-            let i = last_asked o n older (words.Send k.producer k.name k.sequence k.message k.block) k.listed in
-            let own : k.producer ≡ n = asked_own o older n i.0 k.producer k.sequence k.name k.message k.block r.0 i.1 in (
-              k.sequence,
-              k.bears ∙ ap (λ m. Some (keys.ProducerSend m k.sequence)) own,
-              (
-                k.name,
-                k.message,
-                k.block,
-                ap (asked_last n) there ∙ k.listed ∙ ap (λ m. Some (words.Send m k.name k.sequence k.message k.block)) own,
-              ),
-            ))
-      ]
+  receipt_bears older reply there body =
+      let k = receipts_of_batches_lem o older n reply (subst (IsRun o) there run.0) body in
+      (k.0, k.1, (k.2.0, k.2.1, k.2.2, ap (asked_last n) there ∙ k.2.3))
 
   fate_of : (older : List Entry) (items : List Item) (u : Outcome) (w : Ways) (e : Errand) (ms : List Member) (c : ℕ) (s : Send) (f : Fate)
       (m : ProducerMessageValues) → log ≡ Then (Told (notice (Producer n) u)) ∷ older →
@@ -200,7 +171,7 @@ module _ (o : Options) (log : List Entry) (n : ℕ) (ns : List Notice) (run : Is
       let r : IsRun o (Then (Told (notice (Producer n) u)) ∷ older) = subst (IsRun o) there run.0 in
       let q = gives_told w e s u h.0 (never_told o older (Producer n) u r) h.1 in
       let body : is_body 7 q.0.content.body ≡ true = ap (λ x. is_body 7 x.body) q.2 ∙ q.3 in
-      let k = receipt_bears older q.0 w e (batching.Sending ms c s) (there ∙ ap (λ x. Then (Told (notice (Producer n) x)) ∷ older) q.1) stood body in
+      let k = receipt_bears older q.0 (there ∙ ap (λ x. Then (Told (notice (Producer n) x)) ∷ older) q.1) body in
       let once : frames_queued o n log ≡ 1 =
       ap (frames_queued o n) there ∙ queued_once o older n u w e ms c s r stood (gives_sent w e s u h.0 h.1) in
       inl (q.0, k.0, q.1, body, k.1, k.2, once, h.2 ∙ ap receipt_fate (sym q.2))

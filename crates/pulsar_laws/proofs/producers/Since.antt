@@ -3,17 +3,25 @@ use Rattle.std.proofs.Common.{◌≡◌, ◌⊎◌, inl, inr, ◌∙◌, sym, ap
 use Rattle.std.proofs.lemmas.Bool.{cases_Bool}
 use Rattle.pulsar_run.specs.Laws.{Arises, InOne}
 use Rattle.pulsar_laws.proofs.ActWords.{Act, Action, Ask, below, Comes, Does, is_same, Notice, OfTopic, Outcome, Part, PassTurn, Producer, TakeBatch, Told, Who}
-use Rattle.pulsar_laws.proofs.PlanWords.{Plan}
+use Rattle.pulsar_laws.proofs.PlanWords.{Batching, Plan}
+use Rattle.pulsar_messages.specs.Words as words
+use Rattle.pulsar_wire.specs.declared.key.RequestKey.TheVariants as keys
+use Rattle.pulsar_producer.specs.declared.batching.Batching.TheVariants as batching
 use Rattle.pulsar_laws.proofs.RunWords.{agenda, arranged, at_once, Begins, causes, Cause, Each, each_append, each_map, Entry, first_of, In, IsRun, joins, notice, Options, rest, rest_of, rules, Then, view, View}
 use Rattle.pulsar_laws.proofs.LinkWords.{is_body, Reply, Seat, Words}
 use Rattle.pulsar_wire.specs.declared.key.RequestKey.{RequestKey}
 use Rattle.pulsar_calls.specs.declared.act.Outcome.TheVariants as outcome
-use Rattle.pulsar_laws.specs.BatchLaws.{asked_last}
+use Rattle.pulsar_laws.specs.BatchLaws.{ReceiptsOfBatches, asked_last}
 use Rattle.pulsar_laws.specs.Laws.{stopped}
 use Rattle.pulsar_laws.proofs.Lists.{each_arranged, each_put_all}
 use Rattle.pulsar_laws.proofs.calls.Caused.{is_caused}
 use Rattle.pulsar_laws.proofs.calls.Same.{same_self, same_who}
+use Rattle.pulsar_laws.proofs.calls.Stopping.{never_replied}
 use Rattle.pulsar_laws.proofs.links.Receipts.{IsSentFor, receipt_so}
+use Rattle.pulsar_laws.proofs.plans.Batchers.{batcher_stands, is_batcher}
+use Rattle.pulsar_laws.proofs.plans.LastWords.{is_leaving}
+use Rattle.pulsar_laws.proofs.plans.Spots.{spot_of}
+use Rattle.pulsar_laws.proofs.producers.BatchFrames.{asked_own}
 use Rattle.pulsar_laws.proofs.producers.OneAtATime.{Single, going, is_passing, left_not, NotOwn, owes_none, single_run, waits_none}
 use Rattle.pulsar_laws.proofs.producers.Spotting.{is_stop}
 use Rattle.pulsar_laws.proofs.Cases.{none_some, some_is}
@@ -241,14 +249,14 @@ module _ (o : Options) (n : ℕ) where
             (every_in Q Told (causes v a) (λ b i. arisen_fresh a log run s b (inr (inr (inl i)))))),
       )
 
-  pub receipt_since : (log : List Entry) (r : Reply) → IsRun o (Then (Told (notice (me n) (outcome.Replied r))) ∷ log) → stopped log ≡ false →
+  receipt_since : (log : List Entry) (r : Reply) → IsRun o (Then (Told (notice (me n) (outcome.Replied r))) ∷ log) → stopped log ≡ false →
       is_body 7 r.content.body ≡ true → IsSince log r.content.key
   receipt_since log r run h body =
       let g = agenda o log in
       first_so (Fresh log) g.now g.here g.behind g.parts (notice (me n) (outcome.Replied r)) (fresh_run log run.0 h) run.1 (same_self (me n)) r refl body
 
   -- which it asked for on some link
-  pub last_asked : (log : List Entry) (q : Words) → asked_last n log ≡ Some q → (l : ℕ) × In (Then (Does (me n) (Ask l q))) log
+  last_asked : (log : List Entry) (q : Words) → asked_last n log ≡ Some q → (l : ℕ) × In (Then (Does (me n) (Ask l q))) log
   last_asked [] q i = absurd (none_some i)
   last_asked (Then (Does w (Ask l r)) ∷ log) q i = elim (cases_Bool (is_same (me n) w)) [
     | inr e ↦ (let k = last_asked log q (sym (ap (λ b. cond b (Some r) (asked_last n log)) e) ∙ i) in (k.0, inr k.1))
@@ -266,3 +274,32 @@ module _ (o : Options) (n : ℕ) where
   last_asked (Then (Does w _) ∷ log) q i = let k = last_asked log q i in (k.0, inr k.1)
   last_asked (Then _ ∷ log) q i = let k = last_asked log q i in (k.0, inr k.1)
   last_asked (Begins e ∷ log) q i = let k = last_asked log q i in (k.0, inr k.1)
+
+-- THE LAW
+
+stays_on : (row : Option Plan) → ((p : Plan) → row ≡ Some p → is_batcher p ≡ true) → is_leaving (spot_of row) ≡ false
+stays_on None k = refl
+stays_on (Some p) k = by p (k p refl)
+  where
+    by : (p : Plan) → is_batcher p ≡ true → is_leaving (spot_of (Some p)) ≡ false
+    by (Batching w e batching.Resting) h = refl
+    by (Batching w e batching.Taking) h = refl
+    by (Batching w e (batching.Sending ms c s)) h = refl
+    by (Batching w e batching.Settling) h = refl
+    by _ h = absurd cc
+
+pub receipts_of_batches_lem : ReceiptsOfBatches
+receipts_of_batches_lem o log n r run body = elim (cases_Bool (stopped log)) [
+  | inl h ↦
+      (let f : false ≡ true =
+      sym (stays_on ((view o log).stand (me n)) (λ p e. batcher_stands o log n p run.0 e)) ∙ never_replied o log (me n) r run h in
+      absurd cc)
+  | inr h ↦
+      (let k = receipt_since o n log r run h body in
+      let i = last_asked o n log (words.Send k.producer k.name k.sequence k.message k.block) k.listed in
+      let own : k.producer ≡ n = asked_own o log n i.0 k.producer k.sequence k.name k.message k.block run.0 i.1 in (
+        k.sequence,
+        k.bears ∙ ap (λ m. Some (keys.ProducerSend m k.sequence)) own,
+        (k.name, k.message, k.block, k.listed ∙ ap (λ m. Some (words.Send m k.name k.sequence k.message k.block)) own),
+      ))
+]

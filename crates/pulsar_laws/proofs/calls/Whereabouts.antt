@@ -12,9 +12,6 @@ use Rattle.pulsar_laws.proofs.RunWords.{after, begun, begun_live, Chosen, consum
 use Rattle.pulsar_laws.proofs.LinkWords.{Addresses, arrival_at, Base, Becomes, Change, closing, Fault, got_at, is_body, IsOver, Nobody, Pause, Pauses, Remains, Reply, rings, Runs, Seat, seat_asked, seat_fed, seat_got, Series, Serves, took_end, took_some, url_at, Words}
 use Rattle.pulsar_producer.specs.Topic as topic
 use Rattle.pulsar_producer.specs.Topic.{Act as TopicAct}
-use Rattle.pulsar_outgoing.specs.declared.news.News.TheVariants as news
-use Rattle.pulsar_calls.specs.declared.act.Outcome.TheVariants as outcome
-use Rattle.pulsar_calls.specs.declared.act.Procedure.TheVariants as procedure
 use Rattle.pulsar_producer_table.specs.declared.table.Topic.{Topic}
 use Rattle.pulsar_links.specs.Alarms.{alarm_cmp, clear, is_same_alarm, set}
 use Rattle.pulsar_laws.proofs.Lists.{in_append}
@@ -25,10 +22,8 @@ use Rattle.pulsar_links.specs.Seats.{asker_at, base_turned, nobody}
 use Rattle.pulsar_links.proofs.Ringing.{is_this}
 use Rattle.pulsar_laws.proofs.calls.Same.{same_self, same_who}
 use Rattle.pulsar_laws.proofs.producers.Turns.{sum, sum_append}
-use Rattle.pulsar_laws.proofs.producers.Users.{waits_so}
 use Rattle.pulsar_calls.specs.declared.act.Arrival.TheVariants as arrivals
 use Rattle.pulsar_calls.specs.declared.act.Makes.TheVariants as makes
-use Rattle.pulsar_calls.specs.declared.act.Word.TheVariants as word
 use Rattle.url.specs.Parts.{Parts}
 use Rattle.pulsar_consumer.specs.Frames.{frame_in}
 use Rattle.pulsar_consumer.specs.Topic as reader

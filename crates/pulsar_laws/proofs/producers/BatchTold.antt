@@ -1,11 +1,10 @@
 -- What those of a batch are told.
 use Rattle.std.proofs.Common.{◌≡◌, ◌⊎◌, inl, inr, ◌∙◌, sym, ap, subst, ℕ, List, ◌∷◌, refl, length, map, Bool, true, false, cond, Option, Some, None, Result, Ok, Err}
 use Rattle.std.proofs.lemmas.Bool.{cases_Bool}
-use Rattle.pulsar_laws.proofs.ActWords.{Action, Ask, Does, Notice, Outcome, Producer, Rest, TellAll, Told}
+use Rattle.pulsar_laws.proofs.ActWords.{Action, Does, Notice, Outcome, Producer, Rest, TellAll, Told}
 use Rattle.pulsar_laws.proofs.PlanWords.{Batches, Batching, Command, Errand, Fate, Heard, Looking, Making, Member, News, news_in, news_of, overrides, SearchTurn, Sending as Send, Served, told_to, Ways}
-use Rattle.pulsar_laws.proofs.RunWords.{Entry, In, IsRun, notice, Options, Then, view}
+use Rattle.pulsar_laws.proofs.RunWords.{Entry, IsRun, notice, Options, Then, view}
 use Rattle.pulsar_laws.proofs.LinkWords.{Failure, Fault, Place, Reply}
-use Rattle.pulsar_messages.specs.Words as words
 use Rattle.pulsar_messages.specs.Content.{ProducerMessageValues}
 use Rattle.pulsar_frame.specs.Reply.{Reply as Content, is_body}
 use Rattle.pulsar_wire.specs.declared.key.RequestKey.TheVariants as keys

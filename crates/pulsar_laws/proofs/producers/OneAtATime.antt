@@ -40,7 +40,7 @@ use Rattle.pulsar_producer.proofs.Arcs.{SendArc, asks, draws, looked_makes, look
 use Rattle.pulsar_laws.specs.Laws.{IsServedAs, SaysSo, WordComes, stopped}
 use Rattle.pulsar_laws.proofs.calls.Causes.{IsToldBy}
 use Rattle.pulsar_laws.proofs.Cases.{none_some, some_is}
-use Rattle.pulsar_laws.proofs.calls.Same.{same_producer, same_self, same_who}
+use Rattle.pulsar_laws.proofs.calls.Same.{same_self, same_who}
 use Rattle.pulsar_laws.proofs.calls.Whereabouts.{ApartBy, Asker, NoFind, NotWake, begun_there, goes_nowhere, got_free, seekers_absent, times}
 use Rattle.pulsar_laws.proofs.Lists.{in_each}
 use Rattle.pulsar_laws.proofs.calls.Caused.{outcomes_are_caused_lem}
@@ -801,7 +801,8 @@ module _ (n : ℕ) where
             not_reached : is_reachable p ≡ false → (key : List ℕ) → waits ((view o got).addresses.base key).waiting ≤ 0
             not_reached e key =
                 let b = v.addresses.base key in
-                subst (λ r. waits (cond {A = Base} (r && bytes_eq (address_key p) key) (record { series = b.series; waiting = waits_for b.series (me n) b.waiting }) b).waiting ≤ 0)
+                subst (λ r. waits (cond {A = Base} (r && bytes_eq (address_key p) key)
+                (record { series = b.series; waiting = waits_for b.series (me n) b.waiting }) b).waiting ≤ 0)
                 (sym e) (at.place.base key)
 
             is_served : (l : ℕ) → series ≡ Serves l → (key : List ℕ) → waits ((view o got).addresses.base key).waiting ≤ 0
@@ -958,7 +959,8 @@ module _ (n : ℕ) where
             is_busy (Some t) ≡ true → is_busy ((view o taken).producers.topics n) ≡ true
         busy_left items t e h b =
             ap is_busy (row_as o log (drawn_run o log run.0) n t e takes run)
-            ∙ ap (λ ds. (all_after ds t.seen).is_under_way) (ap (λ z. cond (n == z) (topic.TakesBatch ∷ []) []) (sym own) ∙ ap (λ b. cond b (topic.TakesBatch ∷ []) []) (equal_self n))
+            ∙ ap (λ ds. (all_after ds t.seen).is_under_way)
+            (ap (λ z. cond (n == z) (topic.TakesBatch ∷ []) []) (sym own) ∙ ap (λ b. cond b (topic.TakesBatch ∷ []) []) (equal_self n))
             ∙ by t.seen.cut h
           where
             by : (c : List (List Item)) → topic.next_of c ≡ Some items → (topic.left_of c t.seen).is_under_way ≡ true

@@ -1,5 +1,5 @@
 -- What is still to be told to a topic producer by others: the outcome of what it waits for, once at most.
-use Rattle.std.proofs.Common.{◌≡◌, ◌⊎◌, inl, inr, ◌∙◌, sym, ap, subst, ℕ, zero, suc, ◌+◌, ◌≤◌, ◌<◌, ◌==◌, arith, List, [], ◌∷◌, ◌++◌, refl, map, Bool, true, false, ◌&&◌, cond, Option, Some, None}
+use Rattle.std.proofs.Common.{◌≡◌, inl, inr, ◌∙◌, sym, ap, subst, ℕ, zero, suc, ◌+◌, ◌≤◌, ◌<◌, ◌==◌, arith, List, [], ◌∷◌, ◌++◌, refl, map, Bool, true, false, ◌&&◌, cond, Option, Some, None}
 use Rattle.std.proofs.lemmas.Bool.{cases_Bool, eqb-true}
 use Rattle.std.specs.List.{cons_option, filter_map}
 use Rattle.std.specs.Option.{option_map}
@@ -149,7 +149,8 @@ module _ (n : ℕ) where
       owed (filter_map (tells_asker says f) ps) ≤ count p ps
   asked_owed says f p only ps =
       askers_owed says f (λ q. cond (q == p) 1 0)
-      (λ q e. (let one : ◌≡◌ {A = ℕ} (cond (q == p) 1 0) 1 = ap (λ x. cond (x == p) 1 0) (only q e) ∙ ap (λ b. cond b 1 0) (equal_self p) in omega (arith, one))) ps
+      (λ q e. (let one : ◌≡◌ {A = ℕ} (cond (q == p) 1 0) 1 = ap (λ x. cond (x == p) 1 0) (only q e) ∙ ap (λ b. cond b 1 0) (equal_self p) in
+      omega (arith, one))) ps
 
   -- those who wait for an address
   pub waiters_owed : (f : Who → Outcome) (ws : List Who) → owed (map (λ w. notice w (f w)) ws) ≤ times me ws

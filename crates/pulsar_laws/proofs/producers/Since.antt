@@ -1,8 +1,8 @@
 -- A receipt that a topic producer is told is that of the frame that it asked for last, and since it took its batch.
-use Rattle.std.proofs.Common.{◌≡◌, ◌⊎◌, inl, inr, ◌∙◌, sym, ap, subst, ℕ, ◌+◌, arith, List, [], ◌∷◌, ◌++◌, refl, map, Bool, true, false, ◌&&◌, cond, Option, Some, None}
+use Rattle.std.proofs.Common.{◌≡◌, inl, inr, ◌∙◌, sym, ap, subst, ℕ, arith, List, [], ◌∷◌, refl, map, Bool, true, false, ◌&&◌, cond, Option, Some, None}
 use Rattle.std.proofs.lemmas.Bool.{cases_Bool}
 use Rattle.pulsar_run.specs.Laws.{Arises, InOne}
-use Rattle.pulsar_laws.proofs.ActWords.{Act, Action, Ask, below, Comes, Does, is_same, Notice, OfTopic, Outcome, Part, PassTurn, Producer, TakeBatch, Told, Who}
+use Rattle.pulsar_laws.proofs.ActWords.{Act, Action, Ask, below, Comes, Does, is_same, Notice, OfTopic, Outcome, Part, PassTurn, TakeBatch, Told, Who}
 use Rattle.pulsar_laws.proofs.PlanWords.{Batching, Plan}
 use Rattle.pulsar_messages.specs.Words as words
 use Rattle.pulsar_wire.specs.declared.key.RequestKey.TheVariants as keys

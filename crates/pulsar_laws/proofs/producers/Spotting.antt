@@ -5,10 +5,10 @@ use Rattle.std.proofs.lemmas.Bool.{cases_Bool, cases_lt, eqb-true}
 use Rattle.std.specs.List.{filter_map, list_any}
 use Rattle.std.specs.Map.{lookup}
 use Rattle.std.specs.Option.{option_map, option_to_list}
-use Rattle.pulsar_laws.proofs.ActWords.{Act, Action, Alarm, Answers, Ask, Batch, below, Call, CheckIdle, Comes, Consumer, Does, Drains, End, Ends, FailConsumer, Flush, is_same, KeepAlive, LinkAct, Notice, numbers_from, OfTopic, opens, Opens, Outcome, PassTurn, Pings, Polls, Procedure, Producer, Reads, Rest, Retry, Revive, Rings, Shut, StopAll, Store, TakeBatch, Tell, TellAll, ToLink, turn_of, Wake, Who}
+use Rattle.pulsar_laws.proofs.ActWords.{Act, Action, Alarm, Answers, Ask, Batch, Call, CheckIdle, Comes, Does, Drains, End, Ends, FailConsumer, Flush, is_same, KeepAlive, LinkAct, Notice, OfTopic, opens, Outcome, PassTurn, Polls, Procedure, Producer, Reads, Rest, Retry, Revive, Rings, Shut, StopAll, Store, TakeBatch, Tell, TellAll, ToLink, turn_of, Wake, Who}
 use Rattle.pulsar_laws.proofs.PlanWords.{action_of, Batches, BuildingProducer as Build, closed_notice, Deed, Errand, News, Plan, ProducerOrder as Order, Sending as Send, told_to, Ways}
-use Rattle.pulsar_laws.proofs.RunWords.{after, causes, Each, Entry, In, IsRun, joins, lost_on, notice, Options, readied, ready_notice, Then, Turned, turned, turn_notice, view, View}
-use Rattle.pulsar_laws.proofs.LinkWords.{Addresses, Base, Becomes, Change, closed_by, Fault, IsOver, Pause, Remains, rings, Runs, Seat, Series, tells_asker, took_end, took_some}
+use Rattle.pulsar_laws.proofs.RunWords.{after, causes, Each, Entry, IsRun, joins, lost_on, notice, Options, readied, ready_notice, Then, Turned, turned, turn_notice, view, View}
+use Rattle.pulsar_laws.proofs.LinkWords.{Addresses, Base, Becomes, Change, closed_by, Fault, IsOver, Pause, rings, Runs, Seat, Series, tells_asker, took_end, took_some}
 use Rattle.pulsar_frame.specs.Frame.{front}
 use Rattle.pulsar_frame.specs.Message.{MessageValues}
 use Rattle.pulsar_requests.specs.Soonest.{has_come}
@@ -18,12 +18,12 @@ use Rattle.pulsar_session.specs.Answers.{answers}
 use Rattle.pulsar_session.specs.Link as session
 use Rattle.pulsar_session.specs.Link.{Came, came, ends, is_over, Seen, settled_by}
 use Rattle.pulsar_exchange.specs.Messages.{read}
-use Rattle.pulsar_links.specs.Alarms.{clear, is_same_alarm, moment_of}
+use Rattle.pulsar_links.specs.Alarms.{clear, is_same_alarm}
 use Rattle.pulsar_links.specs.LinkRules.{answered_by, answered_on, dropped, ended_by, ended_on, failed_at, fails_so, lost, moved_on, served_by}
 use Rattle.pulsar_links.specs.Links.{line_places, settled_in}
 use Rattle.pulsar_links.specs.Seats.{askers_left, base_turned}
 use Rattle.pulsar_producer.specs.Topic as topic
-use Rattle.pulsar_producer.specs.Topic.{cuts, cuts_ready, is_settled, left_of, stores, takes_in}
+use Rattle.pulsar_producer.specs.Topic.{cuts, is_settled, stores, takes_in}
 use Rattle.pulsar_messages.specs.Claims.{is_spent}
 use Rattle.pulsar_outgoing.specs.Storage.{Item, SingleMessage, Flush as Flush', is_nothing, is_ready, pushed}
 use Rattle.pulsar_outgoing.specs.declared.batch.Report.{Report}
@@ -103,7 +103,8 @@ abbrev BusySeen : topic.Seen → Type 0
 BusySeen x = x.is_under_way ≡ true
 
 stored_busy : (i : Item) (x : topic.Seen) → BusySeen x → BusySeen (stores i x)
-stored_busy i x h = cond_so BusySeen (is_ready (pushed i x.storage)) (cuts (record x { storage = pushed i x.storage })) (record x { storage = pushed i x.storage }) refl h
+stored_busy i x h =
+    let y : topic.Seen = record x { storage = pushed i x.storage } in cond_so BusySeen (is_ready (pushed i x.storage)) (cuts y) y refl h
 
 taken_busy : (r : Option ℕ) (t : ℕ) (x : topic.Seen) → BusySeen x → BusySeen (takes_in r t x)
 taken_busy None t x h = h

@@ -97,13 +97,11 @@ module _ (me : Who) where
     base_absent v (Dials p starter retries) key b idle h = cond_so (λ z. Within z.waiting) _ _ b h h
     base_absent v _ key b idle h = h
 
-
   -- IT HAS ASKED FOR A PLACE only so
   module _ (P : ℕ → Type 0) where
     abbrev pub Asker : Option Seat → Type 0
     Asker None = Unit {0}
     Asker (Some seat) = (place : ℕ) → seat.askers place ≡ Some me → P place
-
 
     left_free : {X : Type 0} (c : Bool) (r : Option Who) (w : Who) → (r ≡ Some w → X) → cond c None r ≡ Some w → X
     left_free true r w h e = absurd (none_some e)
@@ -158,7 +156,6 @@ module _ (me : Who) where
         by None h = tt
         by (Some seat) h = h
     begun_free _ l row h = h
-
 
   -- IT WAITS FOR A MOMENT only so
   module _ (A : Type 0) where
@@ -248,7 +245,6 @@ module _ (me : Who) where
     alarms_absent v (Answers who verdict) idle k = cond_so (Each (NotWake)) _ _ v.alarms (set_absent CheckIdle _ v.alarms refl k) k
     alarms_absent v _ idle k = k
 
-
   -- IT WAITS FOR NO CONSUMER
   abbrev pub Away : List Who → Type 0
   Away ws = In me ws → ⊥
@@ -259,7 +255,6 @@ module _ (me : Who) where
       last : In me (who ∷ []) → ⊥
       last (inl e) = other e
       last (inr j) = j
-
 
   map_seeks : (f : Member → Member) (row : Option Member) → ((m : Member) → Away m.seekers → Away (f m).seekers) →
       Away (consumer.seekers_at row) → Away (consumer.seekers_at (option_map f row))

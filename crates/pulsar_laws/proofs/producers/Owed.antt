@@ -180,8 +180,7 @@ rising_once p lo hi (x ∷ ps) r =
           (omega (arith, one, none), (λ h. absurd (omega (arith, h, low, same))), (λ h. absurd (omega (arith, h, le, same)))))
       | inr e ↦
           (let no : ◌≡◌ {A = ℕ} (cond (x.place == p) 1 0) 0 = ap (λ b. cond b 1 0) e in
-          let few = k.0 in
-          (
+          let few = k.0 in (
             omega (arith, no, few),
             (λ h. (let z : count p (places ps) ≡ 0 = k.1 (omega (arith, h, low)) in omega (arith, no, z))),
             (λ h. (let z : count p (places ps) ≡ 0 = k.2 h in omega (arith, no, z))),

@@ -5,9 +5,9 @@ use Rattle.std.proofs.lemmas.Bool.{cases_Bool, cases_lt, eqb-true}
 use Rattle.std.specs.List.{filter_map, list_any}
 use Rattle.std.specs.Map.{lookup}
 use Rattle.std.specs.Option.{option_map, option_to_list}
-use Rattle.pulsar_laws.proofs.ActWords.{Act, Action, Alarm, Answers, Ask, Batch, Call, CheckIdle, Comes, Does, Drains, End, Ends, FailConsumer, Flush, is_same, KeepAlive, LinkAct, Notice, OfTopic, opens, Outcome, PassTurn, Polls, Procedure, Producer, Reads, Rest, Retry, Revive, Rings, Shut, StopAll, Store, TakeBatch, Tell, TellAll, ToLink, turn_of, Wake, Who}
-use Rattle.pulsar_laws.proofs.PlanWords.{action_of, Batches, BuildingProducer as Build, closed_notice, Deed, Errand, News, Plan, ProducerOrder as Order, Sending as Send, told_to, Ways}
-use Rattle.pulsar_laws.proofs.RunWords.{after, causes, Each, Entry, IsRun, joins, lost_on, notice, Options, readied, ready_notice, Then, Turned, turned, turn_notice, view, View}
+use Rattle.pulsar_laws.proofs.ActWords.{Act, Alarm, Answers, Ask, Batch, Call, CheckIdle, Comes, Does, Drains, End, Ends, FailConsumer, Flush, is_same, KeepAlive, LinkAct, Notice, OfTopic, opens, PassTurn, Polls, Producer, Reads, Retry, Revive, Rings, Shut, StopAll, Store, TakeBatch, Tell, TellAll, ToLink, turn_of, Wake, Who}
+use Rattle.pulsar_laws.proofs.PlanWords.{closed_notice}
+use Rattle.pulsar_laws.proofs.RunWords.{after, causes, Each, each_map, Entry, IsRun, joins, lost_on, notice, Options, readied, ready_notice, Then, Turned, turned, turn_notice, view, View}
 use Rattle.pulsar_laws.proofs.LinkWords.{Addresses, Base, Becomes, Change, closed_by, Fault, IsOver, Pause, rings, Runs, Seat, Series, tells_asker, took_end, took_some}
 use Rattle.pulsar_frame.specs.Frame.{front}
 use Rattle.pulsar_frame.specs.Message.{MessageValues}
@@ -26,7 +26,6 @@ use Rattle.pulsar_producer.specs.Topic as topic
 use Rattle.pulsar_producer.specs.Topic.{cuts, is_settled, stores, takes_in}
 use Rattle.pulsar_messages.specs.Claims.{is_spent}
 use Rattle.pulsar_outgoing.specs.Storage.{Item, SingleMessage, Flush as Flush', is_nothing, is_ready, pushed}
-use Rattle.pulsar_outgoing.specs.declared.batch.Report.{Report}
 use Rattle.pulsar_producer_table.specs.Producers.{is_woken, numbers_at, stored_by, turn_passed}
 use Rattle.pulsar_producer_table.specs.declared.table.Topic.{Topic}
 use Rattle.pulsar_acts.specs.Reading.{heard_on}
@@ -34,8 +33,6 @@ use Rattle.pulsar_acts.specs.Rules.{failed_by, failed_on, served_on, waiters_of,
 use Rattle.pulsar_acts.specs.View.{base_on}
 use Rattle.pulsar_calls.specs.Order.{alone}
 use Rattle.pulsar_calls.specs.declared.act.Outcome.TheVariants as outcome
-use Rattle.pulsar_plans.proofs.Arcs.{Arc, BatchArc, Begun, batch_sends, batch_takes, batches_go, begins_build, begun_arc, builds_on, part_sends, sends, told_arc}
-use Rattle.pulsar_producer.proofs.Arcs.{BuildArc, SendArc, draws, naming_rests}
 use Rattle.pulsar_laws.specs.ProducerLaws.{rung_by, topic_acts}
 use Rattle.pulsar_laws.proofs.Cases.{cond_so, none_some}
 use Rattle.pulsar_laws.proofs.Lists.{each_asker, each_made}
@@ -44,12 +41,9 @@ use Rattle.pulsar_laws.proofs.calls.Whereabouts.{ApartBy, Asker, NotWake, Somewh
 use Rattle.pulsar_laws.proofs.links.OneEach.{same_key}
 use Rattle.pulsar_laws.proofs.links.Receipts.{settles_these}
 use Rattle.pulsar_laws.proofs.links.Settling.{live_rises}
-use Rattle.pulsar_laws.proofs.plans.Granted.{does_from}
-use Rattle.pulsar_laws.proofs.plans.Takers.{told_by_own}
+use Rattle.pulsar_laws.proofs.plans.Led.{tells_so}
+use Rattle.pulsar_laws.proofs.plans.Natures.{IsOfBatch, is_call}
 use Rattle.pulsar_laws.proofs.plans.Wording.{heard_words, is_worded, joins_words, lost_words}
-use Rattle.pulsar_laws.proofs.plans.Batched.{IsSettling, tells_where}
-use Rattle.pulsar_laws.proofs.producers.BatchRun.{batched_run, deed_at}
-use Rattle.pulsar_producer.specs.declared.batching.Batching.TheVariants as batching
 use Rattle.pulsar_laws.proofs.producers.Drawing.{drawn_run}
 use Rattle.pulsar_laws.proofs.producers.Owed.{all_owed, asked_owed, brings, count, is_hard, me, note, numbers_once, one_or_none, opens_owed, other_note, others_owed, owed, rising_once, soft_owed, unasked_owed, waiters_owed, words_owed}
 use Rattle.pulsar_laws.proofs.producers.Topics.{CameFrom, acts_each, all_after, row_as}
@@ -131,77 +125,18 @@ NoTake n a = (who : Who) → a ≡ Does who (OfTopic n TakeBatch) → ⊥
 
 -- WHO TELLS ANOTHER tells a call
 
-abbrev is_call : Who → Bool
-is_call (Call t) = true
-is_call _ = false
-
-abbrev tells_call : Action → Bool
-tells_call (Tell m) = is_call m.who
-tells_call _ = true
-
-send_calls : {w : Ways} {e : Errand} {s q : Send} {y : News} {d : Deed} → SendArc w e s y q d → tells_call (action_of d) ≡ true
-send_calls draws = refl
-send_calls _ = refl
-
-build_calls : {w : Ways} {o : Order} {b q : Build} {y : News} {d : Deed} → BuildArc w o b y q d → tells_call (action_of d) ≡ true
-build_calls naming_rests = refl
-build_calls _ = refl
-
-batch_calls : {w : Ways} {e : Errand} {b q : Batches} {y : News} {d : Deed} → BatchArc w e b y q d → tells_call (action_of d) ≡ true
-batch_calls (batch_sends k) = send_calls k
-batch_calls batch_takes = refl
-batch_calls _ = refl
-
-arc_calls : {p q : Plan} {u : Outcome} {a : Action} → Arc p u q a → tells_call a ≡ true
-arc_calls (builds_on d k) = build_calls k
-arc_calls (sends d k) = send_calls k
-arc_calls (part_sends d k b) = send_calls k
-arc_calls (batches_go d k) = batch_calls k
-arc_calls _ = refl
-
-begun_calls : {p : Procedure} {q : Plan} {a : Action} → Begun p q a → tells_call a ≡ true
-begun_calls begins_build = refl
-begun_calls _ = refl
-
-tell_calls : (o : Options) (log : List Entry) (who : Who) (m : Notice) → IsRun o (Then (Does who (Tell m)) ∷ log) → is_call m.who ≡ true
-tell_calls o log who m run = elim (does_from o log who (Tell m) run) [
-  | inl b ↦ begun_calls {p = b.procedure} (begun_arc b.leads)
-  | inr l ↦ arc_calls {p = l.before} {u = l.outcome} (told_arc l.leads)
-]
-
 abbrev ToOther : ℕ → Notice → Type 0
 ToOther n m = is_same (me n) m.who ≡ false
 
-abbrev notices_in : List Notice → Action → List Notice
-notices_in ns (TellAll ms) = ms
-notices_in ns _ = ns
+to_call : (n : ℕ) (w : Who) → is_call w ≡ true → is_same (me n) w ≡ false
+to_call n (Call t) h = refl
+to_call n w h = absurd cc
 
 pub tell_others : (o : Options) (log : List Entry) (n : ℕ) (who : Who) (m : Notice) → IsRun o (Then (Does who (Tell m)) ∷ log) → ToOther n m
-tell_others o log n who m run = by m.who (tell_calls o log who m run)
-  where
-    by : (w : Who) → is_call w ≡ true → is_same (me n) w ≡ false
-    by (Call t) h = refl
-    by w h = absurd cc
+tell_others o log n who m run = to_call n m.who (tells_so o log who (Tell m) run).0
 
 pub all_others : (o : Options) (log : List Entry) (n : ℕ) (who : Who) (ns : List Notice) → IsRun o (Then (Does who (TellAll ns)) ∷ log) → Each (ToOther n) ns
-all_others o log n who ns run =
-    let k = told_by_own o log who ns run in
-    let r : IsRun o (Then (Does (Producer k.0) (TellAll ns)) ∷ log) = subst (λ (w : Who). IsRun o (Then (Does w (TellAll ns)) ∷ log)) k.1 run in
-    elim (deed_at o log k.0 (TellAll ns) r (batched_run o log r.0)) [
-      | inl d ↦
-          settled d.was.ways d.was.errand d.was.state d.outcome (tells_where d.was.ways d.was.errand d.was.state d.outcome d.state ns d.step).1
-      | inr e ↦ (let f : TellAll ns ≡ Rest = e in absurd cc)
-    ]
-  where
-    reported : (rs : List Report) → TellAll ns ≡ TellAll (map told_to rs) → Each (ToOther n) ns
-    reported rs e = subst (Each (ToOther n)) (sym (ap (notices_in ns) e)) (each_made (ToOther n) told_to (λ r. refl) rs)
-
-    settled : (w : Ways) (e : Errand) (b : Batches) (u : Outcome) → IsSettling w e (TellAll ns) b u → Each (ToOther n) ns
-    settled w e batching.Resting u k = absurd k
-    settled w e batching.Taking u k = reported _ k.4
-    settled w e (batching.Sending ms c s) u (inl k) = reported _ k.1
-    settled w e (batching.Sending ms c s) u (inr k) = reported _ k.2
-    settled w e batching.Settling u k = absurd k
+all_others o log n who ns run = each_map IsOfBatch (ToOther n) ns (λ m k. to_call n m.who k.0) (tells_so o log who (TellAll ns) run)
 
 abbrev pub is_stop : Act → Bool
 is_stop (Does who StopAll) = true
@@ -305,15 +240,15 @@ module _ (n : ℕ) where
       (owed n (ended_on end now (Some seat)) ≡ 0) ⊎ ((owed n (ended_on end now (Some seat)) ≤ 1) × NoAsker (took_some (Ends end) now (Some seat)))
   ended_one end p now seat rises h = elim (closed_by end now seat.seen) as (λ c. (owed n (ended_by end now c seat) ≡ 0)
       ⊎ ((owed n (ended_by end now c seat) ≤ 1) × NoAsker (took_end c seat))) [
-    | None ↦ inl refl
-    | Some cause ↦
-        (let a = asked_owed n (lost end now seat.seen) seat.askers p h (ends seat.seen) in
-        let b = asked_owed n (λ q. dropped end) seat.askers p h (line_places seat.seen) in
-        let s = sum_append (note n) (filter_map (tells_asker (lost end now seat.seen) seat.askers) (ends seat.seen))
-        (filter_map (tells_asker (λ q. dropped end) seat.askers) (line_places seat.seen)) in
-        let k = once_placed p seat.seen rises in
-        inr (omega (arith, a, b, s, k), tt))
-  ]
+        | None ↦ inl refl
+        | Some cause ↦
+            (let a = asked_owed n (lost end now seat.seen) seat.askers p h (ends seat.seen) in
+            let b = asked_owed n (λ q. dropped end) seat.askers p h (line_places seat.seen) in
+            let s = sum_append (note n) (filter_map (tells_asker (lost end now seat.seen) seat.askers) (ends seat.seen))
+            (filter_map (tells_asker (λ q. dropped end) seat.askers) (line_places seat.seen)) in
+            let k = once_placed p seat.seen rises in
+            inr (omega (arith, a, b, s, k), tt))
+      ]
 
   -- addresses
   served_few : (t : Turned) (b : Base) → owed n (served_on t b) ≤ times (me n) b.waiting
@@ -482,14 +417,18 @@ module _ (o : Options) (n : ℕ) (log : List Entry) where
             let few : owed n as' ≤ 1 = y.0 in
             let t = total in
             let there = still (OnLink j p) comes run (λ w e. absurd cc) tt k in
-            inr (omega (arith, w, few, t), refl, record {
-              place = record {
-                base = there.place.base;
-                asker = λ i. at i e y.1 (i == l) refl;
-                alarm = there.place.alarm;
-              };
-              row = there.row;
-            }))
+            inr (
+              omega (arith, w, few, t),
+              refl,
+              record {
+                place = record {
+                  base = there.place.base;
+                  asker = λ i. at i e y.1 (i == l) refl;
+                  alarm = there.place.alarm;
+                };
+                row = there.row;
+              },
+            ))
       ]
     ]
       where
@@ -506,10 +445,14 @@ module _ (o : Options) (n : ℕ) (log : List Entry) where
           let few : owed n ws ≤ 1 = y.0 in
           let t = total in
           let there = still (AtBase key) comes run (λ w e. absurd cc) tt k in
-          inr (omega (arith, a, few, t), refl, record {
-            place = record { base = y.1; asker = there.place.asker; alarm = there.place.alarm };
-            row = there.row;
-          }))
+          inr (
+            omega (arith, a, few, t),
+            refl,
+            record {
+              place = record { base = y.1; asker = there.place.asker; alarm = there.place.alarm };
+              row = there.row;
+            },
+          ))
     ]
     linked Nowhere k = silent Nowhere (none (k.place.asker l)) (idle k.place.base)
     linked AtMoment k = silent AtMoment (none (k.place.asker l)) (idle k.place.base)

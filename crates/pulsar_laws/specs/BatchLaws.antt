@@ -26,7 +26,9 @@ use Rattle.pulsar_outgoing.specs.declared.news.News.TheVariants as news
 use Rattle.pulsar_outgoing.specs.declared.orders.Errand.{Errand}
 use Rattle.pulsar_outgoing.specs.declared.orders.ProducerOrder.{ProducerOrder}
 use Rattle.pulsar_calls.specs.declared.act.Act.TheVariants.{Answers, Comes, Starts, Told, Does}
-use Rattle.pulsar_calls.specs.declared.act.Action.TheVariants.{OfTopic, Ask, Shut, TellAll}
+use Rattle.pulsar_calls.specs.declared.act.Action.{Action}
+use Rattle.pulsar_calls.specs.declared.act.Action.TheVariants.{OfTopic, Ask, Get, Shut, TellAll, Wait}
+use Rattle.pulsar_calls.specs.declared.act.Alarm.TheVariants.{Wake}
 use Rattle.pulsar_calls.specs.declared.act.TopicAsk.TheVariants.{Store, TakeBatch}
 use Rattle.pulsar_calls.specs.declared.act.Makes.TheVariants.{Nothing}
 use Rattle.pulsar_calls.specs.declared.act.Notice.{Notice}
@@ -47,6 +49,9 @@ use Rattle.pulsar_laws.specs.ProducerLaws.{acts_on, asks_in, is_queued, queued_t
 use Rattle.pulsar_producer_table.specs.Producers.{is_bare, next_batch_at, numbers_at, stored_at, timeout_at}
 use Rattle.pulsar_acts.specs.Rules.{call_part, notice, ready_notice}
 use Rattle.pulsar_acts.specs.Run.{Entry, Then, IsRun, Rests, view}
+use Rattle.pulsar_acts.specs.View.{View}
+use Rattle.pulsar_links.specs.Alarms.{moment_of}
+use Rattle.pulsar_links.specs.Seats.{Seat}
 use Rattle.pulsar_machine.specs.Options.{Options}
 use Rattle.pulsar_calls.specs.Who.{behind_all, is_same}
 
@@ -73,6 +78,26 @@ MayTake n log =
 abbrev pub BatchesOneByOne : Type 0
 BatchesOneByOne = (o : Options) (log : List Entry) (n m : ℕ) → IsRun o (Then (Does (Producer n) (OfTopic m TakeBatch)) ∷ log) →
     (m ≡ n) × (under_way o n log ≡ None) × MayTake n log
+
+-- ONE THING AT A TIME
+
+-- it waits for no reply, for the link of no address, and for no moment
+abbrev pub WaitsForNothing : Who → View → Type 0
+WaitsForNothing who v =
+    ((l place : ℕ) (seat : Seat) → v.links.live l ≡ Some seat → seat.askers place ≡ Some who → ⊥)
+    × ((key : List ℕ) → In who (v.addresses.base key).waiting → ⊥) × (moment_of (Wake who) v.alarms ≡ None)
+
+-- what comes from others, or with time
+abbrev pub asks_others : Action → Bool
+asks_others (Get p) = true
+asks_others (Ask l request) = true
+asks_others (Wait delay) = true
+asks_others _ = false
+
+-- A topic producer waits for one thing at a time: as it asks for something it waits for nothing else.
+abbrev pub OneThingAtATime : Type 0
+OneThingAtATime = (o : Options) (log : List Entry) (n : ℕ) (a : Action) → IsRun o (Then (Does (Producer n) a) ∷ log) → asks_others a ≡ true →
+    WaitsForNothing (Producer n) (view o log)
 
 -- WHAT BECOMES OF A BATCH
 

@@ -1,12 +1,11 @@
 -- One that does nothing but to store and to tell waits for no link, request or moment. One that does nothing at all is told only what parts of
 -- calls say.
-use Rattle.std.proofs.Common.{◌≡◌, ◌⊎◌, inl, inr, ◌∙◌, sym, ap, subst, ℕ, ◌≤◌, ◌==◌, arith, List, [], ◌∷◌, refl, Bool, true, false, cond, not, Option, Some, None}
+use Rattle.std.proofs.Common.{◌≡◌, ◌⊎◌, inl, inr, ◌∙◌, sym, ap, subst, ℕ, ◌≤◌, ◌==◌, arith, List, [], ◌∷◌, refl, Bool, true, false, not, Option, Some, None}
 use Rattle.std.proofs.lemmas.Bool.{cases_Bool}
-use Rattle.std.specs.Map.{lookup}
 use Rattle.std.specs.Option.{option_map}
-use Rattle.pulsar_laws.proofs.ActWords.{Act, Action, Alarm, Ask, Call, Consumer, Does, Draw, Find, FindConsumer, Flush, Get, Number, OfTopic, Outcome, Producer, Recall, RecallConsumer, Rest, Store, TakeNumber, TakeTurn, Tell, TellAll, Told, Wait, Wake, Who, Word, is_same, ticket_of, turn_of}
+use Rattle.pulsar_laws.proofs.ActWords.{Act, Action, Ask, Call, Consumer, Does, Draw, Find, FindConsumer, Flush, Get, Number, OfTopic, Outcome, Producer, Recall, RecallConsumer, Rest, Store, TakeNumber, TakeTurn, Tell, TellAll, Told, Wait, Who, Word, is_same, ticket_of, turn_of}
 use Rattle.pulsar_laws.proofs.PlanWords.{News}
-use Rattle.pulsar_laws.proofs.RunWords.{Begins, begun_same, Cause, counted, Each, Entry, In, InThisStep, IsRun, notice, Options, start_of, Then, view, View}
+use Rattle.pulsar_laws.proofs.RunWords.{Begins, begun_same, Cause, counted, Entry, In, InThisStep, IsRun, notice, Options, start_of, Then, view, View}
 use Rattle.pulsar_laws.proofs.LinkWords.{Exhausted, Failure, Fault, Place, Seat, Words}
 use Rattle.pulsar_wire.specs.Failures.{Disconnected}
 use Rattle.pulsar_messages.specs.Claims.{is_spent}
@@ -16,7 +15,6 @@ use Rattle.pulsar_requests.specs.Soonest.{has_come}
 use Rattle.pulsar_calls.specs.declared.act.Outcome.TheVariants as outcome
 use Rattle.pulsar_calls.specs.declared.act.Procedure.TheVariants as procedure
 use Rattle.pulsar_producer_table.specs.declared.table.Topic.{Topic}
-use Rattle.pulsar_links.specs.Alarms.{is_same_alarm, moment_of}
 use Rattle.pulsar_laws.proofs.Lists.{in_each}
 use Rattle.pulsar_laws.proofs.Cases.{none_some}
 use Rattle.pulsar_laws.proofs.calls.Causes.{IsToldBy}
@@ -29,7 +27,7 @@ use Rattle.pulsar_laws.proofs.calls.Gathered.{GatherTold}
 use Rattle.pulsar_laws.proofs.plans.Granted.{tell_said}
 use Rattle.pulsar_laws.proofs.calls.Once.{ends_once_lem}
 use Rattle.pulsar_laws.proofs.calls.Sources.{step_some}
-use Rattle.pulsar_laws.proofs.calls.Whereabouts.{ApartBy, Asker, Away, NoFind, NotWake, Somewhere, begun_there, goes_nowhere, seekers_absent, then_there, times}
+use Rattle.pulsar_laws.proofs.calls.Whereabouts.{ApartBy, Asker, Away, NoFind, Somewhere, begun_there, goes_nowhere, moment_none, not_among, seekers_absent, then_there}
 use Rattle.pulsar_laws.proofs.plans.Spots.{same_self}
 use Rattle.pulsar_laws.proofs.calls.Begun.{has_begun}
 use Rattle.pulsar_laws.proofs.producers.Users.{DoesSo, LogSo, NoticeSo, stored_so, tells_so, waits_so}
@@ -119,13 +117,6 @@ absent_run o t (Then a ∷ log) idle =
       seeker = λ u. seekers_absent (Call t) (view o log) a u (idle_finds t a idle.0) (k.seeker u);
     }
 
-not_among : (t : ℕ) (ws : List Who) → times (Call t) ws ≤ 0 → In (Call t) ws → ⊥
-not_among t (w ∷ ws) h (inl e) =
-    let one : ◌≡◌ {A = ℕ} (cond (is_same (Call t) w) 1 0) 1 = ap (λ x. cond (is_same (Call t) x) 1 0) (sym e) ∙ ap (λ b. cond b 1 0) (same_self (Call t)) in
-    absurd (omega (arith, h, one))
-not_among t (w ∷ ws) h (inr i) = not_among t ws (omega (arith, h)) i
-not_among t [] h i = i
-
 -- TURNS AND BATCHES
 
 -- what it takes, stores or flushes has not its ticket
@@ -181,13 +172,6 @@ passed_waits ticket version (Some row) h = (row, refl, by row.seen.waiting h)
     by (w ∷ ws) e = inl (let f : with_version row.seen.given.version w ≡ with_version version ticket = cc in sym (ap (λ x. x.0) f))
 
 -- WHAT IT IS TOLD
-
-moment_none : (t : ℕ) (es : List (Alarm × ℕ)) → Each (NotWake (Call t) ⊥) es → moment_of (Wake (Call t)) es ≡ None
-moment_none t [] k = refl
-moment_none t (e ∷ es) k = elim (cases_Bool (is_same_alarm (Wake (Call t)) e.0)) [
-  | inl y ↦ absurd (k.0 y)
-  | inr y ↦ ap (λ b. cond b (Some e.1) (lookup (is_same_alarm (Wake (Call t))) es)) y ∙ moment_none t es k.1
-]
 
 no_grant : (n : News) (v : View) → GrantsSo n Rest v → ⊥
 no_grant (news.HasTurn version) v h = h
@@ -293,10 +277,10 @@ module _ (o : Options) (t : ℕ) (e : Entry) (older : List Entry) (idle : Idle t
   no_asker l place seat live h = (subst (Asker (Call t) (λ p. ⊥)) live (absent.place.asker l)) place h
 
   no_ready : (l : ℕ) → BecomesReady o (Call t) l e older → ⊥
-  no_ready l (seat, is, live, a, i) = not_among t _ (absent.place.base _) i
+  no_ready l (seat, is, live, a, i) = not_among (Call t) _ (absent.place.base _) i
 
   no_attempt : (u : Outcome) → AttemptEnds o (Call t) u e older → ⊥
-  no_attempt u (l, end, cause, seat, is, live, c, (starter, retries, link, s, p, i, d)) = not_among t _ (absent.place.base _) i
+  no_attempt u (l, end, cause, seat, is, live, c, (starter, retries, link, s, p, i, d)) = not_among (Call t) _ (absent.place.base _) i
 
   no_request : (u : Outcome) → RequestEnds o (Call t) u e older → ⊥
   no_request u (l, end, cause, seat, is, live, c, (place, i, asker, d)) = no_asker l place seat live asker
@@ -311,7 +295,7 @@ module _ (o : Options) (t : ℕ) (e : Entry) (older : List Entry) (idle : Idle t
   no_reply r (l, seat, places, m, place, is, live, c, i, asker, d) = no_asker l place seat live asker
 
   no_wake : IsWoken o (Call t) e older → ⊥
-  no_wake (is, r) = let f : false ≡ true = sym (ap (has_come v.now) (moment_none t v.alarms absent.place.alarm)) ∙ r in cc
+  no_wake (is, r) = let f : false ≡ true = sym (ap (has_come v.now) (moment_none (Call t) v.alarms absent.place.alarm)) ∙ r in cc
 
   pub no_batch : (n : News) → IsReady o (Call t) n e older → ⊥
   no_batch n k = let f : Call t ≡ Producer k.0 = k.2 in cc

@@ -3,6 +3,7 @@
 use Rattle.std.proofs.Common.{◌≡◌, ◌+◌, ◌≤◌, ap, arith, inl, inr, ◌∙◌, sym, subst, ℕ, List, [], ◌∷◌, refl, Bool, true, false, cond, not, Option, Some, None, ◌++◌, ◌==◌}
 use Rattle.std.proofs.lemmas.Bool.{cases_Bool}
 use Rattle.std.specs.BTreeMap.{insert_entry}
+use Rattle.std.specs.Map.{lookup}
 use Rattle.std.specs.Option.{option_map}
 use Rattle.std.specs.Ordering.{match_ordering}
 use Rattle.std.specs.declared.cmp.Ordering.{Ordering}
@@ -13,7 +14,7 @@ use Rattle.pulsar_laws.proofs.LinkWords.{Addresses, arrival_at, Base, Becomes, C
 use Rattle.pulsar_producer.specs.Topic as topic
 use Rattle.pulsar_producer.specs.Topic.{Act as TopicAct}
 use Rattle.pulsar_producer_table.specs.declared.table.Topic.{Topic}
-use Rattle.pulsar_links.specs.Alarms.{alarm_cmp, clear, is_same_alarm, set}
+use Rattle.pulsar_links.specs.Alarms.{alarm_cmp, clear, is_same_alarm, moment_of, set}
 use Rattle.pulsar_laws.proofs.Lists.{in_append}
 use Rattle.pulsar_laws.proofs.Cases.{cond_so, none_some}
 use Rattle.pulsar_producer_table.specs.Producers.{is_bare, numbers_at, timeout_at, topic_after}
@@ -56,6 +57,13 @@ module _ (me : Who) where
   -- how often it is among these
   abbrev pub times : List Who → ℕ
   times ws = sum (λ w. cond (is_same me w) 1 0) ws
+
+  pub not_among : (ws : List Who) → times ws ≤ 0 → In me ws → ⊥
+  not_among (w ∷ ws) h (inl e) =
+      let one : ◌≡◌ {A = ℕ} (cond (is_same me w) 1 0) 1 = ap (λ x. cond (is_same me x) 1 0) (sym e) ∙ ap (λ b. cond b 1 0) (same_self me) in
+      absurd (omega (arith, h, one))
+  not_among (w ∷ ws) h (inr i) = not_among ws (omega (arith, h)) i
+  not_among [] h i = i
 
   -- IT IS AMONG THESE so often at most
   module _ (most : ℕ) where
@@ -244,6 +252,13 @@ module _ (me : Who) where
     alarms_absent v (Does who StopAll) idle k = tt
     alarms_absent v (Answers who verdict) idle k = cond_so (Each (NotWake)) _ _ v.alarms (set_absent CheckIdle _ v.alarms refl k) k
     alarms_absent v _ idle k = k
+
+  pub moment_none : (es : List (Alarm × ℕ)) → Each (NotWake ⊥) es → moment_of (Wake me) es ≡ None
+  moment_none [] k = refl
+  moment_none (e ∷ es) k = elim (cases_Bool (is_same_alarm (Wake me) e.0)) [
+    | inl y ↦ absurd (k.0 y)
+    | inr y ↦ ap (λ b. cond b (Some e.1) (lookup (is_same_alarm (Wake me)) es)) y ∙ moment_none es k.1
+  ]
 
   -- IT WAITS FOR NO CONSUMER
   abbrev pub Away : List Who → Type 0

@@ -37,11 +37,13 @@ use Rattle.pulsar_calls.specs.declared.act.Outcome.TheVariants as outcome
 use Rattle.pulsar_client.proofs.Raising.{IsRaised, raises}
 use Rattle.pulsar_plans.proofs.Arcs.{Arc, BatchArc, StaysSo, batch_sends, batch_takes, batches_go, told_arc}
 use Rattle.pulsar_producer.proofs.Arcs.{SendArc, asks, draws, looked_makes, looks_on_asks, looks_on_gets, looks_on_waits, makes_on_asks, makes_on_gets, makes_on_waits, recalled_looks_asks, recalled_looks_gets, recalled_looks_waits, recalled_makes}
+use Rattle.pulsar_laws.specs.BatchLaws.{OneThingAtATime, asks_others}
+use Rattle.pulsar_laws.proofs.calls.Stopping.{never_asks}
 use Rattle.pulsar_laws.specs.Laws.{IsServedAs, SaysSo, WordComes, stopped}
 use Rattle.pulsar_laws.proofs.calls.Causes.{IsToldBy}
 use Rattle.pulsar_laws.proofs.Cases.{none_some, some_is}
 use Rattle.pulsar_laws.proofs.calls.Same.{same_self, same_who}
-use Rattle.pulsar_laws.proofs.calls.Whereabouts.{ApartBy, Asker, NoFind, NotWake, begun_there, goes_nowhere, got_free, seekers_absent, times}
+use Rattle.pulsar_laws.proofs.calls.Whereabouts.{ApartBy, Asker, NoFind, NotWake, begun_there, goes_nowhere, got_free, moment_none, not_among, seekers_absent, times}
 use Rattle.pulsar_laws.proofs.Lists.{in_each}
 use Rattle.pulsar_laws.proofs.calls.Caused.{outcomes_are_caused_lem}
 use Rattle.pulsar_laws.proofs.calls.Sources.{step_runs, step_some}
@@ -1082,3 +1084,26 @@ module _ (n : ℕ) where
           head = tt;
         }
     single_run (Then a ∷ log) run h = let g = going a log h in single_then log (single_run log run.0 g.1) a run g.0
+
+-- THE LAW
+
+asks_out : (n : ℕ) (a : Action) → asks_others a ≡ true → (goes_nowhere a ≡ false) × (is_stop (Does (me n) a) ≡ false) × (is_passing a ≡ false)
+asks_out n (Get p) h = (refl, refl, refl)
+asks_out n (Ask l request) h = (refl, refl, refl)
+asks_out n (Wait delay) h = (refl, refl, refl)
+asks_out n _ h = absurd cc
+
+pub one_thing_at_a_time_lem : OneThingAtATime
+one_thing_at_a_time_lem o log n a run h =
+    let out = asks_out n a h in
+    elim (cases_Bool (stopped log)) [
+      | inl e ↦ (let f : true ≡ false = sym (never_asks o log (me n) a run e) ∙ out.0 in absurd cc)
+      | inr e ↦
+          (let k = single_run n o log run.0 e in
+          let at = nowhere n o log k a run out.1 (does_clear n o log k a run out.1 out.2) in
+          let place = at.place in (
+            (λ l p seat live i. subst (Asker (me n) (λ q. ⊥)) live (place.asker l) p i),
+            (λ key i. not_among (me n) _ (place.base key) i),
+            moment_none (me n) (view o log).alarms place.alarm,
+          ))
+    ]

@@ -698,7 +698,7 @@ never_asks o log w a run h =
     let g = agenda o log in
     elim (last_first (view o log).stand g.now g.here g.behind g.parts (Does w a) k.now k.here k.behind run.1) [
       | inl is ↦ (let f : false ≡ true = is in absurd cc)
-      | inr q ↦ elim q [ | inl p ↦ by a p | inr c ↦ (let f : Does w a ≡ Comes c.part = c.is_it in absurd cc) ]
+      | inr q ↦ elim q [ inl p ↦ by a p | inr c ↦ (let f : Does w a ≡ Comes c.part = c.is_it in absurd cc) ]
     ]
   where
     by : (a : Action) → IsParting (view o log).stand (Does w a) → goes_nowhere a ≡ true

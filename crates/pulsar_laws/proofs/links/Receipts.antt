@@ -366,7 +366,7 @@ acts_begun o older t action run = elim (does_from o older (Call t) action run) [
 ]
 
 -- an entry of this step, with those before it
-pub in_step : (P : Entry → List Entry → Type 0) (log : List Entry) → InThisStep P log →
+in_step : (P : Entry → List Entry → Type 0) (log : List Entry) → InThisStep P log →
     (e : Entry) × (older : List Entry) × P e older × ((x : Entry) → In x older → In x log)
 in_step P [] h = absurd h
 in_step P (Begins e ∷ log) h = (Begins e, log, h, λ x i. inr i)

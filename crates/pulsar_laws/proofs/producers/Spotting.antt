@@ -353,7 +353,7 @@ module _ (o : Options) (n : ℕ) (log : List Entry) where
   abbrev pub Gone : Act → Spot → Type 0
   Gone a s = (brings n v a ≡ 0) ⊎ ((brings n v a ≤ 1) × (out s ≡ 1) × IsAt n Nowhere (after a v))
 
-  pub row_busy : (a : Act) → IsRun o (Then a ∷ log) → NoTake n a → is_busy (v.producers.topics n) ≡ true →
+  row_busy : (a : Act) → IsRun o (Then a ∷ log) → NoTake n a → is_busy (v.producers.topics n) ≡ true →
       is_busy ((after a v).producers.topics n) ≡ true
   row_busy a run plain b = by (v.producers.topics n) refl b
     where

@@ -19,7 +19,7 @@ use Rattle.pulsar_session.specs.Link as session
 use Rattle.pulsar_session.specs.Link.{Came, came, ends, is_over, Seen, settled_by}
 use Rattle.pulsar_exchange.specs.Messages.{read}
 use Rattle.pulsar_links.specs.Alarms.{clear, is_same_alarm}
-use Rattle.pulsar_links.specs.LinkRules.{answered_by, answered_on, dropped, ended_by, ended_on, failed_at, fails_so, lost, moved_on, served_by}
+use Rattle.pulsar_links.specs.LinkRules.{answered_by, answered_on, dropped, ended_by, ended_on, fails_so, lost, moved_on, served_by}
 use Rattle.pulsar_links.specs.Links.{line_places, settled_in}
 use Rattle.pulsar_links.specs.Seats.{askers_left, base_turned}
 use Rattle.pulsar_producer.specs.Topic as topic
@@ -250,67 +250,54 @@ module _ (n : ℕ) where
             inr (omega (arith, a, b, s, k), tt))
       ]
 
-  -- addresses
-  served_few : (t : Turned) (b : Base) → owed n (served_on t b) ≤ times (me n) b.waiting
-  served_few t b = by t.change
-    where
-      by : (c : Change) → owed n (served_by t.link c b.waiting) ≤ times (me n) b.waiting
-      by Becomes = waiters_owed n (λ w. outcome.GotLink t.link) b.waiting
-      by _ = omega arith
+  -- addresses: those who wait for one are told nothing, or wait no longer
+  abbrev Turns : (Turned → Base → List Notice) → Type 0
+  Turns g = (t : Turned) (b : Base) → (owed n (g t b) ≡ 0)
+      ⊎ ((owed n (g t b) ≤ times (me n) b.waiting) × ((x : Base) → times (me n) (base_turned t.link t.change t.pause x).waiting ≡ 0))
 
-  abbrev Turns : (Turned → Base → List Notice) → Turned → Type 0
-  Turns g t = (b : Base) → (owed n (g t b) ≡ 0) ⊎ ((x : Base) → times (me n) (base_turned t.link t.change t.pause x).waiting ≡ 0)
-
-  served_turns : (t : Turned) → Turns served_on t
+  served_turns : Turns served_on
   served_turns t b = by t.change
     where
-      by : (c : Change) → (owed n (served_by t.link c b.waiting) ≡ 0) ⊎ ((x : Base) → times (me n) (base_turned t.link c t.pause x).waiting ≡ 0)
-      by Becomes = inr (λ x. refl)
+      by : (c : Change) → (owed n (served_by t.link c b.waiting) ≡ 0)
+          ⊎ ((owed n (served_by t.link c b.waiting) ≤ times (me n) b.waiting)
+          × ((x : Base) → times (me n) (base_turned t.link c t.pause x).waiting ≡ 0))
+      by Becomes = inr (waiters_owed n (λ w. outcome.GotLink t.link) b.waiting, (λ x. refl))
       by _ = inl refl
 
-  failed_few : (end : End) (t : Turned) (b : Base) → owed n (failed_on end t b) ≤ times (me n) b.waiting
-  failed_few end t b = by t.change t.pause b.series
+  failed_turns : (end : End) → Turns (failed_on end)
+  failed_turns end t b = by t.change t.pause b.series
     where
-      series : (s : Series) → owed n (failed_at end s b.waiting) ≤ times (me n) b.waiting
-      series (Runs starter retries l) = waiters_owed n (λ w. fails_so end (is_same w starter)) b.waiting
-      series _ = omega arith
+      by : (c : Change) (p : Option Pause) (s : Series) → (owed n (failed_by end c p (record { series = s; waiting = b.waiting })) ≡ 0)
+          ⊎ ((owed n (failed_by end c p (record { series = s; waiting = b.waiting })) ≤ times (me n) b.waiting)
+          × ((x : Base) → times (me n) (base_turned t.link c p x).waiting ≡ 0))
+      by IsOver None (Runs starter retries l) = inr (waiters_owed n (λ w. fails_so end (is_same w starter)) b.waiting, (λ x. refl))
+      by IsOver None _ = inl refl
+      by IsOver (Some p) s = inl refl
+      by _ p s = inl refl
 
-      by : (c : Change) (p : Option Pause) (s : Series) → owed n (failed_by end c p (record { series = s; waiting = b.waiting })) ≤ times (me n) b.waiting
-      by IsOver None s = series s
-      by IsOver (Some p) s = omega arith
-      by _ p s = omega arith
-
-  failed_turns : (end : End) (t : Turned) → Turns (failed_on end) t
-  failed_turns end t b = by t.change t.pause
-    where
-      by : (c : Change) (p : Option Pause) →
-          (owed n (failed_by end c p b) ≡ 0) ⊎ ((x : Base) → times (me n) (base_turned t.link c p x).waiting ≡ 0)
-      by IsOver None = inr (λ x. refl)
-      by IsOver (Some p) = inl refl
-      by _ p = inl refl
-
-  module _ (known : Addresses) (g : Turned → Base → List Notice) (few : (t : Turned) (b : Base) → owed n (g t b) ≤ times (me n) b.waiting)
-      (turns : (t : Turned) → Turns g t) where
+  module _ (known : Addresses) (g : Turned → Base → List Notice) (turns : Turns g) where
     base_none : ((key : List ℕ) → times (me n) (known.base key).waiting ≤ 0) → (r : Option Turned) → owed n (waiters_of g known r) ≡ 0
     base_none none None = refl
-    base_none none (Some t) = let a = few t (known.base t.key) in let b = none t.key in omega (arith, a, b)
+    base_none none (Some t) = elim (turns t (known.base t.key)) [
+      | inl z ↦ z
+      | inr y ↦ (let a = y.0 in let b = none t.key in omega (arith, a, b))
+    ]
 
     base_one : (k : List ℕ) → ((key : List ℕ) → times (me n) (known.base key).waiting ≤ at_base (AtBase k) key) → (r : Option Turned) →
         (owed n (waiters_of g known r) ≡ 0)
         ⊎ ((owed n (waiters_of g known r) ≤ 1) × ((key : List ℕ) → times (me n) (base_on r key (known.base key)).waiting ≤ 0))
     base_one k at None = inl refl
-    base_one k at (Some t) =
-        let a = few t (known.base t.key) in
-        let b : times (me n) (known.base t.key).waiting ≤ cond (bytes_eq k t.key) 1 0 = at t.key in
-        elim (cases_Bool (bytes_eq k t.key)) [
-          | inl e ↦ elim (turns t (known.base t.key)) [
-            | inl z ↦ inl z
-            | inr c ↦
-                (let one = one_or_none (bytes_eq k t.key) in
-                inr (omega (arith, a, b, one), (λ key. gone e c key (bytes_eq t.key key) refl)))
-          ]
-          | inr e ↦ (let z : ◌≡◌ {A = ℕ} (cond (bytes_eq k t.key) 1 0) 0 = ap (λ x. cond x 1 0) e in inl (omega (arith, a, b, z)))
-        ]
+    base_one k at (Some t) = elim (turns t (known.base t.key)) [
+      | inl z ↦ inl z
+      | inr y ↦
+          (let a = y.0 in
+          let b : times (me n) (known.base t.key).waiting ≤ cond (bytes_eq k t.key) 1 0 = at t.key in
+          elim (cases_Bool (bytes_eq k t.key)) [
+            | inl e ↦
+                (let one = one_or_none (bytes_eq k t.key) in inr (omega (arith, a, b, one), (λ key. gone e y.1 key (bytes_eq t.key key) refl)))
+            | inr e ↦ (let z : ◌≡◌ {A = ℕ} (cond (bytes_eq k t.key) 1 0) 0 = ap (λ x. cond x 1 0) e in inl (omega (arith, a, b, z)))
+          ])
+    ]
       where
         gone : bytes_eq k t.key ≡ true → ((x : Base) → times (me n) (base_turned t.link t.change t.pause x).waiting ≡ 0) → (key : List ℕ) (c : Bool) →
             bytes_eq t.key key ≡ c → times (me n) (cond c (base_turned t.link t.change t.pause (known.base key)) (known.base key)).waiting ≤ 0
@@ -462,8 +449,8 @@ module _ (o : Options) (n : ℕ) (log : List Entry) where
   reads l run =
       linked l Reads run (answered_on (v.links.live l)) (waiters_of served_on v.addresses (turned v (Comes (ToLink l Reads)))) (heard_on v l) refl
       (words_owed n (heard_on v l) (heard_words v l)) (answered_none n (v.links.live l)) (by (v.links.live l) refl)
-      (λ k. base_none n v.addresses served_on (served_few n) (served_turns n) k (turned v (Comes (ToLink l Reads))))
-      (λ key k. base_one n v.addresses served_on (served_few n) (served_turns n) key k (turned v (Comes (ToLink l Reads))))
+      (λ k. base_none n v.addresses served_on (served_turns n) k (turned v (Comes (ToLink l Reads))))
+      (λ key k. base_one n v.addresses served_on (served_turns n) key k (turned v (Comes (ToLink l Reads))))
     where
       by : (row : Option Seat) → v.links.live l ≡ row → (p : ℕ) → OneAsker n p row →
           (owed n (answered_on row) ≡ 0) ⊎ ((owed n (answered_on row) ≤ 1) × NoAsker n (took_some Reads v.now row))
@@ -474,8 +461,8 @@ module _ (o : Options) (n : ℕ) (log : List Entry) where
   ended l end run =
       linked l (Ends end) run (ended_on end v.now (v.links.live l)) (waiters_of (failed_on end) v.addresses (turned v (Comes (ToLink l (Ends end)))))
       (lost_on v l end) refl (words_owed n (lost_on v l end) (lost_words v l end)) (ended_none n end v.now (v.links.live l)) (by (v.links.live l) refl)
-      (λ k. base_none n v.addresses (failed_on end) (failed_few n end) (failed_turns n end) k (turned v (Comes (ToLink l (Ends end)))))
-      (λ key k. base_one n v.addresses (failed_on end) (failed_few n end) (failed_turns n end) key k (turned v (Comes (ToLink l (Ends end)))))
+      (λ k. base_none n v.addresses (failed_on end) (failed_turns n end) k (turned v (Comes (ToLink l (Ends end)))))
+      (λ key k. base_one n v.addresses (failed_on end) (failed_turns n end) key k (turned v (Comes (ToLink l (Ends end)))))
     where
       by : (row : Option Seat) → v.links.live l ≡ row → (p : ℕ) → OneAsker n p row →
           (owed n (ended_on end v.now row) ≡ 0) ⊎ ((owed n (ended_on end v.now row) ≤ 1) × NoAsker n (took_some (Ends end) v.now row))

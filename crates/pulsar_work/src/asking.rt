@@ -85,7 +85,7 @@ pub fn what_next(alloc: Global, task: &Task, progress: &Progress) -> Result<Next
             alloc,
             lines,
             calls,
-            progress.open(),
+            progress.waiting(),
             progress.have_all_ended(),
         ),
         Task::Consume {
@@ -143,15 +143,15 @@ fn send(
     alloc: Global,
     lines: &[Vec<u8>],
     calls: u64,
-    open: usize,
+    waiting: usize,
     have_all_ended: bool,
 ) -> Result<Next, NoMemory>
-    ensures { IfOk result (λ n. IsSend (map (λ line. line.items) lines.now) calls open have_all_ended n) }
+    ensures { IfOk result (λ n. IsSend (map (λ line. line.items) lines.now) calls waiting have_all_ended n) }
 {
     let sent = calls.saturating_sub(2) as usize;
     if sent < lines.len() {
         let line = &lines[sent];
-        if !has_room(open, line.len()) {
+        if !has_room(waiting, line.len()) {
             return Ok(Next::Nothing);
         }
         let message = message_from_bytes(alloc, line)?;
@@ -165,10 +165,10 @@ fn send(
 
 /// A line of this length may join those that are on their way. What waits is bounded so, and so is the time that a turn takes, which the
 /// deadlines of what was sent in it do not outlive else.
-fn has_room(open: usize, length: usize) -> bool
-    ensures { (open ≡ 0) → result ≡ true }
+fn has_room(waiting: usize, length: usize) -> bool
+    ensures { (waiting ≡ 0) → result ≡ true }
 {
-    open == 0 || open.saturating_mul(length.saturating_add(FIELDS)) <= ON_THE_WAY
+    waiting == 0 || waiting.saturating_mul(length.saturating_add(FIELDS)) <= ON_THE_WAY
 }
 
 /// The item that was given is acknowledged, or the next one is asked for. There are never more items than were asked for.

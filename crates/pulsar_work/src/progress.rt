@@ -130,7 +130,7 @@ impl Progress {
     }
 
     /// So many calls have not ended, where they end in the order in which they were made.
-    pub fn open(&self) -> usize
+    pub fn waiting(&self) -> usize
         ensures { result ≡ length self.now.ended.items - self.now.first_open }
     {
         self.ended.len().saturating_sub(self.first_open)

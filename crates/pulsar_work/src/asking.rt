@@ -163,8 +163,8 @@ fn send(
     Ok(stop_at_the_end(have_all_ended))
 }
 
-/// A line of this length may join those that are on their way. What waits is bounded so, and so is the time that a turn takes, which the
-/// deadlines of what was sent in it do not outlive else.
+/// A line of this length may join so many that are on their way. So what waits is bounded, and so is the time of a turn, in which the deadlines
+/// of what was sent already run.
 fn has_room(waiting: usize, length: usize) -> bool
     ensures { (waiting ≡ 0) → result ≡ true }
 {

@@ -70,9 +70,17 @@ impl Pulsar {
         ensures options { options_of self.new ≡ options_of self.old }
     {
         for effect in effects {
-            if let Effect::Ended { ticket, answer: _ } = effect {
-                let _ = self.take_answer(*ticket);
-            }
+            self.forget(effect);
+        }
+    }
+
+    /// The answer of a call that has ended is let go.
+    fn forget(&mut self, effect: &Effect)
+        ensures stands { (o : Options) (h : List Step) → IsRecorded (λ p. routes p) o self.old h → IsRecorded (λ p. routes p) o self.new h }
+        ensures options { options_of self.new ≡ options_of self.old }
+    {
+        if let Effect::Ended { ticket, answer: _ } = effect {
+            drop(self.take_answer(*ticket));
         }
     }
 }

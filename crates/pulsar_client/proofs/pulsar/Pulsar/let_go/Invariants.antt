@@ -2,7 +2,7 @@ use Rattle.std.proofs.Common.{◌≡◌, List}
 use Rattle.pulsar_calls.specs.Steps.{Step}
 use Rattle.pulsar_machine.specs.Options.{Options}
 use Rattle.pulsar_client.specs.Client.{IsRecorded, options_of}
-use Rattle.pulsar_client.proofs.machine.Pulsar.let_go.Given as goal
+use Rattle.pulsar_client.proofs.pulsar.Pulsar.let_go.Given as goal
 
 abbrev pub invariant-loop-effect : goal.invariant-loop-effect
 invariant-loop-effect g l = record {

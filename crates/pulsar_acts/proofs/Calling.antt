@@ -10,7 +10,7 @@ use Rattle.pulsar_calls.specs.declared.act.Part.TheVariants.{Calls}
 use Rattle.pulsar_links.specs.Alarms.{set}
 use Rattle.pulsar_calls.specs.declared.act.Procedure.{Procedure}
 use Rattle.pulsar_calls.specs.declared.act.Procedure.TheVariants as procedure
-use Rattle.pulsar_calls.specs.declared.act.Refusal.TheVariants as refusal
+use Rattle.pulsar_calls.specs.declared.act.CallRefusal.TheVariants as refusal
 use Rattle.pulsar_calls.specs.declared.act.Who.TheVariants.{Call}
 use Rattle.pulsar_calls.specs.declared.event.Call.{Call as Wanted}
 use Rattle.pulsar_calls.specs.declared.event.Call.TheVariants as call
@@ -20,6 +20,7 @@ use Rattle.pulsar_plans.specs.Plan.{fails}
 use Rattle.pulsar_consumer_table.specs.Consumers as consumer
 use Rattle.pulsar_consumer_table.specs.Consumers.{Consumers}
 use Rattle.pulsar_producer_table.specs.Producers.{Producers, called_on, opened_on, why_not}
+use Rattle.pulsar_producer_table.proofs.Asking.{called_is}
 use Rattle.pulsar_acts.specs.Rules.{parts_of, procedure_for, shares_unless, starts, unless_refused}
 use Rattle.pulsar_acts.specs.Run.{goes_on}
 use Rattle.pulsar_agenda.specs.Agenda.{Agenda}
@@ -60,7 +61,15 @@ module _ (v : View) (advice : List (Option ℕ)) (a : Asked) where
           is_stopped = v.calls.is_stopped;
         };
         consumers = cond b v.consumers (consumer.called_on (may_call v.calls) a v.consumers);
-        producers = cond b v.producers (called_on (may_call v.calls) a v.producers);
+        producers = record (cond b v.producers (called_on (may_call v.calls) a v.producers)) { topics = v.producers.topics };
+      }
+
+  abbrev begun : Producers → View
+  begun ps =
+      record v {
+        calls = record { drawn = v.calls.drawn + 1 + shares a; is_built = v.calls.is_built; is_stopped = v.calls.is_stopped };
+        consumers = consumer.called_on (may_call v.calls) a v.consumers;
+        producers = ps;
       }
 
   pub spent_left : (g : Agenda) → lacks_tickets v.calls.drawn (shares a) ≡ true →
@@ -77,8 +86,8 @@ module _ (v : View) (advice : List (Option ℕ)) (a : Asked) where
   pub spent_sees : lacks_tickets v.calls.drawn (shares a) ≡ true → v ≡ after (Comes (Calls a advice)) v
   spent_sees h = sym (ap sees h)
 
-  pub begun_sees : lacks_tickets v.calls.drawn (shares a) ≡ false → sees false ≡ after (Comes (Calls a advice)) v
-  begun_sees h = sym (ap sees h)
+  pub begun_sees : lacks_tickets v.calls.drawn (shares a) ≡ false → begun (called_on (may_call v.calls) a v.producers) ≡ after (Comes (Calls a advice)) v
+  begun_sees h = ap begun (called_is (may_call v.calls) a v.producers) ∙ sym (ap sees h)
 
 -- A CLIENT THAT IS NOT OPEN
 

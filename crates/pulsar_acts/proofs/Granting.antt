@@ -1,48 +1,61 @@
 -- What plans ask of topic producers: what is left to do, and what is seen of the producers afterwards.
-use Rattle.std.proofs.Common.{◌≡◌, ◌∙◌, ap, sym, ℕ, ◌==◌, true, false, cond, List, [], ◌∷◌, ◌++◌, refl, Option, Some, None, inl, inr}
-use Rattle.std.proofs.lemmas.Bool.{cases_Bool, eqb-true}
+use Rattle.std.proofs.Common.{◌≡◌, ◌∙◌, ap, sym, ℕ, Bool, false, cond, List, [], ◌∷◌, ◌++◌, refl}
 use Rattle.std.proofs.lemmas.List.{append-nil}
-use Rattle.std.specs.List.{flat_map}
-use Rattle.std.specs.Option.{is_some, option_map, option_to_list}
-use Rattle.pulsar_producer.specs.Topic.{Act as Deed}
-use Rattle.pulsar_outgoing.specs.declared.news.News.TheVariants as news
+use Rattle.pulsar_run.specs.Things.{row_after}
+use Rattle.pulsar_producer.specs.Topic as topic
 use Rattle.pulsar_calls.specs.declared.act.Act.{Act}
+use Rattle.pulsar_calls.specs.declared.act.Act.TheVariants.{Does}
+use Rattle.pulsar_calls.specs.declared.act.Action.TheVariants.{OfTopic}
+use Rattle.pulsar_calls.specs.declared.act.Makes.{Makes}
+use Rattle.pulsar_calls.specs.declared.act.Makes.TheVariants.{Producer}
+use Rattle.pulsar_calls.specs.declared.act.TopicAsk.{TopicAsk}
+use Rattle.pulsar_calls.specs.declared.act.TopicAsk.TheVariants.{Store, Flush}
 use Rattle.pulsar_calls.specs.declared.act.Who.{Who}
-use Rattle.pulsar_producer_table.specs.declared.table.Topic.{Topic}
-use Rattle.pulsar_producer_table.specs.Producers.{Producers, changed, topic_after, turn_taken}
-use Rattle.pulsar_acts.specs.Rules.{grants, takes_turn, tells_lost}
+use Rattle.pulsar_calls.specs.declared.act.Who.TheVariants as who
+use Rattle.pulsar_calls.specs.Who.{rank, turn_of}
+use Rattle.pulsar_producer_table.specs.Producers.{Producers, done_to, freed, is_bare, topic_after}
+use Rattle.pulsar_producer_table.proofs.Asking.{joined_is}
 use Rattle.pulsar_agenda.specs.Agenda.{Agenda}
+use Rattle.pulsar_machine.specs.Options.{Chosen}
+use Rattle.pulsar_acts.specs.Tables.{fills, waiting_from}
+use Rattle.pulsar_acts.specs.View.{View, after, asked_of, building_of, producers_left, producers_made, topic_of}
+use Rattle.pulsar_acts.proofs.Storing.{waits_on}
 
 -- what comes at once stands in front
 pub in_front : (g : Agenda) (xs ys : List Act) → xs ≡ ys → record g { now = xs ++ g.now } ≡ record g { now = ys ++ g.now; behind = g.behind ++ [] }
 in_front g xs ys e i = record { now = e i ++ g.now; here = g.here; behind = sym (append-nil g.behind) i; parts = g.parts }
 
--- A TOPIC PRODUCER THAT IS NOT THERE
+-- WHAT IS SEEN OF ONE THAT IS ASKED, and how long what it stores waits
 
-pub no_topic : {A : Type 0} (row : Option A) → is_some row ≡ false → row ≡ None
-no_topic None h = refl
-no_topic (Some t) h = absurd cc
+waits_not : (v : View) (x : View) (b : Bool) (ps qs : Producers) → b ≡ false → ps ≡ qs → cond b x (record v { producers = ps }) ≡ record v { producers = qs }
+waits_not v x b ps qs f is = ap (λ y. cond y x (record v { producers = ps })) f ∙ ap (λ y. record v { producers = y }) is
 
-stays : (row : ℕ → Option Topic) (n m : ℕ) (act : Deed) → row n ≡ None → row m ≡ cond (m == n) (option_map (topic_after act) (row m)) (row m)
-stays row n m act h = elim (cases_Bool (m == n)) [
-  | inl e ↦
-      (let is : row m ≡ None = ap row (eqb-true m n e) ∙ h in
-      is ∙ sym (ap (λ b. cond b (option_map (topic_after act) (row m)) (row m)) e ∙ ap (option_map (topic_after act)) is))
-  | inr e ↦ sym (ap (λ b. cond b (option_map (topic_after act) (row m)) (row m)) e)
-]
+pub asked_sees : (v : View) (who : Who) (n : ℕ) (ask : TopicAsk) (ps : Producers) (was b : Bool) →
+    ps ≡ done_to n (asked_of v who n ask).acts v.producers → was ≡ is_bare (v.producers.topics n) → b ≡ fills ask →
+    cond b (waiting_from n was (record v { producers = ps })) (record v { producers = ps }) ≡ after (Does who (OfTopic n ask)) v
+asked_sees v who n (Store e) ps was b is before f =
+    ap (λ y. cond y (waiting_from n was (record v { producers = ps })) (record v { producers = ps })) f
+    ∙ waits_on v n (topic.Stores (turn_of who) e) ps was is before
+asked_sees v who n Flush ps was b is before f =
+    ap (λ y. cond y (waiting_from n was (record v { producers = ps })) (record v { producers = ps })) f
+    ∙ waits_on v n (topic.Flushes (turn_of who)) ps was is before
+asked_sees v who n ask ps was b is before f =
+    waits_not v (waiting_from n was (record v { producers = ps })) b ps (done_to n (asked_of v who n ask).acts v.producers) f is
 
-pub unchanged : (n : ℕ) (act : Deed) (ps : Producers) → ps.topics n ≡ None → ps ≡ changed n act ps
-unchanged n act ps h i = record { built = ps.built; topics = λ m. stays ps.topics n m act h i; numbers = ps.numbers; named = ps.named; next = ps.next }
+-- THOSE THAT A VERDICT MAKES
 
--- TURNS
+made_is : (o : Chosen) (who : Who) (m : Makes) (ps : Producers) →
+    producers_made o who m ps
+    ≡ record (producers_made o who m ps) { topics = λ n. row_after topic_after (topic_of (building_of m) who o n) false [] (ps.topics n) }
+made_is o who (Producer b) ps = joined_is (rank who).1 b o.seed o.first_number ps
+made_is o who _ ps = refl
 
-pub turn_lost : (who : Who) (row : Option Topic) → row ≡ None → tells_lost who ≡ takes_turn who row
-turn_lost who row h = sym (ap (takes_turn who) h)
-
-pub turn_had : (who : Who) (row : Option Topic) (version : Option (List ℕ)) → turn_taken row ≡ Some version → grants who (news.HasTurn version) ≡ takes_turn who row
-turn_had who None version h = absurd cc
-turn_had who (Some t) version h = sym (ap (λ x. flat_map (λ version. grants who (news.HasTurn version)) (option_to_list x)) h)
-
-pub turn_waits : (who : Who) (row : Option Topic) → is_some row ≡ true → turn_taken row ≡ None → [] ≡ takes_turn who row
-turn_waits who None s h = absurd cc
-turn_waits who (Some t) s h = sym (ap (λ x. flat_map (λ version. grants who (news.HasTurn version)) (option_to_list x)) h)
+-- and the call makes none any more
+pub left_is : (o : Chosen) (who : Who) (m : Makes) (ps : Producers) →
+    producers_left who (producers_made o who m ps)
+    ≡ record (producers_left who (producers_made o who m ps)) {
+      topics = λ n. row_after topic_after (topic_of (building_of m) who o n) false [] (ps.topics n);
+    }
+left_is o (who.Call t) m ps = ap (freed t) (made_is o (who.Call t) m ps)
+left_is o (who.Consumer n t) m ps = made_is o (who.Consumer n t) m ps
+left_is o (who.Producer n) m ps = made_is o (who.Producer n) m ps

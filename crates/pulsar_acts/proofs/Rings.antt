@@ -1,19 +1,21 @@
 -- What an alarm leaves to do, and what is seen after it, by whether it rings.
-use Rattle.std.proofs.Common.{◌≡◌, ◌∙◌, ap, sym, ℕ, Bool, true, false, cond, [], ◌++◌, refl, map, Option}
+use Rattle.std.proofs.Common.{◌≡◌, ◌∙◌, ◌==◌, ap, sym, ℕ, Bool, true, false, cond, [], ◌++◌, refl, map, Option}
 use Rattle.std.proofs.lemmas.List.{append-nil}
 use Rattle.pulsar_run.specs.Order.{arranged}
+use Rattle.pulsar_run.specs.Things.{row_by}
 use Rattle.pulsar_calls.specs.declared.act.Act.TheVariants.{Comes}
 use Rattle.pulsar_calls.specs.declared.act.Alarm.{Alarm}
 use Rattle.pulsar_calls.specs.declared.act.Alarm.TheVariants.{Retry, Wake, Batch, KeepAlive, CheckIdle}
 use Rattle.pulsar_calls.specs.declared.act.Part.TheVariants.{Rings}
 use Rattle.pulsar_links.specs.declared.addresses.Pause.{Pause}
 use Rattle.pulsar_links.specs.Alarms.{rings}
-use Rattle.pulsar_producer_table.specs.Producers.{Producers}
+use Rattle.pulsar_producer_table.specs.Producers.{Producers, topic_after}
+use Rattle.pulsar_producer_table.proofs.Asking.{row_same}
 use Rattle.pulsar_acts.specs.Rules.{rung, woken}
 use Rattle.pulsar_calls.specs.Order.{below, opens}
 use Rattle.pulsar_acts.specs.Run.{goes_on}
 use Rattle.pulsar_agenda.specs.Agenda.{Agenda}
-use Rattle.pulsar_acts.specs.View.{View, after, alarms_rung, pause_rung, producers_rung}
+use Rattle.pulsar_acts.specs.View.{View, after, alarms_rung, pause_rung, topic_rung}
 
 -- what is left, and what is seen
 abbrev leaves : Bool → View → Alarm → Agenda → Agenda
@@ -30,7 +32,7 @@ sees b v a =
     record v {
       addresses = record { base = v.addresses.base; pause = λ l. pause_rung b a l (v.addresses.pause l) };
       alarms = cond b (alarms_rung v.chosen v.now a v.alarms) v.alarms;
-      producers = producers_rung b a v.producers;
+      producers = record v.producers { topics = λ n. row_by topic_after (topic_rung b a n) (v.producers.topics n) };
     }
 
 -- one that only acts at once
@@ -63,10 +65,10 @@ never_rung (Batch n) l row = refl
 never_rung (KeepAlive k) l row = refl
 never_rung CheckIdle l row = refl
 
-never_cut : (a : Alarm) (ps : Producers) → producers_rung false a ps ≡ ps
+never_cut : (a : Alarm) (ps : Producers) → record ps { topics = λ n. row_by topic_after (topic_rung false a n) (ps.topics n) } ≡ ps
 never_cut (Retry k) ps = refl
 never_cut (Wake who) ps = refl
-never_cut (Batch n) ps = refl
+never_cut (Batch m) ps = λ i. record ps { topics = λ n. sym (row_same (n == m) (ps.topics n)) i }
 never_cut (KeepAlive k) ps = refl
 never_cut CheckIdle ps = refl
 

@@ -14,8 +14,8 @@ use Rattle.pulsar_calls.specs.declared.act.Act.{Act}
 use Rattle.pulsar_calls.specs.declared.act.Act.TheVariants.{Starts}
 use Rattle.pulsar_calls.specs.declared.act.Procedure.{Procedure}
 use Rattle.pulsar_calls.specs.declared.act.Procedure.TheVariants as procedure
-use Rattle.pulsar_calls.specs.declared.act.Refusal.{Refusal}
-use Rattle.pulsar_calls.specs.declared.act.Refusal.TheVariants as refusal
+use Rattle.pulsar_calls.specs.declared.act.CallRefusal.{CallRefusal}
+use Rattle.pulsar_calls.specs.declared.act.CallRefusal.TheVariants as refusal
 use Rattle.pulsar_calls.specs.declared.act.Share.{Share}
 use Rattle.pulsar_calls.specs.declared.act.Who.TheVariants.{Call}
 use Rattle.pulsar_calls.specs.Content.{SendAll}
@@ -28,19 +28,19 @@ use Rattle.pulsar_machine.specs.Options.{Chosen}
 
 -- REFUSED OR MADE
 
-pub refused_so : (x : Option Refusal) (r : Refusal) (p : Procedure) → x ≡ Some r → procedure.Refuse r ≡ unless x p
+pub refused_so : (x : Option CallRefusal) (r : CallRefusal) (p : Procedure) → x ≡ Some r → procedure.Refuse r ≡ unless x p
 refused_so x r p h = sym (ap (λ x. unless x p) h)
 
-pub made_so : (x : Option Refusal) (p : Procedure) → x ≡ None → p ≡ unless x p
+pub made_so : (x : Option CallRefusal) (p : Procedure) → x ≡ None → p ≡ unless x p
 made_so x p h = sym (ap (λ x. unless x p) h)
 
-pub sent_none : (ps : Producers) (t : ℕ) (ms : List ProducerMessageValues) (r : Refusal) → why_not ps t ≡ Some r → ps ≡ sent_on t ms ps
+pub sent_none : (ps : Producers) (t : ℕ) (ms : List ProducerMessageValues) (r : CallRefusal) → why_not ps t ≡ Some r → ps ≡ sent_on t ms ps
 sent_none ps t ms r h = sym (ap (λ x. cond (is_some x) ps (all_routed t ms ps)) h)
 
 pub sent_all : (ps : Producers) (t : ℕ) (ms : List ProducerMessageValues) → why_not ps t ≡ None → all_routed t ms ps ≡ sent_on t ms ps
 sent_all ps t ms h = sym (ap (λ x. cond (is_some x) ps (all_routed t ms ps)) h)
 
-pub parts_none : (v : View) (advice : List (Option ℕ)) (t : ℕ) (ms : List ProducerMessageValues) (r : Refusal) → may_call v.calls ≡ true →
+pub parts_none : (v : View) (advice : List (Option ℕ)) (t : ℕ) (ms : List ProducerMessageValues) (r : CallRefusal) → may_call v.calls ≡ true →
     why_not v.producers t ≡ Some r → [] ≡ parts_of v advice (SendAll t ms)
 parts_none v advice t ms r allowed h =
     sym (ap (λ b. shares_unless (cond b (why_not v.producers t) (Some refusal.Shutdown)) v advice t ms) allowed ∙ ap (λ x. shares_unless x v advice t ms) h)

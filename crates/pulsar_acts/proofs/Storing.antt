@@ -1,13 +1,13 @@
 -- What topic producers store: whom that tells, and how long it waits.
 use Rattle.std.proofs.Common.{◌≡◌, ◌∙◌, ap, sym, ℕ, Bool, true, false, cond, refl, List, [], ◌∷◌, ◌++◌, Option, Some, None}
-use Rattle.std.proofs.lemmas.Bool.{eq-eqb}
 use Rattle.std.specs.Option.{option_map}
 use Rattle.pulsar_run.specs.Order.{put, put_all}
 use Rattle.pulsar_producer.specs.Topic.{Act}
 use Rattle.pulsar_producer_table.specs.declared.table.Topic.{Topic}
 use Rattle.pulsar_calls.specs.declared.act.Alarm.TheVariants.{Batch}
 use Rattle.pulsar_links.specs.Alarms.{clear, set}
-use Rattle.pulsar_producer_table.specs.Producers.{Producers, changed, is_bare, timeout_at, topic_after}
+use Rattle.pulsar_producer_table.specs.Producers.{Producers, done_to, is_bare, timeout_at, topic_after}
+use Rattle.pulsar_producer_table.proofs.Asking.{done_at}
 use Rattle.pulsar_acts.specs.View.{View, alarms_on_topic, alarms_waiting, waits_from}
 use Rattle.pulsar_links.specs.Seats.{later}
 
@@ -18,34 +18,31 @@ put_all_end below [] x ys = refl
 put_all_end below (y ∷ xs) x ys = put_all_end below xs x (put below y ys)
 
 -- a topic producer that changes is still its producer's
-on_topic : (n : ℕ) (act : Act) (ps : Producers) → (changed n act ps).topics n ≡ option_map (topic_after act) (ps.topics n)
-on_topic n act ps = ap (λ b. cond b (option_map (topic_after act) (ps.topics n)) (ps.topics n)) (eq-eqb n n refl)
-
 same_owner : (act : Act) (ps : Producers) (row : Option Topic) → timeout_at ps (option_map (topic_after act) row) ≡ timeout_at ps row
 same_owner act ps None = refl
 same_owner act ps (Some t) = refl
 
-same_built : (n : ℕ) (act : Act) (ps : Producers) (row : Option Topic) → timeout_at (changed n act ps) row ≡ timeout_at ps row
+same_built : (n : ℕ) (act : Act) (ps : Producers) (row : Option Topic) → timeout_at (done_to n (act ∷ []) ps) row ≡ timeout_at ps row
 same_built n act ps None = refl
 same_built n act ps (Some t) = refl
 
 -- what it stores waits from then on
-pub waits_on : (v : View) (n : ℕ) (act : Act) (ps : Producers) (was : Bool) → ps ≡ changed n act v.producers → was ≡ is_bare (v.producers.topics n) →
+pub waits_on : (v : View) (n : ℕ) (act : Act) (ps : Producers) (was : Bool) → ps ≡ done_to n (act ∷ []) v.producers → was ≡ is_bare (v.producers.topics n) →
     record v {
       producers = ps;
       alarms = alarms_waiting v.now (timeout_at ps (ps.topics n)) n was (is_bare (ps.topics n)) v.alarms;
-    } ≡ record v { producers = changed n act v.producers; alarms = alarms_on_topic v n act }
+    } ≡ record v { producers = done_to n (act ∷ []) v.producers; alarms = alarms_on_topic v n act }
 waits_on v n act ps was is before =
-    let after = changed n act v.producers in
+    let after = done_to n (act ∷ []) v.producers in
     let delay = same_built n act v.producers (after.topics n)
-    ∙ ap (timeout_at v.producers) (on_topic n act v.producers) ∙ same_owner act v.producers (v.producers.topics n) in
+    ∙ ap (timeout_at v.producers) (done_at n (act ∷ []) v.producers) ∙ same_owner act v.producers (v.producers.topics n) in
     (λ i. record v {
       producers = is i;
       alarms = alarms_waiting v.now (timeout_at (is i) ((is i).topics n)) n (before i) (is_bare ((is i).topics n)) v.alarms;
     })
     ∙ (λ i. record v {
       producers = after;
-      alarms = alarms_waiting v.now (delay i) n (is_bare (v.producers.topics n)) (is_bare (on_topic n act v.producers i)) v.alarms;
+      alarms = alarms_waiting v.now (delay i) n (is_bare (v.producers.topics n)) (is_bare (done_at n (act ∷ []) v.producers i)) v.alarms;
     })
 
 -- HOW LONG IT WAITS

@@ -4,3 +4,4 @@ pub mod Rules
 pub mod Reading
 pub mod Effects
 pub mod Run
+pub mod Things

@@ -21,8 +21,8 @@ use Rattle.pulsar_calls.specs.declared.act.Outcome.{Outcome}
 use Rattle.pulsar_calls.specs.declared.act.Outcome.TheVariants as outcome
 use Rattle.pulsar_calls.specs.declared.act.Procedure.{Procedure}
 use Rattle.pulsar_calls.specs.declared.act.Procedure.TheVariants as procedure
-use Rattle.pulsar_calls.specs.declared.act.Refusal.{Refusal}
-use Rattle.pulsar_calls.specs.declared.act.Refusal.TheVariants as refusal
+use Rattle.pulsar_calls.specs.declared.act.CallRefusal.{CallRefusal}
+use Rattle.pulsar_calls.specs.declared.act.CallRefusal.TheVariants as refusal
 use Rattle.pulsar_calls.specs.declared.act.Who.{Who}
 use Rattle.pulsar_calls.specs.declared.act.Who.TheVariants.{Consumer}
 use Rattle.pulsar_calls.specs.declared.act.Word.{Word}
@@ -45,7 +45,7 @@ abbrev pub tells : Who → Outcome → List Act
 tells who o = Told (notice who o) ∷ []
 
 -- a call is refused, or not
-abbrev pub unless : Option Refusal → Procedure → Procedure
+abbrev pub unless : Option CallRefusal → Procedure → Procedure
 unless None p = p
 unless (Some r) p = procedure.Refuse r
 

@@ -2,17 +2,17 @@
 -- causes of their own.
 use Rattle.std.specs.Prelude.{ℕ, ◌+◌, ◌-◌, ◌^◌, nat_le, nat_lt, Bool, true, false, ◌&&◌, ◌||◌, not, ◌==◌, if◌then◌else◌, List, [], ◌∷◌, ◌++◌, drop, length, map, Option, Some, None}
 use Rattle.std.specs.List.{flat_map}
-use Rattle.std.specs.Option.{is_some, option_map, option_to_list}
+use Rattle.std.specs.Option.{is_some}
 use Rattle.pulsar_wire.specs.declared.commands.topics.Mode.{Mode}
 use Rattle.pulsar_requests.specs.Waits.{is_empty}
 use Rattle.pulsar_messages.specs.Words as words
 use Rattle.pulsar_messages.specs.Words.{Words}
-use Rattle.pulsar_wire.specs.Failures.{Disconnected, Exhausted}
+use Rattle.pulsar_wire.specs.Failures.{Exhausted}
 use Rattle.pulsar_session.specs.Link.{is_ready}
 use Rattle.pulsar_calls.specs.declared.act.Act.{Act}
 use Rattle.pulsar_calls.specs.declared.act.Act.TheVariants.{Comes, Starts, Told, Does, Answers, Dials}
 use Rattle.pulsar_calls.specs.declared.act.Action.{Action}
-use Rattle.pulsar_calls.specs.declared.act.Action.TheVariants.{Get, Ask, Wait, TakeTurn, PassTurn, Draw, Recall, Remake, Number, Find, Shut, Store, Flush, TakeBatch, TakeNumber, FindConsumer, TakeFlow, RecallConsumer, Revive, FailConsumer, Tell, TellAll, StopAll, Rest}
+use Rattle.pulsar_calls.specs.declared.act.Action.TheVariants.{OfTopic, Get, Ask, Wait, Number, Hold, Shut, TakeNumber, FindConsumer, TakeFlow, RecallConsumer, Revive, FailConsumer, Tell, TellAll, StopAll, Rest}
 use Rattle.pulsar_calls.specs.declared.act.Alarm.{Alarm}
 use Rattle.pulsar_calls.specs.declared.act.Alarm.TheVariants.{Retry, Wake, Batch, KeepAlive, CheckIdle}
 use Rattle.pulsar_calls.specs.declared.act.Arrival.{Arrival}
@@ -30,8 +30,8 @@ use Rattle.pulsar_calls.specs.declared.act.Part.TheVariants.{Calls, ToLink, Ring
 use Rattle.pulsar_calls.specs.declared.act.Place.TheVariants as place
 use Rattle.pulsar_calls.specs.declared.act.Procedure.{Procedure}
 use Rattle.pulsar_calls.specs.declared.act.Procedure.TheVariants as procedure
-use Rattle.pulsar_calls.specs.declared.act.Refusal.{Refusal}
-use Rattle.pulsar_calls.specs.declared.act.Refusal.TheVariants as refusal
+use Rattle.pulsar_calls.specs.declared.act.CallRefusal.{CallRefusal}
+use Rattle.pulsar_calls.specs.declared.act.CallRefusal.TheVariants as refusal
 use Rattle.pulsar_calls.specs.declared.act.Makes.{Makes}
 use Rattle.pulsar_calls.specs.declared.act.Makes.TheVariants as makes
 use Rattle.pulsar_calls.specs.declared.act.Round.TheVariants.{Checks, Flushes}
@@ -41,43 +41,40 @@ use Rattle.pulsar_calls.specs.declared.act.Verdict.{Verdict}
 use Rattle.pulsar_calls.specs.declared.act.Who.{Who}
 use Rattle.pulsar_calls.specs.declared.act.Who.TheVariants.{Call, Producer}
 use Rattle.pulsar_calls.specs.declared.act.Word.TheVariants as word
-use Rattle.pulsar_calls.specs.declared.content.Building.{Building}
+use Rattle.pulsar_calls.specs.declared.content.BuiltProducer.{BuiltProducer}
 use Rattle.pulsar_links.specs.declared.addresses.Pause.{Pause}
 use Rattle.pulsar_links.specs.declared.addresses.Series.{Series}
 use Rattle.pulsar_links.specs.declared.addresses.Series.TheVariants.{Nobody, Runs, Pauses, Serves}
 use Rattle.pulsar_plans.specs.declared.plan.Plan.{Plan}
 use Rattle.pulsar_plans.specs.declared.plan.Turn.{Turn}
 use Rattle.pulsar_plans.specs.declared.plan.Turn.TheVariants.{Stays, Gives}
-use Rattle.pulsar_producer_table.specs.declared.table.Topic.{Topic}
 use Rattle.pulsar_exchange.specs.Request.{named_consumer, named_producer}
 use Rattle.pulsar_messages.specs.Content.{ProducerMessageValues}
-use Rattle.pulsar_searches.specs.declared.making.Command.{Command}
 use Rattle.pulsar_producer.specs.Routing.{Policy}
 use Rattle.pulsar_frame.specs.Batch.{EntryValues}
 use Rattle.pulsar_outgoing.specs.Batch.{entry_of}
 use Rattle.pulsar_outgoing.specs.Storage.{is_batching}
 use Rattle.pulsar_producer.specs.Topic as topic
 use Rattle.pulsar_outgoing.specs.Wanted.{ProducerWanted}
-use Rattle.pulsar_outgoing.specs.declared.orders.Order.{Order}
+use Rattle.pulsar_outgoing.specs.declared.orders.ProducerOrder.{ProducerOrder}
 use Rattle.pulsar_outgoing.specs.declared.content.Built.{Built}
-use Rattle.pulsar_outgoing.specs.declared.news.Drawn.{Drawn}
 use Rattle.pulsar_producer.specs.News.{News}
 use Rattle.pulsar_outgoing.specs.declared.news.News.TheVariants as news
 use Rattle.pulsar_outgoing.specs.declared.orders.Errand.{Errand}
 use Rattle.pulsar_addresses.specs.Address.{Place, address_key, is_reachable}
-use Rattle.pulsar_searches.specs.declared.plan.Procedure.{Procedure as Sought}
-use Rattle.pulsar_searches.specs.declared.plan.Procedure.TheVariants as sought
+use Rattle.pulsar_searches.specs.declared.plan.Sought.{Sought}
+use Rattle.pulsar_searches.specs.declared.plan.Sought.TheVariants as sought
 use Rattle.pulsar_searches.specs.declared.turn.Ways.{Ways}
 use Rattle.pulsar_links.specs.Alarms.{ringing, rings}
 use Rattle.pulsar_calls.specs.Content as content
 use Rattle.pulsar_calls.specs.Content.{Asked as Asking, Heard, Called, Opened, FailedToOpen, Bytes, Lost as Loses, Drain, Ticked, Poll, lacks_tickets, shares}
 use Rattle.pulsar_links.specs.Links.{Change, Remains, Becomes, IsOver}
-use Rattle.pulsar_links.specs.Links as links
 use Rattle.pulsar_plans.specs.Plan.{begins, closed_notice, fails}
+pub use Rattle.pulsar_producer_table.specs.Asks.{readied, ready_notice, turn_notice}
 use Rattle.pulsar_producer_table.specs.Notices.{stopped_all}
-use Rattle.pulsar_producer_table.specs.Producers.{Producers, advice, batches_in, drawn, errand_of, is_held, is_settled_at, is_woken, link_at, next_batch_at, number_drawn, numbers_at, recalled, routed, stored_by, turn_passed, turn_taken, why_not}
+use Rattle.pulsar_producer_table.specs.Producers.{Producers, advice, batches_in, errand_of, is_held, is_used as is_used_number, number_drawn, numbers_at, routed, stored_by, why_not}
 use Rattle.pulsar_calls.specs.Content.{next_advice}
-use Rattle.pulsar_acts.specs.View.{Tickets, Turned, View, is_live, may_call, room_of, told_some, turned, ways_of}
+use Rattle.pulsar_acts.specs.View.{Tickets, Turned, View, asked_of, is_live, may_call, told_some, turned, ways_of}
 use Rattle.pulsar_machine.specs.Options.{Chosen, Options}
 use Rattle.pulsar_links.specs.Seats.{Addresses, Base, Links, Seat, answer_at, arrival_at, later, url_at}
 use Rattle.pulsar_consumer_table.specs.Consumers as consumer
@@ -86,7 +83,7 @@ pub use Rattle.pulsar_acts.specs.Reading.{tells, unless}
 use Rattle.pulsar_consumer_table.specs.Notices.{again_at, polled_due, revived_at}
 use Rattle.pulsar_acts.specs.Reading.{acknowledges, closed_at, flow_said, heard_on, leaves, lost_on, made_due, numbering_said, recalled_said, revived_said, serves_by, sought_said, stopped_on, subscribes, tells_word}
 use Rattle.pulsar_consumer_table.specs.Consumers.{Consumers, is_heard, over_rows}
-use Rattle.pulsar_calls.specs.Who.{in_turn, ticket_of, turn_of}
+use Rattle.pulsar_calls.specs.Who.{ticket_of}
 use Rattle.pulsar_calls.specs.Order.{opens, alone}
 use Rattle.pulsar_links.specs.LinkRules.{over_links, due_part, told_at, stop_act, may_ping, answered_on, served_by, ended_on, failed_over, moved_on, stopped_at}
 
@@ -146,10 +143,10 @@ asks_topics namespace mode base = procedure.Ask (place.At base) (words.GetTopics
 -- CALLS ON PRODUCERS. One names a producer by the ticket of the call that built it.
 
 -- it is built, where it is said to what it sends
-abbrev pub order_of : (topic : List ℕ) → ProducerWanted → Order
+abbrev pub order_of : (topic : List ℕ) → ProducerWanted → ProducerOrder
 order_of topic w = record { topic = topic; name = w.name; options = w.options }
 
-abbrev pub produces_by : Option Ways → Order → Procedure
+abbrev pub produces_by : Option Ways → ProducerOrder → Procedure
 produces_by None order = procedure.Refuse refusal.NoAddress
 produces_by (Some ways) order = procedure.Produce ways order
 
@@ -161,7 +158,7 @@ abbrev pub produces : Chosen → ProducerWanted → Procedure
 produces o w = produces_from (ways_of o) w.topic w
 
 -- a message goes to a topic producer, unless none is found for it; as a part of another call it fails there
-abbrev pub fails_as : Option Share → Refusal → Procedure
+abbrev pub fails_as : Option Share → CallRefusal → Procedure
 fails_as None r = procedure.Refuse r
 fails_as (Some s) r = procedure.FailShare s r
 
@@ -194,10 +191,10 @@ shares_of o ps of ticket advice t (m ∷ ms) =
     Starts (Call ticket) (sends_as o ps (share of ticket) (next_advice advice) t m)
     ∷ shares_of o (routed t m ps) of (ticket + 1) (drop 1 advice) t ms
 
-abbrev pub why_no_sends : Tickets → Producers → (producer : ℕ) → Option Refusal
+abbrev pub why_no_sends : Tickets → Producers → (producer : ℕ) → Option CallRefusal
 why_no_sends c ps t = if may_call c then why_not ps t else Some refusal.Shutdown
 
-abbrev pub shares_unless : Option Refusal → View → List (Option ℕ) → (producer : ℕ) → List ProducerMessageValues → List Act
+abbrev pub shares_unless : Option CallRefusal → View → List (Option ℕ) → (producer : ℕ) → List ProducerMessageValues → List Act
 shares_unless (Some r) v advice t ms = []
 shares_unless None v advice t ms = shares_of v.chosen v.producers v.calls.drawn (v.calls.drawn + 1) advice t ms
 
@@ -221,14 +218,14 @@ closes ps t = if is_some (ps.built t) then procedure.Close t (numbers_at (ps.bui
 -- a raw call leaves the numbers of the client's producers and consumers alone
 abbrev pub is_taken : Producers → Option ℕ → Bool
 is_taken ps None = false
-is_taken ps (Some number) = is_some (ps.topics number)
+is_taken ps (Some number) = is_used_number ps number
 
-abbrev pub taken_by : (by_producer by_consumer : Bool) → Option Refusal
+abbrev pub taken_by : (by_producer by_consumer : Bool) → Option CallRefusal
 taken_by true by_consumer = Some refusal.NumberInUse
 taken_by false true = Some refusal.ConsumerInUse
 taken_by false false = None
 
-abbrev pub why_no_raw : Consumers → Producers → Words → Option Refusal
+abbrev pub why_no_raw : Consumers → Producers → Words → Option CallRefusal
 why_no_raw cs ps request = taken_by (is_taken ps (named_producer request)) (consumer.is_taken cs (named_consumer request))
 
 abbrev pub asks_raw : Consumers → Producers → (link : ℕ) → Words → Procedure
@@ -300,38 +297,14 @@ gets who p series = if is_reachable p then gets_from who p series else tells who
 abbrev pub grants : Who → News → List Act
 grants who n = tells who (outcome.Granted n)
 
-abbrev pub tells_lost : Who → List Act
-tells_lost who = tells who outcome.Disconnected
-
--- the turn, where nobody else has it
-abbrev pub takes_turn : Who → Option Topic → List Act
-takes_turn who None = tells_lost who
-takes_turn who (Some t) = flat_map (λ version. grants who (news.HasTurn version)) (option_to_list (turn_taken (Some t)))
-
--- the number of a message: none is drawn where the link is not ready, and none is left where they are spent
-abbrev pub draw_said : Option Drawn → Outcome
-draw_said None = outcome.Refused Exhausted
-draw_said (Some d) = outcome.Granted (news.Drew d)
-
-abbrev pub draw_outcome : Option Bool → Option Topic → Outcome
-draw_outcome None row = outcome.Refused Disconnected
-draw_outcome (Some room) row = draw_said (drawn room row)
-
-abbrev pub recalls : Who → Option Command → List Act
-recalls who None = tells_lost who
-recalls who (Some c) = grants who (news.Recalled c)
-
 abbrev pub number_said : Option ℕ → Outcome
 number_said None = outcome.Refused Exhausted
 number_said (Some n) = outcome.Granted (news.Numbered n)
 
-abbrev pub finds : Who → Option ℕ → List Act
-finds who None = tells_lost who
-finds who (Some l) = tells who (outcome.GotLink l)
-
--- what is asked to be settled is so at once where nothing waits for that
-abbrev pub flushes_at : Who → Option Topic → List Act
-flushes_at who row = if is_settled_at row then grants who news.Done else []
+-- what one that asks of a thing is told at once
+abbrev pub says_to : Who → Option Outcome → List Act
+says_to who None = []
+says_to who (Some u) = tells who u
 
 abbrev pub stops : Who → Links → List Act
 stops who ls = over_links stop_act ls ++ tells who outcome.Stopped
@@ -341,17 +314,10 @@ performs v who (Get p) = gets who p (v.addresses.base (address_key p)).series
 performs v who (Ask l request) = tells who (told_at (answer_at v.now request (v.links.live l)))
 performs v who StopAll = stops who v.links
 performs v who (Wait delay) = []
-performs v who (TakeTurn n) = takes_turn who (v.producers.topics n)
-performs v who (PassTurn n) = grants who news.Done
-performs v who (Draw n) = tells who (draw_outcome (room_of v n) (v.producers.topics n))
-performs v who (Recall n) = recalls who (recalled v.producers n)
-performs v who (Remake r) = grants who news.Done
+performs v who (OfTopic n ask) = says_to who (asked_of v who n ask).says
 performs v who Number = tells who (number_said (number_drawn v.producers))
-performs v who (Find n) = finds who (link_at (v.producers.topics n))
+performs v who (Hold l n) = grants who news.Done
 performs v who (Shut t) = grants who news.Done
-performs v who (Store n e) = grants who news.Done
-performs v who (Flush n) = flushes_at who (v.producers.topics n)
-performs v who (TakeBatch n) = grants who (news.HasBatch (next_batch_at (v.producers.topics n)))
 performs v who (TakeNumber wanted) = tells who (numbering_said (consumer.numbering v.consumers wanted))
 performs v who (FindConsumer t) = sought_said who (consumer.sought (v.consumers.rows t))
 performs v who TakeFlow = tells_word who (flow_said (consumer.flow_at (v.consumers.rows (ticket_of who))))
@@ -409,11 +375,11 @@ rung v CheckIdle = over_links (idle_act v) v.links
 abbrev pub batches_by : Ways → (block : Bool) → Built → Act
 batches_by ways block b = Starts (Producer b.number) (procedure.Batch ways (record { producer = b.number; block = block }))
 
-abbrev pub batches_from : Option Ways → Building → List Act
+abbrev pub batches_from : Option Ways → BuiltProducer → List Act
 batches_from None b = []
 batches_from (Some ways) b = map (batches_by ways b.settings.block_queue_if_full) b.parts
 
-abbrev pub batches_made : Option Ways → Building → List Act
+abbrev pub batches_made : Option Ways → BuiltProducer → List Act
 batches_made ways b = if is_batching b.settings then batches_from ways b else []
 
 abbrev pub left_with : Option Ways → Who → Makes → List Act
@@ -448,26 +414,13 @@ abbrev pub further : View → Act → List Part
 further v (Comes (ToLink l Reads)) = reads_on l (arrival_at (v.links.live l))
 further v _ = []
 
--- the one who has the turn of a topic producer next, and one whom a plan tells something
-abbrev pub turn_notice : (number : ℕ) → ℕ × Option (List ℕ) → Notice
-turn_notice n next = notice (in_turn n next.0) (outcome.Granted (news.HasTurn next.1))
-
--- a topic producer that has a batch to send, and none under way
-abbrev pub ready_notice : (number : ℕ) → Notice
-ready_notice n = notice (Producer n) (outcome.Granted news.Ready)
-
-abbrev pub readied : (number : ℕ) → topic.Act → Option Topic → List Notice
-readied n act row = if is_woken act row then ready_notice n ∷ [] else []
-
 abbrev pub joins : View → Act → List Notice
 joins v (Comes (Polls t)) = polled_due v.now t (v.consumers.rows t)
 joins v (Does who (Ask l request)) = over_rows (closed_at v l request) v.consumers
 joins v (Does who (Revive l)) = revived_at l (url_at (v.links.live l)) (ticket_of who) (v.consumers.rows (ticket_of who))
 joins v (Does who (FailConsumer f)) = again_at (v.consumers.rows (ticket_of who))
 joins v (Answers who verdict) = made_due v.links.live who verdict.makes
-joins v (Does who (PassTurn n)) = option_to_list (option_map (turn_notice n) (turn_passed (v.producers.topics n)))
-joins v (Does who (Store n e)) = readied n (topic.Stores (turn_of who) e) (v.producers.topics n)
-joins v (Does who (Flush n)) = readied n (topic.Flushes (turn_of who)) (v.producers.topics n)
+joins v (Does who (OfTopic n ask)) = (asked_of v who n ask).serves
 joins v (Does who (Shut t)) = map closed_notice (stored_by v.producers (numbers_at (v.producers.built t)))
 joins v (Does who (Tell n)) = n ∷ []
 joins v (Does who (TellAll ns)) = ns

@@ -1,5 +1,5 @@
 -- For the code's contracts alone: what is seen of the tables of a client.
-use Rattle.std.specs.Prelude.{ℕ, Bool, not, ◌&&◌, List, [], ◌∷◌, Option, Some, None, true, if◌then◌else◌}
+use Rattle.std.specs.Prelude.{ℕ, Bool, not, ◌&&◌, List, [], ◌∷◌, Option, Some, None, true, false, if◌then◌else◌}
 use Rattle.std.specs.Option.{option_map}
 use Rattle.pulsar_messages.specs.Content.{authentication_values}
 use Rattle.pulsar_addresses.specs.Address.{address_key}
@@ -11,8 +11,10 @@ use Rattle.pulsar_calls.specs.declared.act.Arrival.{Arrival}
 use Rattle.pulsar_calls.specs.declared.act.End.TheVariants.{Idles}
 use Rattle.pulsar_calls.specs.declared.act.LinkAct.TheVariants.{Ends}
 use Rattle.pulsar_calls.specs.declared.act.Part.TheVariants.{ToLink}
+use Rattle.pulsar_calls.specs.declared.act.TopicAsk.{TopicAsk}
+use Rattle.pulsar_calls.specs.declared.act.TopicAsk.TheVariants.{TakeTurn, PassTurn, Draw, Recall, Remake, Find, Store, Flush, TakeBatch}
 use Rattle.pulsar_consumer_table.specs.Consumers.{Consumers, is_heard}
-use Rattle.pulsar_producer_table.specs.Producers.{Producers, is_held}
+use Rattle.pulsar_producer_table.specs.Producers.{Producers, is_bare, is_held, timeout_at}
 use Rattle.pulsar_acts.specs.declared.settings.Settings.{Settings}
 use Rattle.pulsar_acts.specs.declared.tables.Tables.{Tables}
 use Rattle.pulsar_calls.specs.Content.{Shown, Retry}
@@ -20,7 +22,7 @@ use Rattle.pulsar_links.specs.Alarms.{set}
 use Rattle.pulsar_links.specs.Kept.{addresses_of, links_in}
 use Rattle.pulsar_producer_table.specs.KeptProducers.{producers_of}
 use Rattle.pulsar_consumer_table.specs.KeptConsumers.{consumers_in}
-use Rattle.pulsar_acts.specs.View.{Turned, View, alarms_on, alarms_rung, base_on, delay_with, pause_on, pause_rung, waits_on}
+use Rattle.pulsar_acts.specs.View.{Turned, View, alarms_on, alarms_rung, alarms_waiting, base_on, delay_with, pause_on, pause_rung, waits_on}
 use Rattle.pulsar_machine.specs.Options.{Chosen}
 use Rattle.pulsar_links.specs.Seats.{Seat, later, nobody}
 use Rattle.pulsar_links.specs.Links.{change_in}
@@ -82,6 +84,25 @@ rung_view a v =
     record v {
       addresses = record { base = v.addresses.base; pause = λ l. pause_rung true a l (v.addresses.pause l) };
       alarms = alarms_rung v.chosen v.now a v.alarms;
+    }
+
+-- what is stored at a topic producer may change by what is asked of it
+abbrev pub fills : TopicAsk → Bool
+fills TakeTurn = false
+fills PassTurn = false
+fills Draw = false
+fills Recall = false
+fills (Remake r) = false
+fills Find = false
+fills (Store e) = true
+fills Flush = true
+fills TakeBatch = false
+
+-- and where what a topic producer stores waits from its first message on
+abbrev pub waiting_from : (number : ℕ) → (was_bare : Bool) → View → View
+waiting_from n was_bare v =
+    record v {
+      alarms = alarms_waiting v.now (timeout_at v.producers (v.producers.topics n)) n was_bare (is_bare (v.producers.topics n)) v.alarms;
     }
 
 -- and where none is set any more

@@ -14,7 +14,9 @@ use Rattle.pulsar_session.specs.Link.{Setup, is_open}
 use Rattle.pulsar_exchange.specs.Request.{closed_consumer}
 use Rattle.pulsar_calls.specs.declared.act.Act.{Act}
 use Rattle.pulsar_calls.specs.declared.act.Act.TheVariants.{Comes, Starts, Told, Does, Answers, Dials}
-use Rattle.pulsar_calls.specs.declared.act.Action.TheVariants.{Get, Ask, Wait, TakeTurn, PassTurn, Draw, Remake, Number, Shut, Store, Flush, TakeBatch, TakeNumber, FindConsumer, TakeFlow, Revive, FailConsumer, StopAll}
+use Rattle.pulsar_calls.specs.declared.act.Action.TheVariants.{OfTopic, Get, Ask, Wait, Number, Hold, Shut, TakeNumber, FindConsumer, TakeFlow, Revive, FailConsumer, StopAll}
+use Rattle.pulsar_calls.specs.declared.act.TopicAsk.{TopicAsk}
+use Rattle.pulsar_calls.specs.declared.act.TopicAsk.TheVariants.{Store, Flush}
 use Rattle.pulsar_calls.specs.declared.act.Alarm.{Alarm}
 use Rattle.pulsar_calls.specs.declared.act.Alarm.TheVariants.{Retry, Wake, Batch, KeepAlive, CheckIdle}
 use Rattle.pulsar_calls.specs.declared.act.End.{End}
@@ -38,9 +40,13 @@ use Rattle.pulsar_links.specs.Alarms.{clear, rings, set}
 use Rattle.pulsar_calls.specs.Content as content
 use Rattle.pulsar_calls.specs.Content.{Heard, Called, Opened, FailedToOpen, Bytes, Drain, Ticked, Poll, lacks_tickets, shares}
 use Rattle.pulsar_links.specs.Links.{Change, Remains, Becomes, IsOver, change_by}
-use Rattle.pulsar_links.specs.Links as links
 use Rattle.pulsar_plans.specs.Plan.{begins, told}
-use Rattle.pulsar_producer_table.specs.Producers.{Producers, called_on, changed, halted, is_bare, joined, link_at, none, numbered, numbers_at, shut, timeout_at, topic_after}
+use Rattle.pulsar_run.specs.Things.{row_after}
+use Rattle.pulsar_outgoing.specs.Storage.{limits_of}
+use Rattle.pulsar_calls.specs.declared.content.BuiltProducer.{BuiltProducer}
+use Rattle.pulsar_producer_table.specs.Asks.{Around, Given, around_in, given}
+use Rattle.pulsar_producer_table.specs.declared.table.Topic.{Topic}
+use Rattle.pulsar_producer_table.specs.Producers.{Producers, called_on, freed, holding, is_bare, joined, link_at, none, numbered, numbers_at, shut_by, timeout_at, topic_after, topic_in}
 use Rattle.pulsar_producer.specs.Topic as topic
 use Rattle.pulsar_consumer_table.specs.Consumers as consumer
 use Rattle.pulsar_consumer_table.specs.Consumers.{Consumers, IsHeard, Member}
@@ -375,8 +381,8 @@ abbrev pub alarms_after : View → Act → List (Alarm × ℕ)
 alarms_after v (Comes (ToLink l x)) = alarms_on v.chosen v.now (turned v (Comes (ToLink l x))) v.alarms
 alarms_after v (Comes (Rings a)) = if rings v.now a v.alarms then alarms_rung v.chosen v.now a v.alarms else v.alarms
 alarms_after v (Does who (Wait delay)) = set (Wake who) (later v.now delay) v.alarms
-alarms_after v (Does who (Store n e)) = alarms_on_topic v n (topic.Stores (turn_of who) e)
-alarms_after v (Does who (Flush n)) = alarms_on_topic v n (topic.Flushes (turn_of who))
+alarms_after v (Does who (OfTopic n (Store e))) = alarms_on_topic v n (topic.Stores (turn_of who) e)
+alarms_after v (Does who (OfTopic n Flush)) = alarms_on_topic v n (topic.Flushes (turn_of who))
 alarms_after v (Does who (Shut t)) = clear_all (numbers_at (v.producers.built t)) v.alarms
 alarms_after v (Does who StopAll) = []
 alarms_after v (Answers who verdict) = alarms_built v.now (not v.calls.is_built && builds verdict.makes false) v.alarms
@@ -435,11 +441,6 @@ room_on live (Some l) = room_at (live l)
 abbrev pub room_of : View → (number : ℕ) → Option Bool
 room_of v n = room_on v.links.live (link_at (v.producers.topics n))
 
--- a number is drawn only where the link is ready
-abbrev pub draws_on : Option Bool → (number : ℕ) → Producers → Producers
-draws_on None n ps = ps
-draws_on (Some room) n ps = changed n topic.Draws ps
-
 -- the producer that a verdict makes has the ticket of its call
 abbrev pub producers_made : Chosen → Who → Makes → Producers → Producers
 producers_made o who Nothing ps = ps
@@ -448,30 +449,71 @@ producers_made o who (Consumer made) ps = ps
 producers_made o who (RawConsumer link made) ps = ps
 producers_made o who (Producer made) ps = joined (rank who).1 made o.seed o.first_number ps
 
+-- and a call that has ended makes none any more
+abbrev pub producers_left : Who → Producers → Producers
+producers_left (who.Call t) ps = freed t ps
+producers_left (who.Consumer n t) ps = ps
+producers_left (who.Producer n) ps = ps
+
+-- WHAT IS DONE TO A TOPIC PRODUCER
+
+-- what is around one that is asked, and what it gives
+abbrev pub around : View → Who → (number : ℕ) → Around
+around v who n = around_in v.producers n (turn_of who) (room_of v n)
+
+abbrev pub asked_of : View → Who → (number : ℕ) → TopicAsk → Given
+asked_of v who n ask = given (around v who n) ask (v.producers.topics n)
+
 -- what is stored is cut once it has waited
-abbrev pub producers_rung : (rings : Bool) → Alarm → Producers → Producers
-producers_rung rings (Batch n) ps = if rings then changed n topic.Cuts ps else ps
-producers_rung rings (Retry l) ps = ps
-producers_rung rings (Wake who) ps = ps
-producers_rung rings (KeepAlive l) ps = ps
-producers_rung rings CheckIdle ps = ps
+abbrev pub rung_by : (rings : Bool) → List topic.Act
+rung_by rings = if rings then topic.Cuts ∷ [] else []
+
+abbrev pub topic_rung : (rings : Bool) → Alarm → (number : ℕ) → List topic.Act
+topic_rung rings (Batch m) n = if n == m then rung_by rings else []
+topic_rung rings (Retry l) n = []
+topic_rung rings (Wake who) n = []
+topic_rung rings (KeepAlive l) n = []
+topic_rung rings CheckIdle n = []
+
+-- what an act does to the one of a number, the newest first
+abbrev pub topic_acts : View → (number : ℕ) → Act → List topic.Act
+topic_acts v n (Comes (Rings a)) = topic_rung (rings v.now a v.alarms) a n
+topic_acts v n (Does who (OfTopic m ask)) = if n == m then (asked_of v who m ask).acts else []
+topic_acts v n (Does who (Shut t)) = shut_by n (numbers_at (v.producers.built t))
+topic_acts v n (Does who StopAll) = topic.Halts ∷ []
+topic_acts v n _ = []
+
+-- and the one that an act makes
+abbrev pub building_of : Makes → Option BuiltProducer
+building_of Nothing = None
+building_of Client = None
+building_of (Consumer made) = None
+building_of (RawConsumer link made) = None
+building_of (Producer made) = Some made
+
+abbrev pub topic_of : Option BuiltProducer → Who → Chosen → (number : ℕ) → Option Topic
+topic_of None who o n = None
+topic_of (Some b) who o n = topic_in (rank who).1 o.first_number (limits_of b.settings) b.parts n
+
+abbrev pub topic_born : View → (number : ℕ) → Act → Option Topic
+topic_born v n (Answers who verdict) = topic_of (building_of verdict.makes) who v.chosen n
+topic_born v n _ = None
+
+-- what becomes of it
+abbrev pub topic_row : View → Act → (number : ℕ) → Option Topic → Option Topic
+topic_row v a n row = row_after topic_after (topic_born v n a) false (topic_acts v n a) row
+
+-- all else of the producers
+abbrev pub others_after : View → Act → Producers
+others_after v (Comes (Calls asked advice)) =
+    if lacks_tickets v.calls.drawn (shares asked) then v.producers else called_on (may_call v.calls) asked v.producers
+others_after v (Does who Number) = numbered v.producers
+others_after v (Does who (Hold l n)) = holding (ticket_of who) l n v.producers
+others_after v (Answers who verdict) = producers_left who (producers_made v.chosen who verdict.makes v.producers)
+others_after v _ = v.producers
 
 abbrev pub producers_after : View → Act → Producers
-producers_after v (Comes (Calls asked advice)) =
-    if lacks_tickets v.calls.drawn (shares asked) then v.producers else called_on (may_call v.calls) asked v.producers
-producers_after v (Comes (Rings a)) = producers_rung (rings v.now a v.alarms) a v.producers
-producers_after v (Does who (TakeTurn n)) = changed n (topic.Takes (turn_of who)) v.producers
-producers_after v (Does who (PassTurn n)) = changed n topic.Passes v.producers
-producers_after v (Does who (Draw n)) = draws_on (room_of v n) n v.producers
-producers_after v (Does who (Remake r)) = changed r.number (topic.Remakes r.link r.given) v.producers
-producers_after v (Does who Number) = numbered v.producers
-producers_after v (Does who (Shut t)) = shut t v.producers
-producers_after v (Does who (Store n e)) = changed n (topic.Stores (turn_of who) e) v.producers
-producers_after v (Does who (Flush n)) = changed n (topic.Flushes (turn_of who)) v.producers
-producers_after v (Does who (TakeBatch n)) = changed n topic.TakesBatch v.producers
-producers_after v (Does who StopAll) = halted v.producers
-producers_after v (Answers who verdict) = producers_made v.chosen who verdict.makes v.producers
-producers_after v _ = v.producers
+producers_after v a = record (others_after v a) { topics = λ n. topic_row v a n (v.producers.topics n) }
 
 -- WHAT A LINK IS WAITED FOR
 

@@ -6,11 +6,11 @@ use crate::content::{
 };
 use pulsar_addresses::content::{Address, Cause, Refusal as Failure};
 use pulsar_exchange::content::{Received, Request, Subscribed};
-use pulsar_incoming::orders::Order as ConsumerOrder;
+use pulsar_incoming::orders::ConsumerOrder;
 use pulsar_outgoing::batch::Receipt;
 use pulsar_outgoing::content::{Entry, Outgoing};
-use pulsar_outgoing::orders::{Errand, Order};
-use pulsar_searches::plan::Procedure as Sought;
+use pulsar_outgoing::orders::{Errand, ProducerOrder};
+use pulsar_searches::plan::Sought;
 use pulsar_searches::turn::Ways;
 use pulsar_wire::error::IoKind;
 
@@ -125,7 +125,7 @@ pub enum Says {
 
 /// Why a call is not made.
 #[derive(Clone, Copy)]
-pub enum Refusal {
+pub enum CallRefusal {
     /// The client is not built, or was stopped.
     Shutdown,
     /// There is no room for any frame.
@@ -195,7 +195,7 @@ pub enum Procedure {
     /// Build a producer.
     Produce {
         ways: Ways,
-        order: Order,
+        order: ProducerOrder,
     },
     /// Send a message in the turn of a topic producer.
     Send {
@@ -218,7 +218,7 @@ pub enum Procedure {
     /// Fail, as a part of another call.
     FailShare {
         share: Share,
-        refusal: Refusal,
+        refusal: CallRefusal,
     },
     /// Wait for so many sends, whose tickets begin with this one: each is a part.
     Gather {
@@ -257,7 +257,30 @@ pub enum Procedure {
         number: u64,
     },
     /// Fail.
-    Refuse(Refusal),
+    Refuse(CallRefusal),
+}
+
+/// What is asked of a topic producer.
+#[derive(Drop)]
+pub enum TopicAsk {
+    /// The turn, or to wait for it.
+    TakeTurn,
+    /// The turn is over.
+    PassTurn,
+    /// The number of a message, where its link is ready.
+    Draw,
+    /// The command by which it is made again.
+    Recall,
+    /// It was made again.
+    Remake(Remade),
+    /// Its link.
+    Find,
+    /// To store a message.
+    Store(Entry),
+    /// To wait until all that it has taken is settled.
+    Flush,
+    /// Its next batch.
+    TakeBatch,
 }
 
 /// What a plan does next. Then it waits for an outcome.
@@ -269,28 +292,14 @@ pub enum Action {
     Ask { link: u64, request: Request },
     /// Wait for so many milliseconds.
     Wait(u64),
-    /// Take its turn at the topic producer of this number, or wait for it.
-    TakeTurn(u64),
-    /// Its turn at a topic producer is over.
-    PassTurn(u64),
-    /// Draw the number of a message of a topic producer, where the link of that is ready.
-    Draw(u64),
-    /// Find the command by which a topic producer is made again.
-    Recall(u64),
-    /// A topic producer was made again.
-    Remake(Remade),
+    /// Ask this of the topic producer of this number.
+    OfTopic { number: u64, ask: TopicAsk },
     /// Draw the number of a new topic producer.
     Number,
-    /// Find the link of a topic producer.
-    Find(u64),
+    /// A topic producer of this number was made on the link for the call whose plan it is, which still makes others.
+    Hold { link: u64, number: u64 },
     /// The producer of this ticket takes no sends from now on.
     Shut(u64),
-    /// Store a message at the topic producer of this number.
-    Store { number: u64, entry: Entry },
-    /// Wait until all that this topic producer has taken is settled.
-    Flush(u64),
-    /// Take the next batch of a topic producer.
-    TakeBatch(u64),
     /// Take this number for a new consumer, or draw one.
     TakeNumber(Option<u64>),
     /// Find the link of the consumer of this ticket, or wait until it has one.

@@ -19,14 +19,14 @@ use pulsar_outgoing::content::{Parts, Settings};
 use pulsar_outgoing::news;
 use pulsar_outgoing::replies::Given;
 use pulsar_searches::making::Command;
-use pulsar_searches::turn::Outcome;
+use pulsar_searches::turn::SearchOutcome;
 use pulsar_wire::error::{Error, NoMemory, ProducerError};
 use std::alloc::Global;
 use std::collections::{BTreeMap, VecDeque};
 use std::marker::Model;
 
 /// What the plan of a send is told.
-pub type News = news::News<Outcome, Command>;
+pub type News = news::News<SearchOutcome, Command>;
 
 /// What a user asks of the client.
 pub struct Asking {
@@ -145,10 +145,9 @@ impl Granted {
     }
 }
 
-/// A topic producer that was made again: its number, its link, and what its broker says of it.
+/// A topic producer that was made again: its link, and what its broker says of it.
 #[derive(Drop)]
 pub struct Remaking {
-    pub number: u64,
     pub link: u64,
     pub given: Given,
 }
@@ -190,7 +189,7 @@ impl Remade {
 
 /// A producer that was built: its topic, how it is made and sends, and its topic producers in order.
 #[derive(Drop)]
-pub struct Building {
+pub struct BuiltProducer {
     pub topic: Text,
     pub settings: Settings,
     pub parts: Parts,
@@ -198,7 +197,7 @@ pub struct Building {
 
 /// The same in a box.
 pub struct Made {
-    building: Box<Building>,
+    building: Box<BuiltProducer>,
 }
 
 impl Drop for Made {
@@ -208,15 +207,15 @@ impl Drop for Made {
 }
 
 impl Model for Made {
-    ghost use Rattle.pulsar_calls.specs.declared.content.Building.{Building};
+    ghost use Rattle.pulsar_calls.specs.declared.content.BuiltProducer.{BuiltProducer};
 
-    ghost Value = { Building };
+    ghost Value = { BuiltProducer };
 
     ghost view = { λ m. m.building.value };
 }
 
 impl Made {
-    pub fn new(alloc: Global, building: Building) -> Result<Made, NoMemory>
+    pub fn new(alloc: Global, building: BuiltProducer) -> Result<Made, NoMemory>
         ensures { IfOk result (λ m. m ≡ building) }
     {
         let building = Box::new(alloc, building)?;
@@ -224,13 +223,13 @@ impl Made {
     }
 
     /// The producer to be looked at.
-    pub fn building(&self) -> &Building
+    pub fn building(&self) -> &BuiltProducer
         ensures { result.now ≡ self.now }
     {
         &self.building
     }
 
-    pub fn into_inner(self) -> Building
+    pub fn into_inner(self) -> BuiltProducer
         ensures { result ≡ self }
     {
         let Made { building } = self;

@@ -9,7 +9,7 @@ use Rattle.pulsar_calls.specs.declared.act.Act.{Act}
 use Rattle.pulsar_calls.specs.declared.act.Act.TheVariants.{Comes, Starts, Told, Answers}
 use Rattle.pulsar_calls.specs.declared.act.Notice.{Notice}
 use Rattle.pulsar_calls.specs.declared.act.Part.{Part}
-use Rattle.pulsar_calls.specs.declared.act.Refusal.{Refusal}
+use Rattle.pulsar_calls.specs.declared.act.CallRefusal.{CallRefusal}
 use Rattle.pulsar_calls.specs.declared.act.Who.TheVariants.{Call}
 use Rattle.pulsar_calls.specs.Content as content
 use Rattle.pulsar_calls.specs.Content.{Asked, Heard, lacks_tickets, shares}
@@ -120,7 +120,7 @@ shares_in o ps of ticket advice t (m ∷ ms) = (
       (shares_in o (routed t m ps) of (ticket + 1) (drop 1 advice) t ms),
 )
 
-unless_in : (r : Option Refusal) (v : View) (advice : List (Option ℕ)) (t : ℕ) (ms : List ProducerMessageValues) →
+unless_in : (r : Option CallRefusal) (v : View) (advice : List (Option ℕ)) (t : ℕ) (ms : List ProducerMessageValues) →
     Each (StartsIn (v.calls.drawn + 1) (v.calls.drawn + 1 + length ms)) (shares_unless r v advice t ms)
 unless_in None v advice t ms = shares_in v.chosen v.producers v.calls.drawn (v.calls.drawn + 1) advice t ms
 unless_in (Some r) v advice t ms = tt

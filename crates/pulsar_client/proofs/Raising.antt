@@ -1,18 +1,17 @@
 -- What arises at once, by its kind, and which acts give rise to it. A further kind of act or action is told of here, and nowhere else.
 use Rattle.std.proofs.Common.{◌≡◌, ℕ, ◌+◌, List, ◌∷◌, refl, Bool, true, false, Option, Some, None, [], map}
-use Rattle.std.specs.Option.{option_to_list}
 use Rattle.pulsar_addresses.specs.Address.{Place, address_key, is_reachable}
 use Rattle.pulsar_searches.specs.declared.making.Command.{Command}
 use Rattle.pulsar_searches.specs.declared.turn.Ways.{Ways}
 use Rattle.pulsar_outgoing.specs.Storage.{is_batching}
 use Rattle.pulsar_outgoing.specs.declared.content.Built.{Built}
-use Rattle.pulsar_calls.specs.declared.content.Building.{Building}
+use Rattle.pulsar_calls.specs.declared.content.BuiltProducer.{BuiltProducer}
 use Rattle.pulsar_calls.specs.declared.content.Joining.{Joining}
 use Rattle.pulsar_calls.specs.Who.{ticket_of}
 use Rattle.pulsar_calls.specs.declared.act.Act.{Act}
 use Rattle.pulsar_calls.specs.declared.act.Act.TheVariants.{Comes, Starts, Told, Does, Answers, Dials}
 use Rattle.pulsar_calls.specs.declared.act.Action.{Action}
-use Rattle.pulsar_calls.specs.declared.act.Action.TheVariants.{Get, Wait, TakeTurn, Recall, Find, Flush, FindConsumer, RecallConsumer, StopAll, Rest}
+use Rattle.pulsar_calls.specs.declared.act.Action.TheVariants.{OfTopic, Get, Wait, FindConsumer, RecallConsumer, StopAll, Rest}
 use Rattle.pulsar_calls.specs.declared.act.Alarm.{Alarm}
 use Rattle.pulsar_calls.specs.declared.act.Alarm.TheVariants.{Retry, Wake, Batch, KeepAlive, CheckIdle}
 use Rattle.pulsar_calls.specs.declared.act.Arrival.{Arrival}
@@ -33,21 +32,20 @@ use Rattle.pulsar_plans.specs.declared.plan.Turn.{Turn}
 use Rattle.pulsar_plans.specs.declared.plan.Turn.TheVariants.{Stays, Gives}
 use Rattle.pulsar_consumer_table.specs.declared.row.Sought.{Sought}
 use Rattle.pulsar_consumer_table.specs.declared.row.Sought.TheVariants.{Found, Gone, Later}
-use Rattle.pulsar_producer_table.specs.declared.table.Topic.{Topic}
 use Rattle.pulsar_links.specs.Alarms.{rings}
 use Rattle.pulsar_consumer_table.specs.Consumers as consumer
 use Rattle.pulsar_consumer_table.specs.Consumers.{sought}
 use Rattle.pulsar_acts.specs.Reading.{recalled_said, serves_by, sought_said, tells}
 use Rattle.pulsar_calls.specs.Content.{Asked, shares}
 use Rattle.pulsar_plans.specs.Plan.{begins}
-use Rattle.pulsar_producer_table.specs.Producers.{is_settled_at, link_at, recalled, turn_taken}
-use Rattle.pulsar_acts.specs.Rules.{at_once, batches_by, batches_from, breaks_at, called, does, finds, follows, follows_some, gets_from, grants, idle_act, is_idle, keeps_alive, left_with, performs, recalls, rung, takes_turn, tries_again}
+use Rattle.pulsar_acts.specs.Rules.{at_once, batches_by, batches_from, breaks_at, called, does, follows, follows_some, gets_from, idle_act, is_idle, keeps_alive, left_with, performs, rung, tries_again, says_to}
 use Rattle.pulsar_links.specs.LinkRules.{may_ping, over_links, stop_act}
-use Rattle.pulsar_acts.specs.View.{View, told_some, ways_of}
+use Rattle.pulsar_acts.specs.View.{View, told_some, ways_of, asked_of}
 use Rattle.pulsar_links.specs.Seats.{Seat, arrival_at}
-use Rattle.pulsar_outgoing.specs.declared.news.News.TheVariants as news
 use Rattle.pulsar_calls.specs.declared.act.Outcome.TheVariants as outcome
-use Rattle.pulsar_client.proofs.Acts.{Each, StartsIn, called_each, each_append, each_either, each_flat, over_each}
+use Rattle.pulsar_client.proofs.Acts.{Each, StartsIn, called_each, each_append, each_either, over_each}
+use Rattle.pulsar_calls.specs.declared.act.TopicAsk.{TopicAsk}
+use Rattle.pulsar_calls.specs.declared.act.Outcome.{Outcome}
 
 -- the plan of a call begins, that of a topic producer's batches, or that of a consumer; one does something, or ends; one is told something; an attempt begins; a link ends by what came on it, for want of use or
 -- with the client, or is pinged; and what never arises at once
@@ -135,18 +133,9 @@ from_raised who p (Runs starter retries l) = tt
 from_raised who p (Pauses l) = tt
 from_raised who p (Serves l) = (refl, tt)
 
-takes_raised : (who : Who) (n : ℕ) (row : Option Topic) → Each (IsRaised (Does who (TakeTurn n))) (takes_turn who row)
-takes_raised who n None = (refl, tt)
-takes_raised who n (Some t) =
-    each_flat (IsRaised (Does who (TakeTurn n))) (λ version. grants who (news.HasTurn version)) (option_to_list (turn_taken (Some t))) (λ version. (refl, tt))
-
-recalls_raised : (who : Who) (n : ℕ) (row : Option Command) → Each (IsRaised (Does who (Recall n))) (recalls who row)
-recalls_raised who n None = (refl, tt)
-recalls_raised who n (Some c) = (refl, tt)
-
-finds_raised : (who : Who) (n : ℕ) (row : Option ℕ) → Each (IsRaised (Does who (Find n))) (finds who row)
-finds_raised who n None = (refl, tt)
-finds_raised who n (Some l) = (refl, tt)
+says_raised : (who : Who) (n : ℕ) (ask : TopicAsk) (u : Option Outcome) → Each (IsRaised (Does who (OfTopic n ask))) (says_to who u)
+says_raised who n ask None = tt
+says_raised who n ask (Some u) = (refl, tt)
 
 sought_raised : (who : Who) (t : ℕ) (s : Sought) → Each (IsRaised (Does who (FindConsumer t))) (sought_said who s)
 sought_raised who t (Found l) = (refl, tt)
@@ -162,11 +151,7 @@ performs_raised v who (Get p) =
     let s : Series = (v.addresses.base (address_key p)).series in
     each_either (IsRaised (Does who (Get p))) (is_reachable p) (gets_from who p s) (tells who outcome.NotFound) (from_raised who p s) (refl, tt)
 performs_raised v who (Wait delay) = tt
-performs_raised v who (TakeTurn n) = takes_raised who n (v.producers.topics n)
-performs_raised v who (Recall n) = recalls_raised who n (recalled v.producers n)
-performs_raised v who (Find n) = finds_raised who n (link_at (v.producers.topics n))
-performs_raised v who (Flush n) =
-    each_either (IsRaised (Does who (Flush n))) (is_settled_at (v.producers.topics n)) (grants who news.Done) [] (refl, tt) tt
+performs_raised v who (OfTopic n ask) = says_raised who n ask (asked_of v who n ask).says
 performs_raised v who (FindConsumer t) = sought_raised who t (sought (v.consumers.rows t))
 performs_raised v who RecallConsumer = recalled_raised who (consumer.recalled (v.consumers.rows (ticket_of who)))
 performs_raised v who StopAll =
@@ -205,7 +190,7 @@ batches_raised : (who : Who) (verdict : Verdict) (ways : Ways) (block : Bool) (b
 batches_raised who verdict ways block [] = tt
 batches_raised who verdict ways block (b ∷ bs) = (refl, batches_raised who verdict ways block bs)
 
-from_each : (who : Who) (verdict : Verdict) (ways : Option Ways) (b : Building) → Each (IsRaised (Answers who verdict)) (batches_from ways b)
+from_each : (who : Who) (verdict : Verdict) (ways : Option Ways) (b : BuiltProducer) → Each (IsRaised (Answers who verdict)) (batches_from ways b)
 from_each who verdict None b = tt
 from_each who verdict (Some ways) b = batches_raised who verdict ways b.settings.block_queue_if_full b.parts
 

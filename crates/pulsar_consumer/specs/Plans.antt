@@ -11,20 +11,20 @@ use Rattle.pulsar_searches.specs.declared.making.Command.{Command}
 use Rattle.pulsar_searches.specs.declared.making.Making.{Making}
 use Rattle.pulsar_searches.specs.declared.making.Served.{Served}
 use Rattle.pulsar_searches.specs.declared.names.Naming.{Naming}
-use Rattle.pulsar_searches.specs.declared.turn.Outcome.{Outcome}
+use Rattle.pulsar_searches.specs.declared.turn.SearchOutcome.{SearchOutcome}
 use Rattle.pulsar_searches.specs.declared.turn.Turn.{Turn}
 use Rattle.pulsar_searches.specs.declared.turn.Turn.TheVariants as turn
 use Rattle.pulsar_searches.specs.declared.turn.Ways.{Ways}
 use Rattle.pulsar_consumer.specs.Commands.{command}
-use Rattle.pulsar_consumer.specs.declared.building.Building.{Building}
-use Rattle.pulsar_consumer.specs.declared.building.Building.TheVariants as build
+use Rattle.pulsar_consumer.specs.declared.building.BuildingConsumer.{BuildingConsumer}
+use Rattle.pulsar_consumer.specs.declared.building.BuildingConsumer.TheVariants as build
 use Rattle.pulsar_consumer.specs.declared.building.Built.{Built}
 use Rattle.pulsar_consumer.specs.declared.building.Deed.{Deed}
 use Rattle.pulsar_consumer.specs.declared.building.Deed.TheVariants.{Does, Numbers, Rests}
 use Rattle.pulsar_consumer.specs.declared.building.Found.{Found}
 use Rattle.pulsar_consumer.specs.declared.building.News.{News}
 use Rattle.pulsar_consumer.specs.declared.building.News.TheVariants.{Told, Numbered, InUse}
-use Rattle.pulsar_incoming.specs.declared.orders.Order.{Order}
+use Rattle.pulsar_incoming.specs.declared.orders.ConsumerOrder.{ConsumerOrder}
 use Rattle.pulsar_consumer.specs.declared.resuming.Resuming.{Resuming}
 use Rattle.pulsar_consumer.specs.declared.resuming.Resuming.TheVariants as resume
 
@@ -42,7 +42,7 @@ resume_looks t = and_then t resume.Looking (λ place. resume_makes (made_gets 0 
 abbrev pub resume_begins : Ways → Resumes
 resume_begins w = resume_looks (look_begins w)
 
-abbrev pub resume_told : Ways → Command → Resuming → Outcome → Resumes
+abbrev pub resume_told : Ways → Command → Resuming → SearchOutcome → Resumes
 resume_told w c (resume.Looking l) o = resume_looks (look_told w c.topic l o)
 resume_told w c (resume.Making m) o = resume_makes (made_told w c m o)
 
@@ -50,13 +50,13 @@ resume_told w c (resume.Making m) o = resume_makes (made_told w c m o)
 -- made.
 
 abbrev pub Builds : Type 0
-Builds = Step Building Deed (Result Built Failure)
+Builds = Step BuildingConsumer Deed (Result Built Failure)
 
 abbrev pub build_fails : Failure → Builds
 build_fails f = Gives (Err f)
 
 -- a plan within it; where that fails, so does the building
-abbrev pub build_then : {S A : Type 0} → Turn S (Result A Failure) → (S → Building) → (A → Builds) → Builds
+abbrev pub build_then : {S A : Type 0} → Turn S (Result A Failure) → (S → BuildingConsumer) → (A → Builds) → Builds
 build_then (turn.Stays s action) within on = Stays (within s) (Does action)
 build_then (turn.Gives (Ok a)) within on = on a
 build_then (turn.Gives (Err f)) within on = build_fails f
@@ -77,14 +77,14 @@ only (n ∷ []) = Some n
 only (n ∷ m ∷ names) = None
 
 -- its number is the one that was asked for, where there is one
-abbrev pub build_numbers : Order → Option Named → Builds
+abbrev pub build_numbers : ConsumerOrder → Option Named → Builds
 build_numbers o None = build_fails not_found
 build_numbers o (Some n) = Stays (build.Numbering n.name n.place) (Numbers o.config.consumer_id)
 
-abbrev pub build_names : Order → Turn Naming (Result (List Named) Failure) → Builds
+abbrev pub build_names : ConsumerOrder → Turn Naming (Result (List Named) Failure) → Builds
 build_names o t = build_then t build.Naming (λ names. build_numbers o (only names))
 
-abbrev pub build_begins : Ways → Order → Builds
+abbrev pub build_begins : Ways → ConsumerOrder → Builds
 build_begins w o = build_names o (names_begins w o.topic)
 
 abbrev pub built : Command → (number : ℕ) → Served → Built
@@ -93,13 +93,13 @@ built c number s = record { topic = c.topic; number = number; link = s.link }
 abbrev pub build_makes : Command → (number : ℕ) → Turn Making (Result Served Failure) → Builds
 build_makes c number t = build_then t (λ k. build.Making c k number) (λ s. Gives (Ok (built c number s)))
 
-abbrev pub in_naming : Ways → Order → Naming → News → Builds
+abbrev pub in_naming : Ways → ConsumerOrder → Naming → News → Builds
 in_naming w o n (Told x) = build_names o (names_told w o.topic n x)
 in_naming w o n (Numbered number) = Stays (build.Naming n) Rests
 in_naming w o n InUse = Stays (build.Naming n) Rests
 
 -- a number that a live consumer has can't be had
-abbrev pub in_numbering : Order → (topic : List ℕ) → Place → News → Builds
+abbrev pub in_numbering : ConsumerOrder → (topic : List ℕ) → Place → News → Builds
 in_numbering o topic place (Told x) = build_fails (OfConnection (fault_of x))
 in_numbering o topic place (Numbered number) = build_makes (command topic number o.config) number (made_gets 0 place)
 in_numbering o topic place InUse = build_fails in_use
@@ -109,7 +109,7 @@ in_making w c k number (Told x) = build_makes c number (made_told w c k x)
 in_making w c k number (Numbered m) = Stays (build.Making c k number) Rests
 in_making w c k number InUse = Stays (build.Making c k number) Rests
 
-abbrev pub build_told : Ways → Order → Building → News → Builds
+abbrev pub build_told : Ways → ConsumerOrder → BuildingConsumer → News → Builds
 build_told w o (build.Naming n) y = in_naming w o n y
 build_told w o (build.Numbering topic place) y = in_numbering o topic place y
 build_told w o (build.Making c k number) y = in_making w c k number y

@@ -6,13 +6,13 @@ ghost use Rattle.pulsar_consumer.specs.Commands.{command};
 ghost use Rattle.pulsar_consumer.specs.Plans as meaning;
 
 use pulsar_addresses::content::{Address, Names, Refusal, Text};
-use pulsar_incoming::orders::Order;
+use pulsar_incoming::orders::ConsumerOrder;
 use pulsar_incoming::settings::Settings;
 use pulsar_searches::closing::Step;
 use pulsar_searches::making::{self, Command, Making, Served};
 use pulsar_searches::names::{self, Naming};
 use pulsar_searches::question::{Question, Request};
-use pulsar_searches::turn::{Action, Outcome, Turn, Ways, error_of};
+use pulsar_searches::turn::{Action, SearchOutcome, Turn, Ways, error_of};
 use pulsar_wire::encoding::copying::copy_optional;
 use pulsar_wire::error::{ConsumerError, Error, NoMemory};
 use std::alloc::Global;
@@ -47,7 +47,7 @@ pub enum Deed {
 #[derive(Drop)]
 pub enum News {
     /// What came of an action. Numbers that are spent fail a draw.
-    Told(Outcome),
+    Told(SearchOutcome),
     /// It has this number.
     Numbered(u64),
     /// A live consumer has the number that was asked for.
@@ -56,7 +56,7 @@ pub enum News {
 
 /// Where a building stands.
 #[derive(Drop)]
-pub enum Building {
+pub enum BuildingConsumer {
     /// It finds the names of the topic.
     Naming(Naming),
     /// It draws a number for the one name.
@@ -73,10 +73,10 @@ pub enum Building {
 }
 
 /// What a building gives at its end.
-pub type Builds = Step<Building, Deed, Result<Built, Refusal>>;
+pub type Builds = Step<BuildingConsumer, Deed, Result<Built, Refusal>>;
 
 /// Where it begins.
-pub fn begins(alloc: Global, ways: &Ways, order: &Order) -> Result<Builds, NoMemory>
+pub fn begins(alloc: Global, ways: &Ways, order: &ConsumerOrder) -> Result<Builds, NoMemory>
     ensures { IfOk result (λ step. step ≡ meaning.build_begins ways.now order.now) }
 {
     let turn = names::begins(alloc, ways, &order.topic)?;
@@ -87,16 +87,18 @@ pub fn begins(alloc: Global, ways: &Ways, order: &Order) -> Result<Builds, NoMem
 pub fn told(
     alloc: Global,
     ways: &Ways,
-    order: &Order,
-    building: Building,
+    order: &ConsumerOrder,
+    building: BuildingConsumer,
     news: News,
 ) -> Result<Builds, NoMemory>
     ensures { IfOk result (λ step. step ≡ meaning.build_told ways.now order.now building news) }
 {
     match building {
-        Building::Naming(naming) => in_naming(alloc, ways, order, naming, news),
-        Building::Numbering { topic, place } => in_numbering(alloc, order, topic, place, news),
-        Building::Making {
+        BuildingConsumer::Naming(naming) => in_naming(alloc, ways, order, naming, news),
+        BuildingConsumer::Numbering { topic, place } => in_numbering(
+            alloc, order, topic, place, news,
+        ),
+        BuildingConsumer::Making {
             command,
             making,
             number,
@@ -107,7 +109,7 @@ pub fn told(
 fn in_naming(
     alloc: Global,
     ways: &Ways,
-    order: &Order,
+    order: &ConsumerOrder,
     naming: Naming,
     news: News,
 ) -> Result<Builds, NoMemory>
@@ -118,13 +120,16 @@ fn in_naming(
             let turn = names::told(alloc, ways, &order.topic, naming, outcome)?;
             names(alloc, order, turn)
         }
-        News::Numbered(_) | News::InUse => Ok(Step::Stays(Building::Naming(naming), Deed::Rests)),
+        News::Numbered(_) | News::InUse => Ok(Step::Stays(
+            BuildingConsumer::Naming(naming),
+            Deed::Rests,
+        )),
     }
 }
 
 fn in_numbering(
     alloc: Global,
-    order: &Order,
+    order: &ConsumerOrder,
     topic: Text,
     place: Address,
     news: News,
@@ -157,7 +162,7 @@ fn in_making(
             Ok(makes(command, number, turn))
         }
         News::Numbered(_) | News::InUse => Ok(Step::Stays(
-            Building::Making {
+            BuildingConsumer::Making {
                 command,
                 making,
                 number,
@@ -170,14 +175,14 @@ fn in_making(
 /// The names of the topic are looked for.
 fn names(
     alloc: Global,
-    order: &Order,
+    order: &ConsumerOrder,
     turn: Turn<Naming, Result<Names, Refusal>>,
 ) -> Result<Builds, NoMemory>
     ensures { IfOk result (λ step. step ≡ meaning.build_names order.now turn) }
 {
     match turn {
         Turn::Stays(naming, action) => {
-            Ok(Step::Stays(Building::Naming(naming), Deed::Does(action)))
+            Ok(Step::Stays(BuildingConsumer::Naming(naming), Deed::Does(action)))
         }
         Turn::Gives(Ok(names)) => numbers(alloc, order, only(alloc, names)?),
         Turn::Gives(Err(refusal)) => Ok(fails(refusal)),
@@ -192,12 +197,12 @@ pub struct Found {
 }
 
 /// A number is drawn for the one name.
-fn numbers(alloc: Global, order: &Order, found: Option<Found>) -> Result<Builds, NoMemory>
+fn numbers(alloc: Global, order: &ConsumerOrder, found: Option<Found>) -> Result<Builds, NoMemory>
     ensures { IfOk result (λ step. step ≡ meaning.build_numbers order.now (option_map meaning.found found)) }
 {
     match found {
         Some(Found { name, place }) => Ok(Step::Stays(
-            Building::Numbering { topic: name, place },
+            BuildingConsumer::Numbering { topic: name, place },
             Deed::Numbers(order.config.get().consumer_id),
         )),
         None => Ok(fails(not_found(alloc)?)),
@@ -227,7 +232,7 @@ fn makes(command: Command, number: u64, turn: Turn<Making, Result<Served, Refusa
 {
     match turn {
         Turn::Stays(making, action) => Step::Stays(
-            Building::Making {
+            BuildingConsumer::Making {
                 command,
                 making,
                 number,

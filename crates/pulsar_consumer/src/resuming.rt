@@ -6,7 +6,7 @@ ghost use Rattle.pulsar_consumer.specs.Plans as meaning;
 use pulsar_addresses::content::{Address, Refusal};
 use pulsar_searches::look::{self, Looking};
 use pulsar_searches::making::{self, Command, Making, Served};
-use pulsar_searches::turn::{Outcome, Turn, Ways};
+use pulsar_searches::turn::{SearchOutcome, Turn, Ways};
 use pulsar_wire::error::NoMemory;
 use std::alloc::Global;
 
@@ -35,7 +35,7 @@ pub fn told(
     ways: &Ways,
     command: &Command,
     resuming: Resuming,
-    outcome: Outcome,
+    outcome: SearchOutcome,
 ) -> Result<Resumes, NoMemory>
     ensures { IfOk result (λ turn. turn ≡ meaning.resume_told ways.now command.now resuming outcome) }
 {

@@ -23,8 +23,8 @@ use Rattle.pulsar_incoming.specs.declared.polled.Polled.{Polled}
 use Rattle.pulsar_incoming.specs.declared.polled.Polled.TheVariants as poll
 use Rattle.pulsar_calls.specs.declared.act.Arrival.{Arrival}
 use Rattle.pulsar_calls.specs.declared.act.Arrival.TheVariants.{Nothing, Readied, Settles, Gives, Passes, Bad}
-use Rattle.pulsar_calls.specs.declared.act.Refusal.{Refusal}
-use Rattle.pulsar_calls.specs.declared.act.Refusal.TheVariants as refusal
+use Rattle.pulsar_calls.specs.declared.act.CallRefusal.{CallRefusal}
+use Rattle.pulsar_calls.specs.declared.act.CallRefusal.TheVariants as refusal
 use Rattle.pulsar_calls.specs.declared.act.Who.{Who}
 use Rattle.pulsar_calls.specs.declared.act.Who.TheVariants as who
 use Rattle.pulsar_calls.specs.declared.act.Word.{Word}
@@ -328,16 +328,16 @@ all_changed f cs = record cs { rows = λ u. option_map f (cs.rows u) }
 -- CALLS
 
 -- why there is no consumer for a call: no consumer was built by a call of this ticket, or it has ended
-abbrev pub refusal_for : (is_raw is_ended : Bool) → Option Refusal
+abbrev pub refusal_for : (is_raw is_ended : Bool) → Option CallRefusal
 refusal_for true is_ended = Some refusal.UnknownTicket
 refusal_for false true = Some refusal.ConsumerClosed
 refusal_for false false = None
 
-abbrev pub why_not_at : Option Member → Option Refusal
+abbrev pub why_not_at : Option Member → Option CallRefusal
 why_not_at None = Some refusal.UnknownTicket
 why_not_at (Some m) = refusal_for m.seen.is_raw (is_ended m.seen)
 
-abbrev pub why_not : Consumers → (ticket : ℕ) → Option Refusal
+abbrev pub why_not : Consumers → (ticket : ℕ) → Option CallRefusal
 why_not cs t = why_not_at (cs.rows t)
 
 -- a raw call of an open client names a number, or none

@@ -23,7 +23,7 @@ use crate::listing::{Listing, listed};
 use crate::numbers::{Numbering, Numbers};
 use crate::row::{ConsumerRow, Sought};
 use pulsar_addresses::content::Refusal as Failure;
-use pulsar_calls::act::{Arrival, Notice, Refusal, Who};
+use pulsar_calls::act::{Arrival, CallRefusal, Notice, Who};
 use pulsar_calls::effect::Effect;
 use pulsar_consumer::Consumer;
 use pulsar_exchange::content::Received;
@@ -500,12 +500,12 @@ impl Consumers {
     }
 
     /// Why there is no consumer for a call on the one of this ticket.
-    pub fn why_not(&self, ticket: u64) -> Option<Refusal>
+    pub fn why_not(&self, ticket: u64) -> Option<CallRefusal>
         ensures { result ≡ why_not (consumers_in self.now.rows self.now.numbers) ticket }
     {
         match self.rows.get(&ticket) {
             Some(row) => refusal_for(row.consumer.inner.is_raw(), row.consumer.inner.is_ended()),
-            None => Some(Refusal::UnknownTicket),
+            None => Some(CallRefusal::UnknownTicket),
         }
     }
 
@@ -574,13 +574,13 @@ fn is_built_at(rows: &BTreeMap<u64, ConsumerRow>, ticket: u64, number: u64) -> b
     }
 }
 
-fn refusal_for(is_raw: bool, is_ended: bool) -> Option<Refusal>
+fn refusal_for(is_raw: bool, is_ended: bool) -> Option<CallRefusal>
     ensures { result ≡ meaning.refusal_for is_raw is_ended }
 {
     if is_raw {
-        Some(Refusal::UnknownTicket)
+        Some(CallRefusal::UnknownTicket)
     } else if is_ended {
-        Some(Refusal::ConsumerClosed)
+        Some(CallRefusal::ConsumerClosed)
     } else {
         None
     }

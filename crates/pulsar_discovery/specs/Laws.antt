@@ -2,11 +2,11 @@
 use Rattle.std.specs.Prelude.{◌≡◌, ◌↔◌, ℕ, ◌<◌, ◌^◌, List, ◌∷◌, length, ◌≤◌, true, false, IsTrue, [], Option, Some, None, if◌then◌else◌, ◌⊎◌}
 use Rattle.url.specs.Parts.{serialize}
 use Rattle.pulsar_addresses.specs.Address.{IsSame, Place, address_key, is_reachable}
-use Rattle.pulsar_searches.specs.declared.plan.Procedure.{Procedure}
+use Rattle.pulsar_searches.specs.declared.plan.Sought.{Sought}
 use Rattle.pulsar_searches.specs.declared.turn.Ways.{Ways}
 use Rattle.pulsar_discovery.specs.Machine.{Refuse, lost, next_after, stage_after}
 use Rattle.pulsar_discovery.specs.Manager.{Known, after_look, looks, GotReady, GotStarted, GotWaiting, Is, fresh, gets, is_pausing, seen_running}
-use Rattle.pulsar_discovery.specs.declared.machine.Stage.TheVariants.{Over}
+use Rattle.pulsar_discovery.specs.declared.machine.MachineStage.TheVariants.{Over}
 use Rattle.pulsar_discovery.specs.declared.outcome.Told.{Told}
 use Rattle.pulsar_discovery.specs.declared.manager.Seen.{Seen}
 use Rattle.pulsar_discovery.specs.declared.manager.Terms.{Terms}
@@ -18,7 +18,7 @@ use Rattle.pulsar_discovery.specs.declared.manager.Seen.TheVariants as seen
 -- behind the end of its procedure a machine says that what was waited for is lost, whatever it is told, and stays over
 abbrev pub LostBehindTheEnd : Type 0
 LostBehindTheEnd =
-    (w : Ways) (p : Procedure) (o : Told) (outcomes : List Told) → stage_after w p outcomes ≡ Over
+    (w : Ways) (p : Sought) (o : Told) (outcomes : List Told) → stage_after w p outcomes ≡ Over
     → (next_after w p o outcomes ≡ Refuse lost) × (stage_after w p (o ∷ outcomes) ≡ Over)
 
 -- each change of a connection is told once

@@ -11,12 +11,12 @@ use Rattle.pulsar_addresses.specs.Address.{Place, named, place}
 use Rattle.pulsar_searches.specs.Plans as plans
 use Rattle.pulsar_searches.specs.declared.plan.Answer.{Answer}
 use Rattle.pulsar_searches.specs.declared.plan.Answer.TheVariants as answer
-use Rattle.pulsar_searches.specs.declared.plan.Plan.{Plan}
-use Rattle.pulsar_searches.specs.declared.plan.Procedure.{Procedure}
+use Rattle.pulsar_searches.specs.declared.plan.SearchPlan.{SearchPlan}
+use Rattle.pulsar_searches.specs.declared.plan.Sought.{Sought}
 use Rattle.pulsar_searches.specs.declared.turn.Action.{Action}
 use Rattle.pulsar_searches.specs.declared.turn.Action.TheVariants as action
-use Rattle.pulsar_searches.specs.declared.turn.Outcome.{Outcome as Happened}
-use Rattle.pulsar_searches.specs.declared.turn.Outcome.TheVariants as happened
+use Rattle.pulsar_searches.specs.declared.turn.SearchOutcome.{SearchOutcome as Happened}
+use Rattle.pulsar_searches.specs.declared.turn.SearchOutcome.TheVariants as happened
 use Rattle.pulsar_searches.specs.declared.turn.Turn.{Turn}
 use Rattle.pulsar_searches.specs.declared.turn.Turn.TheVariants.{Stays, Gives}
 use Rattle.pulsar_searches.specs.declared.turn.Ways.{Ways}
@@ -29,8 +29,8 @@ use Rattle.pulsar_discovery.specs.declared.outcome.Outcome.TheVariants as outcom
 use Rattle.pulsar_discovery.specs.declared.outcome.Told.{Told}
 use Rattle.pulsar_discovery.specs.declared.outcome.Told.TheVariants.{Begun, Then}
 use Rattle.pulsar_discovery.specs.declared.machine.Machine.{Machine}
-use Rattle.pulsar_discovery.specs.declared.machine.Stage.{Stage}
-use Rattle.pulsar_discovery.specs.declared.machine.Stage.TheVariants as stage
+use Rattle.pulsar_discovery.specs.declared.machine.MachineStage.{MachineStage}
+use Rattle.pulsar_discovery.specs.declared.machine.MachineStage.TheVariants as stage
 
 -- WHAT A MACHINE IS TOLD, AND WHAT IT SAYS, by their content
 
@@ -71,7 +71,7 @@ does (action.Get p) = Get p
 does (action.Ask link request) = Ask link (message_of 0 0 request)
 does (action.Wait delay) = Wait delay
 
-abbrev pub step_of : Turn Plan (Result Answer Failure) → Step
+abbrev pub step_of : Turn SearchPlan (Result Answer Failure) → Step
 step_of (Stays s act) = does act
 step_of (Gives (Ok x)) = Done x
 step_of (Gives (Err f)) = Refuse f
@@ -83,38 +83,38 @@ abbrev pub lost : Failure
 lost = OfConnection Disconnected
 
 -- Outside its procedure nothing is waited for. To begin once more is an outcome that the plan doesn't wait for.
-abbrev pub turns : Ways → Stage → Told → Turn Plan (Result Answer Failure)
+abbrev pub turns : Ways → MachineStage → Told → Turn SearchPlan (Result Answer Failure)
 turns w (stage.New p) Begun = plans.begins w p
 turns w (stage.New p) (Then o) = plans.fails lost
 turns w (stage.On s) Begun = plans.told w s (happened.Failed Disconnected)
 turns w (stage.On s) (Then o) = plans.told w s o
 turns w stage.Over o = plans.fails lost
 
-abbrev pub stands : Turn Plan (Result Answer Failure) → Stage
+abbrev pub stands : Turn SearchPlan (Result Answer Failure) → MachineStage
 stands (Stays s act) = stage.On s
 stands (Gives x) = stage.Over
 
 -- where the machine of a procedure stands after outcomes, the newest first
-abbrev pub stage_after : Ways → Procedure → List Told → Stage
+abbrev pub stage_after : Ways → Sought → List Told → MachineStage
 stage_after w p [] = stage.New p
 stage_after w p (o ∷ outcomes) = stands (turns w (stage_after w p outcomes) o)
 
 -- what it says after an outcome and those before it: the next action of its procedure, or its end
-abbrev pub next_after : Ways → Procedure → Told → List Told → Step
+abbrev pub next_after : Ways → Sought → Told → List Told → Step
 next_after w p o outcomes = step_of (turns w (stage_after w p outcomes) o)
 
 -- a machine stands for a procedure and the outcomes that it was told, the newest first
-abbrev pub StandsFor : Ways → Procedure → List Told → Machine → Type 0
+abbrev pub StandsFor : Ways → Sought → List Told → Machine → Type 0
 StandsFor w p outcomes m = (m.ways ≡ w) × (m.stage ≡ Some (stage_after w p outcomes))
 
 -- An outcome makes a machine say what comes next.
 abbrev pub Goes : Machine → Told → Next → Machine → Type 0
 Goes old o said new =
-    (s : Stage) → old.stage ≡ Some s
+    (s : MachineStage) → old.stage ≡ Some s
     → (step said ≡ step_of (turns old.ways s o)) × (new.ways ≡ old.ways) × (new.stage ≡ Some (stands (turns old.ways s o)))
 
 -- So after one more outcome it says what its procedure says after them all, and stands for it and them.
 abbrev pub Extends : Machine → Told → Next → Machine → Type 0
 Extends old o said new =
-    (w : Ways) (p : Procedure) (outcomes : List Told) → StandsFor w p outcomes old
+    (w : Ways) (p : Sought) (outcomes : List Told) → StandsFor w p outcomes old
     → (step said ≡ next_after w p o outcomes) × StandsFor w p (o ∷ outcomes) new

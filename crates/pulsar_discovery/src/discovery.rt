@@ -6,7 +6,7 @@ ghost use Rattle.pulsar_messages.specs.Content.{consumer_options_values, produce
 ghost use Rattle.pulsar_messages.specs.Words.{CreateProducer, Subscribe};
 ghost use Rattle.pulsar_wire.specs.Failures.{fault};
 ghost use Rattle.pulsar_addresses.specs.Address.{place};
-ghost use Rattle.pulsar_searches.specs.declared.plan.Procedure.TheVariants as procedure;
+ghost use Rattle.pulsar_searches.specs.declared.plan.Sought.TheVariants as procedure;
 ghost use Rattle.pulsar_discovery.specs.Machine.{StandsFor};
 ghost use Rattle.pulsar_discovery.specs.Manager.{ways_of};
 
@@ -16,7 +16,7 @@ use pulsar_addresses::address::BrokerAddress;
 use pulsar_addresses::content::{Address, Cause, Text};
 use pulsar_messages::{ConsumerOptions, ProducerOptions};
 use pulsar_searches::making::Command;
-use pulsar_searches::plan::Procedure;
+use pulsar_searches::plan::Sought;
 use pulsar_searches::question::{Question, Request};
 use pulsar_searches::turn::Ways;
 use pulsar_wire::bodies;
@@ -66,7 +66,7 @@ impl ServiceDiscovery {
         ensures { IfOk result (λ m. StandsFor self.now.ways (procedure.Look topic.now) [] m) }
     {
         let topic = Text::new(String::from_str(self.alloc, topic)?);
-        self.machine(Procedure::Look(topic))
+        self.machine(Sought::Look(topic))
     }
 
     /// Finds how many partitions a topic has, and ends with their number.
@@ -74,7 +74,7 @@ impl ServiceDiscovery {
         ensures { IfOk result (λ m. StandsFor self.now.ways (procedure.CountPartitions topic.now) [] m) }
     {
         let topic = Text::new(String::from_str(self.alloc, topic)?);
-        self.machine(Procedure::CountPartitions(topic))
+        self.machine(Sought::CountPartitions(topic))
     }
 
     /// Finds the names of a topic, and ends with each and its address.
@@ -82,10 +82,10 @@ impl ServiceDiscovery {
         ensures { IfOk result (λ m. StandsFor self.now.ways (procedure.Name topic.now) [] m) }
     {
         let topic = Text::new(String::from_str(self.alloc, topic)?);
-        self.machine(Procedure::Name(topic))
+        self.machine(Sought::Name(topic))
     }
 
-    fn machine(&self, procedure: Procedure) -> Result<Machine, NoMemory>
+    fn machine(&self, procedure: Sought) -> Result<Machine, NoMemory>
         ensures { IfOk result (λ m. StandsFor self.now.ways procedure [] m) }
     {
         let ways = self.ways.copy(self.alloc)?;
@@ -105,7 +105,7 @@ pub fn handle_retry_error(
 {
     let topic = Text::new(String::from_str(alloc, topic)?);
     let cause = Cause::new(alloc, error)?;
-    discovery.machine(Procedure::Retry {
+    discovery.machine(Sought::Retry {
         topic,
         retries,
         cause,
@@ -141,7 +141,7 @@ pub fn retry_subscribe_consumer(
         name,
         options,
     )?;
-    discovery.machine(Procedure::Make { command, address })
+    discovery.machine(Sought::Make { command, address })
 }
 
 fn subscribing(
@@ -193,7 +193,7 @@ pub fn retry_create_producer(
 {
     let address = Address::new(alloc, address)?;
     let command = creating(alloc, topic, producer_id, name, options)?;
-    discovery.machine(Procedure::Make { command, address })
+    discovery.machine(Sought::Make { command, address })
 }
 
 fn creating(

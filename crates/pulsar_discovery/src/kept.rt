@@ -2,7 +2,7 @@
 
 ghost use Rattle.std.specs.Prelude.{◌≡◌, IfOk};
 
-use pulsar_searches::plan::Plan;
+use pulsar_searches::plan::SearchPlan;
 use pulsar_wire::error::NoMemory;
 use std::alloc::Global;
 use std::marker::Model;
@@ -10,20 +10,20 @@ use std::marker::Model;
 /// Where a plan stands.
 #[derive(Drop)]
 pub struct Kept {
-    plan: Box<Plan>,
+    plan: Box<SearchPlan>,
 }
 
 impl Model for Kept {
-    ghost use Rattle.pulsar_searches.specs.declared.plan.Plan.{Plan};
+    ghost use Rattle.pulsar_searches.specs.declared.plan.SearchPlan.{SearchPlan};
 
-    ghost Value = { Plan };
+    ghost Value = { SearchPlan };
 
     ghost view = { λ k. k.plan.value };
 }
 
 impl Kept {
     /// This plan.
-    pub fn new(alloc: Global, plan: Plan) -> Result<Kept, NoMemory>
+    pub fn new(alloc: Global, plan: SearchPlan) -> Result<Kept, NoMemory>
         ensures { IfOk result (λ k. k ≡ plan) }
     {
         let plan = Box::new(alloc, plan)?;
@@ -31,7 +31,7 @@ impl Kept {
     }
 
     /// The plan without its box.
-    pub fn into_inner(self) -> Plan
+    pub fn into_inner(self) -> SearchPlan
         ensures { result ≡ self }
     {
         let Kept { plan } = self;

@@ -8,16 +8,16 @@ ghost use Rattle.pulsar_discovery.specs.Machine.{Extends, Goes, StandsFor, does,
 use crate::kept::Kept;
 use crate::outcome::{Next, Outcome, Told, content_of, found_by, message_of};
 use pulsar_addresses::content::{Cause, Refusal};
-use pulsar_searches::plan::{self, Answer, Plan, Procedure};
+use pulsar_searches::plan::{self, Answer, SearchPlan, Sought};
 use pulsar_searches::question::Request;
-use pulsar_searches::turn::{Action, Outcome as Happened, Turn, Ways};
+use pulsar_searches::turn::{Action, SearchOutcome as Happened, Turn, Ways};
 use pulsar_wire::error::{ConnectionError, NoMemory};
 use std::alloc::Global;
 
 /// How far a machine is.
 #[derive(Drop)]
-pub enum Stage {
-    New(Procedure),
+pub enum MachineStage {
+    New(Sought),
     On(Kept),
     Over,
 }
@@ -28,18 +28,18 @@ pub struct Machine {
     alloc: Global,
     ways: Ways,
     /// It is absent after want of memory.
-    stage: Option<Stage>,
+    stage: Option<MachineStage>,
 }
 
 impl Machine {
     /// The machine of a procedure, which was told nothing yet.
-    pub fn new(alloc: Global, ways: Ways, procedure: Procedure) -> Machine
+    pub fn new(alloc: Global, ways: Ways, procedure: Sought) -> Machine
         ensures { StandsFor ways procedure [] result }
     {
         Machine {
             alloc,
             ways,
-            stage: Some(Stage::New(procedure)),
+            stage: Some(MachineStage::New(procedure)),
         }
     }
 
@@ -65,9 +65,9 @@ impl Machine {
 fn goes(
     alloc: Global,
     ways: &Ways,
-    stage: Stage,
+    stage: MachineStage,
     outcome: Outcome,
-) -> Result<(Stage, Box<Next>), NoMemory>
+) -> Result<(MachineStage, Box<Next>), NoMemory>
     ensures stage { IfOk result (λ s. s.0 ≡ stands (turns ways.now stage (told outcome))) }
     ensures next { IfOk result (λ s. step s.1.value ≡ step_of (turns ways.now stage (told outcome))) }
 {
@@ -87,15 +87,15 @@ fn goes(
 fn turns(
     alloc: Global,
     ways: &Ways,
-    stage: Stage,
+    stage: MachineStage,
     told: Told,
-) -> Result<Turn<Plan, Result<Answer, Refusal>>, NoMemory>
+) -> Result<Turn<SearchPlan, Result<Answer, Refusal>>, NoMemory>
     ensures { IfOk result (λ turn. turn ≡ turns ways.now stage told) }
 {
     match stage {
-        Stage::New(procedure) => begins(alloc, ways, procedure, told),
-        Stage::On(kept) => goes_on(alloc, ways, kept.into_inner(), told),
-        Stage::Over => lost(alloc),
+        MachineStage::New(procedure) => begins(alloc, ways, procedure, told),
+        MachineStage::On(kept) => goes_on(alloc, ways, kept.into_inner(), told),
+        MachineStage::Over => lost(alloc),
     }
 }
 
@@ -103,10 +103,10 @@ fn turns(
 fn begins(
     alloc: Global,
     ways: &Ways,
-    procedure: Procedure,
+    procedure: Sought,
     told: Told,
-) -> Result<Turn<Plan, Result<Answer, Refusal>>, NoMemory>
-    ensures { IfOk result (λ turn. turn ≡ turns ways.now (Stage.New procedure) told) }
+) -> Result<Turn<SearchPlan, Result<Answer, Refusal>>, NoMemory>
+    ensures { IfOk result (λ turn. turn ≡ turns ways.now (MachineStage.New procedure) told) }
 {
     match told {
         Told::Begun => plan::begins(alloc, ways, procedure),
@@ -118,10 +118,10 @@ fn begins(
 fn goes_on(
     alloc: Global,
     ways: &Ways,
-    plan: Plan,
+    plan: SearchPlan,
     told: Told,
-) -> Result<Turn<Plan, Result<Answer, Refusal>>, NoMemory>
-    ensures { IfOk result (λ turn. turn ≡ turns ways.now (Stage.On plan) told) }
+) -> Result<Turn<SearchPlan, Result<Answer, Refusal>>, NoMemory>
+    ensures { IfOk result (λ turn. turn ≡ turns ways.now (MachineStage.On plan) told) }
 {
     match told {
         Told::Begun => goes_on_without(alloc, ways, plan),
@@ -133,9 +133,9 @@ fn goes_on(
 fn goes_on_without(
     alloc: Global,
     ways: &Ways,
-    plan: Plan,
-) -> Result<Turn<Plan, Result<Answer, Refusal>>, NoMemory>
-    ensures { IfOk result (λ turn. turn ≡ turns ways.now (Stage.On plan) Told.Begun) }
+    plan: SearchPlan,
+) -> Result<Turn<SearchPlan, Result<Answer, Refusal>>, NoMemory>
+    ensures { IfOk result (λ turn. turn ≡ turns ways.now (MachineStage.On plan) Told.Begun) }
 {
     match disconnected(alloc) {
         Ok(cause) => plan::told(alloc, ways, plan, Happened::Failed(cause)),
@@ -153,7 +153,7 @@ fn disconnected(alloc: Global) -> Result<Cause, NoMemory>
 }
 
 /// What was waited for is lost.
-fn lost(alloc: Global) -> Result<Turn<Plan, Result<Answer, Refusal>>, NoMemory>
+fn lost(alloc: Global) -> Result<Turn<SearchPlan, Result<Answer, Refusal>>, NoMemory>
     ensures { IfOk result (λ turn. turn ≡ fails lost) }
 {
     let refusal = Refusal::in_connection(alloc, ConnectionError::Disconnected)?;
@@ -163,8 +163,8 @@ fn lost(alloc: Global) -> Result<Turn<Plan, Result<Answer, Refusal>>, NoMemory>
 /// Where a machine stands after a turn, and what it says.
 fn said(
     alloc: Global,
-    turn: Turn<Plan, Result<Answer, Refusal>>,
-) -> Result<(Stage, Box<Next>), NoMemory>
+    turn: Turn<SearchPlan, Result<Answer, Refusal>>,
+) -> Result<(MachineStage, Box<Next>), NoMemory>
     ensures stage { IfOk result (λ s. s.0 ≡ stands turn) }
     ensures next { IfOk result (λ s. step s.1.value ≡ step_of turn) }
 {
@@ -172,9 +172,9 @@ fn said(
         Turn::Stays(plan, action) => {
             let kept = Kept::new(alloc, plan);
             let next = done(alloc, action)?;
-            Ok((Stage::On(kept?), next))
+            Ok((MachineStage::On(kept?), next))
         }
-        Turn::Gives(given) => Ok((Stage::Over, end(alloc, given)?)),
+        Turn::Gives(given) => Ok((MachineStage::Over, end(alloc, given)?)),
     }
 }
 

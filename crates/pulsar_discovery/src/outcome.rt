@@ -18,7 +18,7 @@ use pulsar_messages::{ConsumerOptions, ProducerOptions};
 use pulsar_searches::making::Served;
 use pulsar_searches::plan::Answer;
 use pulsar_searches::question::Question;
-use pulsar_searches::turn::Outcome as Happened;
+use pulsar_searches::turn::SearchOutcome as Happened;
 use pulsar_session::messages;
 use pulsar_wire::commands::enumerations::SubType;
 use pulsar_wire::error::{ConnectionError, Error, NoMemory};

@@ -7,7 +7,7 @@ ghost use Rattle.pulsar_incoming.specs.Naming as meaning;
 
 use crate::builder::ConsumerBuilder;
 use crate::config::ConsumerConfig;
-use crate::orders::Order;
+use crate::orders::ConsumerOrder;
 use crate::settings::Settings;
 use pulsar_addresses::content::Text;
 use pulsar_wire::commands::enumerations::SubType;
@@ -27,7 +27,7 @@ pub enum Ordered {
     /// It may have several topics.
     Several,
     /// It has one topic.
-    One(Order),
+    One(ConsumerOrder),
 }
 
 /// The topics that are asked for.
@@ -50,7 +50,7 @@ pub fn order_of(
     match topics_of(&builder.topics, &builder.topic_prefix)? {
         Topics::Nothing => Ok(Ordered::Nothing),
         Topics::Several => Ok(Ordered::Several),
-        Topics::One(topic) => Ok(Ordered::One(Order {
+        Topics::One(topic) => Ok(Ordered::One(ConsumerOrder {
             topic,
             config: config_of(alloc, seed, ticket, builder)?,
         })),

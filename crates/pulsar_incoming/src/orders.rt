@@ -5,7 +5,7 @@ use pulsar_addresses::content::Text;
 
 /// The consumer that is to be built.
 #[derive(Drop)]
-pub struct Order {
+pub struct ConsumerOrder {
     /// Its topic, as that was asked for.
     pub topic: Text,
     /// How it is to be made.

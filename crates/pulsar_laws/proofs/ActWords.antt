@@ -5,7 +5,7 @@ pub use Rattle.pulsar_calls.specs.Who.{is_same, ticket_of, turn_of}
 pub use Rattle.pulsar_calls.specs.declared.act.Act.{Act}
 pub use Rattle.pulsar_calls.specs.declared.act.Act.TheVariants.{Answers, Comes, Dials, Does, Starts, Told}
 pub use Rattle.pulsar_calls.specs.declared.act.Action.{Action}
-pub use Rattle.pulsar_calls.specs.declared.act.Action.TheVariants.{Ask, Draw, FailConsumer, Find, FindConsumer, Flush, Get, Number, PassTurn, Recall, RecallConsumer, Remake, Rest, Revive, Shut, StopAll, Store, TakeBatch, TakeFlow, TakeNumber, TakeTurn, Tell, TellAll, Wait}
+pub use Rattle.pulsar_calls.specs.declared.act.Action.TheVariants.{Ask, FailConsumer, FindConsumer, Get, Hold, Number, OfTopic, RecallConsumer, Rest, Revive, Shut, StopAll, TakeFlow, TakeNumber, Tell, TellAll, Wait}
 pub use Rattle.pulsar_calls.specs.declared.act.Alarm.{Alarm}
 pub use Rattle.pulsar_calls.specs.declared.act.Alarm.TheVariants.{Batch, CheckIdle, KeepAlive, Retry, Wake}
 pub use Rattle.pulsar_calls.specs.declared.act.Arrival.{Arrival}
@@ -21,9 +21,11 @@ pub use Rattle.pulsar_calls.specs.declared.act.Part.{Part}
 pub use Rattle.pulsar_calls.specs.declared.act.Part.TheVariants.{Calls, Polls, Rings, ToLink}
 pub use Rattle.pulsar_calls.specs.declared.act.Place.TheVariants.{Link}
 pub use Rattle.pulsar_calls.specs.declared.act.Procedure.{Procedure}
-pub use Rattle.pulsar_calls.specs.declared.act.Refusal.{Refusal}
+pub use Rattle.pulsar_calls.specs.declared.act.CallRefusal.{CallRefusal}
 pub use Rattle.pulsar_calls.specs.declared.act.Round.TheVariants.{Checks, Flushes}
 pub use Rattle.pulsar_calls.specs.declared.act.Share.{Share}
+pub use Rattle.pulsar_calls.specs.declared.act.TopicAsk.{TopicAsk}
+pub use Rattle.pulsar_calls.specs.declared.act.TopicAsk.TheVariants.{Draw, Find, Flush, PassTurn, Recall, Remake, Store, TakeBatch, TakeTurn}
 pub use Rattle.pulsar_calls.specs.declared.act.Verdict.{Verdict}
 pub use Rattle.pulsar_calls.specs.declared.act.Who.{Who}
 pub use Rattle.pulsar_calls.specs.declared.act.Who.TheVariants.{Call, Consumer, Producer}

@@ -30,7 +30,8 @@ use Rattle.pulsar_links.specs.Alarms.{ringing, rings}
 use Rattle.pulsar_calls.specs.declared.act.Act.{Act}
 use Rattle.pulsar_calls.specs.declared.act.Act.TheVariants.{Comes, Starts, Told, Does, Answers, Dials}
 use Rattle.pulsar_calls.specs.declared.act.Action.{Action}
-use Rattle.pulsar_calls.specs.declared.act.Action.TheVariants.{Get, Ask, TakeTurn, PassTurn, Draw, Recall, Remake, Number, Find, Shut, Store, Flush, TakeBatch, TakeNumber, FindConsumer, TakeFlow, RecallConsumer, Revive, FailConsumer, Tell, TellAll, StopAll, Rest}
+use Rattle.pulsar_calls.specs.declared.act.Action.TheVariants.{OfTopic, Get, Ask, Number, Hold, Shut, TakeNumber, FindConsumer, TakeFlow, RecallConsumer, Revive, FailConsumer, Tell, TellAll, StopAll, Rest}
+use Rattle.pulsar_calls.specs.declared.act.TopicAsk.TheVariants.{TakeTurn, PassTurn, Draw, Recall, Remake, Find, Store, Flush, TakeBatch}
 use Rattle.pulsar_calls.specs.declared.act.Alarm.{Alarm}
 use Rattle.pulsar_calls.specs.declared.act.Alarm.TheVariants.{Retry, Wake, Batch, KeepAlive, CheckIdle}
 use Rattle.pulsar_calls.specs.declared.act.Arrival.TheVariants.{Readied}
@@ -46,7 +47,7 @@ use Rattle.pulsar_calls.specs.declared.act.Outcome.{Outcome}
 use Rattle.pulsar_calls.specs.declared.act.Part.{Part}
 use Rattle.pulsar_calls.specs.declared.act.Part.TheVariants.{Calls, ToLink, Rings, Polls}
 use Rattle.pulsar_calls.specs.declared.act.Procedure.{Procedure}
-use Rattle.pulsar_calls.specs.declared.act.Refusal.{Refusal}
+use Rattle.pulsar_calls.specs.declared.act.CallRefusal.{CallRefusal}
 use Rattle.pulsar_calls.specs.declared.act.Says.{Says}
 use Rattle.pulsar_calls.specs.declared.act.Verdict.{Verdict}
 use Rattle.pulsar_calls.specs.declared.act.Who.{Who}
@@ -75,7 +76,7 @@ use Rattle.pulsar_consumer_table.specs.Consumers.{Member}
 use Rattle.pulsar_consumer_table.specs.declared.numbers.Numbering.TheVariants.{Has, InUse, Spent}
 use Rattle.pulsar_consumer_table.specs.declared.row.Sought.TheVariants.{Gone}
 use Rattle.pulsar_consumer.specs.Plans.{in_use, not_found}
-use Rattle.pulsar_incoming.specs.declared.orders.Order.{Order}
+use Rattle.pulsar_incoming.specs.declared.orders.ConsumerOrder.{ConsumerOrder}
 use Rattle.pulsar_consumer.specs.Topic as reader
 use Rattle.pulsar_acts.specs.View.{View, builds, member_on, pause_of, setup, setup_of, room_of}
 use Rattle.pulsar_machine.specs.Options.{Options}
@@ -325,39 +326,40 @@ Acts o who P e older = (action : Action) × (e ≡ Then (Does who action)) × P 
 -- schema; the number of a message, where the link is ready; the command by which the producer is made again; the number of a new one; the
 -- next batch; or nothing more. A flush is done at once only where all is settled.
 abbrev pub GrantsSo : News → Action → View → Type 0
-GrantsSo (news.HasTurn version) (TakeTurn n) v = turn_taken (v.producers.topics n) ≡ Some version
-GrantsSo (news.Drew d) (Draw n) v = (room : Bool) × (room_of v n ≡ Some room) × (drawn room (v.producers.topics n) ≡ Some d)
-GrantsSo (news.Recalled c) (Recall n) v = recalled v.producers n ≡ Some c
+GrantsSo (news.HasTurn version) (OfTopic n TakeTurn) v = turn_taken (v.producers.topics n) ≡ Some version
+GrantsSo (news.Drew d) (OfTopic n Draw) v = (room : Bool) × (room_of v n ≡ Some room) × (drawn room (v.producers.topics n) ≡ Some d)
+GrantsSo (news.Recalled c) (OfTopic n Recall) v = recalled v.producers n ≡ Some c
 GrantsSo (news.Numbered number) Number v = number_drawn v.producers ≡ Some number
-GrantsSo news.Done (PassTurn n) v = Unit {0}
-GrantsSo news.Done (Remake r) v = Unit {0}
+GrantsSo news.Done (OfTopic n PassTurn) v = Unit {0}
+GrantsSo news.Done (OfTopic m (Remake r)) v = Unit {0}
+GrantsSo news.Done (Hold l n) v = Unit {0}
 GrantsSo news.Done (Shut t) v = Unit {0}
-GrantsSo (news.HasBatch items) (TakeBatch n) v = next_batch_at (v.producers.topics n) ≡ items
-GrantsSo news.Done (Store n e) v = Unit {0}
-GrantsSo news.Done (Flush n) v = is_settled_at (v.producers.topics n) ≡ true
+GrantsSo (news.HasBatch items) (OfTopic n TakeBatch) v = next_batch_at (v.producers.topics n) ≡ items
+GrantsSo news.Done (OfTopic n (Store e)) v = Unit {0}
+GrantsSo news.Done (OfTopic n Flush) v = is_settled_at (v.producers.topics n) ≡ true
 GrantsSo news.Done (Tell n) v = Unit {0}
 GrantsSo news.Done (TellAll ns) v = Unit {0}
 GrantsSo _ _ v = ⊥
 
 -- the link of a topic producer is not ready, or its numbers are spent, or those of new producers or of new consumers are
 abbrev pub DrawsNone : Fault → Action → View → Type 0
-DrawsNone Disconnected (Draw n) v = room_of v n ≡ None
-DrawsNone Exhausted (Draw n) v = (room : Bool) × (room_of v n ≡ Some room) × (drawn room (v.producers.topics n) ≡ None)
+DrawsNone Disconnected (OfTopic n Draw) v = room_of v n ≡ None
+DrawsNone Exhausted (OfTopic n Draw) v = (room : Bool) × (room_of v n ≡ Some room) × (drawn room (v.producers.topics n) ≡ None)
 DrawsNone Exhausted Number v = number_drawn v.producers ≡ None
 DrawsNone Exhausted (TakeNumber wanted) v = consumer.numbering v.consumers wanted ≡ Spent
 DrawsNone _ _ v = ⊥
 
 -- it asks for the link of a topic producer, or of a consumer, which is this
 abbrev pub Finds : (link : ℕ) → Action → View → Type 0
-Finds link (Find n) v = link_at (v.producers.topics n) ≡ Some link
+Finds link (OfTopic n Find) v = link_at (v.producers.topics n) ≡ Some link
 Finds link (FindConsumer t) v = consumer.link_at (v.consumers.rows t) ≡ Some link
 Finds link _ v = ⊥
 
 -- it asks of a topic producer that is not known, or of its own consumer, where that is not
 abbrev pub IsUnknown : Who → Action → View → Type 0
-IsUnknown who (TakeTurn n) v = v.producers.topics n ≡ None
-IsUnknown who (Recall n) v = recalled v.producers n ≡ None
-IsUnknown who (Find n) v = v.producers.topics n ≡ None
+IsUnknown who (OfTopic n TakeTurn) v = v.producers.topics n ≡ None
+IsUnknown who (OfTopic n Recall) v = recalled v.producers n ≡ None
+IsUnknown who (OfTopic n Find) v = v.producers.topics n ≡ None
 IsUnknown who RecallConsumer v = v.consumers.rows (ticket_of who) ≡ None
 IsUnknown who _ v = ⊥
 
@@ -429,13 +431,13 @@ WordComes o who w e older =
 -- another passes the turn of a topic producer on to it, with this version of the schema
 abbrev pub GetsTurn : Options → Who → News → Entry → List Entry → Type 0
 GetsTurn o who n e older =
-    (other : Who) × (number turn : ℕ) × (version : Option (List ℕ)) × (e ≡ Then (Does other (PassTurn number))) × (who ≡ in_turn number turn)
+    (other : Who) × (number turn : ℕ) × (version : Option (List ℕ)) × (e ≡ Then (Does other (OfTopic number PassTurn))) × (who ≡ in_turn number turn)
     × (n ≡ news.HasTurn version) × (turn_passed ((view o older).producers.topics number) ≡ Some (turn, version))
 
 -- what is stored at a topic producer is cut into a batch, and none was under way: by another message, by a flush, or since it has waited
 abbrev pub CutsSo : Options → (number : ℕ) → (act : topic.Act) → Entry → List Entry → Type 0
-CutsSo o n (topic.Stores turn entry) e older = (other : Who) × (e ≡ Then (Does other (Store n entry))) × (turn ≡ taken_as other)
-CutsSo o n (topic.Flushes turn) e older = (other : Who) × (e ≡ Then (Does other (Flush n))) × (turn ≡ taken_as other)
+CutsSo o n (topic.Stores turn entry) e older = (other : Who) × (e ≡ Then (Does other (OfTopic n (Store entry)))) × (turn ≡ taken_as other)
+CutsSo o n (topic.Flushes turn) e older = (other : Who) × (e ≡ Then (Does other (OfTopic n Flush))) × (turn ≡ taken_as other)
 CutsSo o n topic.Cuts e older =
     (e ≡ Then (Comes (Rings (Batch n)))) × (rings (view o older).now (Batch n) (view o older).alarms ≡ true)
 CutsSo o n _ e older = ⊥
@@ -546,8 +548,8 @@ has_failed _ = false
 -- with what it is told; a consumer that is built where its number is in use, and where its topic has several partitions; and the close of one
 -- that has ended
 pub data FailsSo (p : Procedure) (os : List Outcome) (f : Failure) : Type 0 where
-  IsRefused : (r : Refusal) → p ≡ procedure.Refuse r → f ≡ failure_of r → FailsSo p os f
-  IsRefusedShare : (s : Share) (r : Refusal) → p ≡ procedure.FailShare s r → f ≡ failure_of r → FailsSo p os f
+  IsRefused : (r : CallRefusal) → p ≡ procedure.Refuse r → f ≡ failure_of r → FailsSo p os f
+  IsRefusedShare : (s : Share) (r : CallRefusal) → p ≡ procedure.FailShare s r → f ≡ failure_of r → FailsSo p os f
   IsTold : (u : Outcome) → In u os → f ≡ OfConnection (fault_of u) → FailsSo p os f
   IsTurned : (u : Outcome) → is_some (ways_in p) ≡ true → In u os → f ≡ in_discovery (fault_of u) → FailsSo p os f
   IsDenied : (w : Ways) (r : Reply) (d : DiscoveryFault) →
@@ -559,8 +561,8 @@ pub data FailsSo (p : Procedure) (os : List Outcome) (f : Failure) : Type 0 wher
   IsSettled : In (outcome.Settled (Err f)) os → FailsSo p os f
   IsPartial : (first count : ℕ) (failures : List (ℕ × Failure)) → p ≡ procedure.Gather first count → list_any has_failed os ≡ true →
       f ≡ OfPartialSend (outcomes_of failures (numbers_from first count)) → FailsSo p os f
-  IsInUse : (w : Ways) (order : Order) → p ≡ procedure.Subscribe w order → In (outcome.Word word.InUse) os → f ≡ in_use → FailsSo p os f
-  IsOfSeveral : (w : Ways) (order : Order) (r : Reply) (retries count : ℕ) → p ≡ procedure.Subscribe w order → In (outcome.Replied r) os →
+  IsInUse : (w : Ways) (order : ConsumerOrder) → p ≡ procedure.Subscribe w order → In (outcome.Word word.InUse) os → f ≡ in_use → FailsSo p os f
+  IsOfSeveral : (w : Ways) (order : ConsumerOrder) (r : Reply) (retries count : ℕ) → p ≡ procedure.Subscribe w order → In (outcome.Replied r) os →
       count_in w retries r.content ≡ CountIs count → 2 ≤ count → f ≡ not_found → FailsSo p os f
   IsClosed : (t n : ℕ) → p ≡ procedure.Leave t n → In (outcome.Word word.Closed) os → f ≡ OfConsumer ConsumerClosed → FailsSo p os f
   IsAnswered : (r : Reply) (number : ℕ) (s : Says) → In (outcome.Replied r) os → number_in p ≡ Some number → Failed f ≡ reply_says s number r → FailsSo p os f

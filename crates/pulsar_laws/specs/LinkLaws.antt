@@ -5,7 +5,7 @@ use Rattle.std.specs.List.{flat_map}
 use Rattle.std.specs.Option.{is_some, option_to_list}
 use Rattle.pulsar_run.specs.Laws.{In}
 use Rattle.pulsar_session.specs.Link.{Seen, due}
-use Rattle.pulsar_session.specs.Laws.{Outcome as Fate, Replied, Ended, told_in}
+use Rattle.pulsar_session.specs.Laws.{RequestOutcome as Fate, Replied, Ended, told_in}
 use Rattle.pulsar_links.specs.Seats.{Seat, closing, has_ended}
 use Rattle.pulsar_calls.specs.declared.act.Act.TheVariants.{Comes}
 use Rattle.pulsar_calls.specs.declared.act.End.TheVariants.{Overdue}

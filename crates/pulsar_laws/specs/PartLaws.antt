@@ -4,7 +4,8 @@ use Rattle.pulsar_run.specs.Laws.{In}
 use Rattle.pulsar_wire.specs.Failures.{Failure, OfConnection, OfPartialSend, Shutdown, Sent, NoMore, Went, Failed as Fails}
 use Rattle.pulsar_calls.specs.declared.act.Act.{Act}
 use Rattle.pulsar_calls.specs.declared.act.Act.TheVariants.{Answers, Does}
-use Rattle.pulsar_calls.specs.declared.act.Action.TheVariants.{Store}
+use Rattle.pulsar_calls.specs.declared.act.Action.TheVariants.{OfTopic}
+use Rattle.pulsar_calls.specs.declared.act.TopicAsk.TheVariants.{Store}
 use Rattle.pulsar_calls.specs.declared.act.Makes.TheVariants.{Nothing}
 use Rattle.pulsar_calls.specs.declared.act.Outcome.TheVariants as outcome
 use Rattle.pulsar_calls.specs.declared.act.Procedure.TheVariants as procedure
@@ -18,7 +19,7 @@ use Rattle.pulsar_laws.specs.ProducerLaws.{queued_times}
 
 -- how often the message of a call was given away: its frame was queued, or it was stored with others
 abbrev pub stores_by : (ticket : ℕ) → Act → ℕ
-stores_by t (Does who (Store n x)) = if is_same (Call t) who then 1 else 0
+stores_by t (Does who (OfTopic n (Store x))) = if is_same (Call t) who then 1 else 0
 stores_by t _ = 0
 
 abbrev pub given_times : Options → (ticket : ℕ) → List Entry → ℕ

@@ -4,7 +4,7 @@ use Rattle.std.specs.BTreeMap.{is_at}
 use Rattle.std.specs.List.{list_any}
 use Rattle.std.specs.Map.{lookup}
 use Rattle.std.specs.Ordering.{nat_cmp}
-use Rattle.std.specs.Option.{is_some, option_map}
+use Rattle.std.specs.Option.{option_map}
 use Rattle.pulsar_run.specs.Laws.{In}
 use Rattle.pulsar_wire.specs.declared.error.ConnectionError.TheVariants as error
 use Rattle.pulsar_wire.specs.declared.key.RequestKey.TheVariants as key
@@ -38,11 +38,9 @@ use Rattle.pulsar_producer.specs.declared.batching.Batching.{Batching}
 use Rattle.pulsar_producer.specs.declared.batching.Batching.TheVariants as batching
 use Rattle.pulsar_searches.specs.declared.turn.Ways.{Ways}
 use Rattle.pulsar_calls.specs.declared.act.Act.{Act}
-use Rattle.pulsar_calls.specs.declared.act.Act.TheVariants.{Comes, Told, Does}
-use Rattle.pulsar_calls.specs.declared.act.Alarm.TheVariants.{Batch}
-use Rattle.pulsar_calls.specs.declared.act.Part.TheVariants.{Rings}
-use Rattle.pulsar_links.specs.Alarms.{rings}
-use Rattle.pulsar_calls.specs.declared.act.Action.TheVariants.{Ask, TakeTurn, PassTurn, Draw, Remake, Shut, Store, Flush, TakeBatch, StopAll}
+use Rattle.pulsar_calls.specs.declared.act.Act.TheVariants.{Told, Does}
+use Rattle.pulsar_calls.specs.declared.act.Action.TheVariants.{OfTopic, Ask}
+use Rattle.pulsar_calls.specs.declared.act.TopicAsk.TheVariants.{PassTurn}
 use Rattle.pulsar_calls.specs.declared.act.Makes.TheVariants as makes
 use Rattle.pulsar_calls.specs.declared.act.Share.{Share}
 use Rattle.pulsar_calls.specs.declared.act.Outcome.{Outcome}
@@ -57,10 +55,15 @@ use Rattle.pulsar_plans.specs.declared.plan.Plan.TheVariants as plan
 use Rattle.pulsar_producer_table.specs.declared.table.Topic.{Topic}
 use Rattle.pulsar_calls.specs.Content.{Said, Failed}
 use Rattle.pulsar_calls.specs.Parts.{sent_from}
-use Rattle.pulsar_producer_table.specs.Producers.{number_drawn, numbers_at}
+use Rattle.pulsar_producer_table.specs.Producers.{number_drawn}
 use Rattle.pulsar_acts.specs.Rules.{joins, notice}
-use Rattle.pulsar_acts.specs.Run.{Entry, Begins, Then, IsRun, Rests, view}
-use Rattle.pulsar_acts.specs.View.{View, room_of}
+use Rattle.pulsar_acts.specs.Run.{Entry, Begins, Then, IsRun, Rests, rules, view}
+use Rattle.pulsar_run.specs.Things.{since}
+use Rattle.pulsar_acts.specs.Things.{topics}
+pub use Rattle.pulsar_producer_table.specs.Asks.{drawn_by}
+pub use Rattle.pulsar_producer_table.specs.Producers.{shut_by}
+pub use Rattle.pulsar_acts.specs.View.{rung_by, topic_acts}
+use Rattle.pulsar_acts.specs.View.{View}
 use Rattle.pulsar_machine.specs.Options.{Options}
 use Rattle.pulsar_links.specs.Seats.{Seat, answer_at}
 use Rattle.pulsar_calls.specs.Who.{in_turn, is_same, turn_of as taken_as}
@@ -94,36 +97,9 @@ version_told w [] = None
 version_told w (Then (Told n) ∷ log) = if is_same w n.who then version_in n.outcome (version_told w log) else version_told w log
 version_told w (_ ∷ log) = version_told w log
 
--- what an act does to the topic producer of a number
-abbrev pub drawn_by : Option Bool → List TopicAct
-drawn_by None = []
-drawn_by (Some room) = topic.Draws ∷ []
-
-abbrev pub rung_by : (rings : Bool) → List TopicAct
-rung_by rings = if rings then topic.Cuts ∷ [] else []
-
-abbrev pub shut_by : (number : ℕ) → List ℕ → List TopicAct
-shut_by n [] = []
-shut_by n (m ∷ ms) = if n == m then topic.Closes ∷ shut_by n ms else shut_by n ms
-
-abbrev pub topic_acts : View → (number : ℕ) → Act → List TopicAct
-topic_acts v n (Comes (Rings (Batch m))) = if n == m then rung_by (rings v.now (Batch m) v.alarms) else []
-topic_acts v n (Does who (TakeTurn m)) = if n == m then topic.Takes (taken_as who) ∷ [] else []
-topic_acts v n (Does who (PassTurn m)) = if n == m then topic.Passes ∷ [] else []
-topic_acts v n (Does who (Draw m)) = if n == m then drawn_by (room_of v m) else []
-topic_acts v n (Does who (Remake r)) = if n == r.number then topic.Remakes r.link r.given ∷ [] else []
-topic_acts v n (Does who (Store m e)) = if n == m then topic.Stores (taken_as who) e ∷ [] else []
-topic_acts v n (Does who (Flush m)) = if n == m then topic.Flushes (taken_as who) ∷ [] else []
-topic_acts v n (Does who (TakeBatch m)) = if n == m then topic.TakesBatch ∷ [] else []
-topic_acts v n (Does who StopAll) = topic.Halts ∷ []
-topic_acts v n (Does who (Shut t)) = shut_by n (numbers_at (v.producers.built t))
-topic_acts v n _ = []
-
 -- all that was done to it since it was built, newest first
 abbrev pub acts_on : Options → (number : ℕ) → List Entry → List TopicAct
-acts_on o n [] = []
-acts_on o n (Begins e ∷ log) = acts_on o n log
-acts_on o n (Then a ∷ log) = if is_some ((view o log).producers.topics n) then topic_acts (view o log) n a ++ acts_on o n log else []
+acts_on o n log = since rules topics o log n
 
 -- A topic producer is what these made of it, and nothing else. So all that holds of one over any acts holds of it: the numbers that it draws
 -- rise, one has its turn at a time, the turn goes to the lowest ticket of those that wait, and what is stored is cut where it is ready.
@@ -247,10 +223,10 @@ HasTurn v who n = (row : Topic) × (v.producers.topics n ≡ Some row) × (row.s
 
 -- The turn is passed on by the one that has it, to the lowest ticket of those that wait, which is told so.
 abbrev pub PassedInTurn : Type 0
-PassedInTurn = (o : Options) (log : List Entry) (who : Who) (n : ℕ) → IsRun o (Then (Does who (PassTurn n)) ∷ log) →
+PassedInTurn = (o : Options) (log : List Entry) (who : Who) (n : ℕ) → IsRun o (Then (Does who (OfTopic n PassTurn)) ∷ log) →
     (row : Topic) × ((view o log).producers.topics n ≡ Some row) × (row.seen.holder ≡ Some (taken_as who))
     × ((next : ℕ) (left : List ℕ) → row.seen.waiting ≡ next ∷ left → AreAbove next left
-    × In (notice (in_turn n next) (outcome.Granted (news.HasTurn row.seen.given.version))) (joins (view o log) (Does who (PassTurn n))))
+    × In (notice (in_turn n next) (outcome.Granted (news.HasTurn row.seen.given.version))) (joins (view o log) (Does who (OfTopic n PassTurn))))
 
 -- One that is told that its turn has come has it, if it waits for it still.
 abbrev pub ToldInTurn : Type 0

@@ -17,19 +17,20 @@ use Rattle.pulsar_searches.specs.declared.look.Search.{Search}
 use Rattle.pulsar_searches.specs.declared.making.Command.{Command}
 use Rattle.pulsar_searches.specs.declared.making.Making.{Making}
 use Rattle.pulsar_searches.specs.declared.making.Making.TheVariants as make
-use Rattle.pulsar_searches.specs.declared.plan.Procedure.TheVariants as sought
+use Rattle.pulsar_searches.specs.declared.plan.Sought.TheVariants as sought
 use Rattle.pulsar_searches.specs.declared.retry.Retrying.TheVariants as retry
 use Rattle.pulsar_searches.specs.declared.turn.Action.{Action as Wish}
 use Rattle.pulsar_searches.specs.declared.turn.Action.TheVariants as wish
-use Rattle.pulsar_searches.specs.declared.turn.Outcome.{Outcome as News}
-use Rattle.pulsar_searches.specs.declared.turn.Outcome.TheVariants as news
+use Rattle.pulsar_searches.specs.declared.turn.SearchOutcome.{SearchOutcome as News}
+use Rattle.pulsar_searches.specs.declared.turn.SearchOutcome.TheVariants as news
 use Rattle.pulsar_searches.specs.declared.turn.Turn.{Turn}
 use Rattle.pulsar_searches.specs.declared.turn.Turn.TheVariants.{Stays, Gives}
 use Rattle.pulsar_searches.specs.declared.turn.Ways.{Ways}
 use Rattle.pulsar_producer.specs.Topic as topic
 use Rattle.pulsar_calls.specs.declared.act.Act.{Act}
 use Rattle.pulsar_calls.specs.declared.act.Act.TheVariants.{Answers, Comes, Dials, Does, Told}
-use Rattle.pulsar_calls.specs.declared.act.Action.TheVariants.{Flush, Shut, StopAll, Store, Wait}
+use Rattle.pulsar_calls.specs.declared.act.Action.TheVariants.{OfTopic, Shut, StopAll, Wait}
+use Rattle.pulsar_calls.specs.declared.act.TopicAsk.TheVariants.{Flush, Store}
 use Rattle.pulsar_calls.specs.declared.act.Alarm.{Alarm}
 use Rattle.pulsar_calls.specs.declared.act.Alarm.TheVariants.{Batch, CheckIdle, KeepAlive, Retry, Wake}
 use Rattle.pulsar_calls.specs.declared.act.End.{End}
@@ -107,8 +108,8 @@ abbrev pub sets : View → Act → Option (Alarm × ℕ)
 sets v (Comes (ToLink l x)) = set_on v.chosen (turned v (Comes (ToLink l x)))
 sets v (Comes (Rings a)) = if rings v.now a v.alarms then set_again v.chosen a else None
 sets v (Does who (Wait delay)) = Some (Wake who, delay)
-sets v (Does who (Store n x)) = set_at v n (topic.Stores (taken_as who) x)
-sets v (Does who (Flush n)) = set_at v n (topic.Flushes (taken_as who))
+sets v (Does who (OfTopic n (Store x))) = set_at v n (topic.Stores (taken_as who) x)
+sets v (Does who (OfTopic n Flush)) = set_at v n (topic.Flushes (taken_as who))
 sets v (Answers who verdict) = if not v.calls.is_built && builds verdict.makes false then Some (CheckIdle, 60000) else None
 sets v _ = None
 
@@ -128,8 +129,8 @@ cleared_at v n act a = is_bare (row_with act (v.producers.topics n)) && is_same_
 abbrev pub clears : View → Act → Alarm → Bool
 clears v (Comes (ToLink l x)) a = cleared_on (turned v (Comes (ToLink l x))) a
 clears v (Comes (Rings b)) a = rings v.now b v.alarms && is_same_alarm a b
-clears v (Does who (Store n x)) a = cleared_at v n (topic.Stores (taken_as who) x) a
-clears v (Does who (Flush n)) a = cleared_at v n (topic.Flushes (taken_as who)) a
+clears v (Does who (OfTopic n (Store x))) a = cleared_at v n (topic.Stores (taken_as who) x) a
+clears v (Does who (OfTopic n Flush)) a = cleared_at v n (topic.Flushes (taken_as who)) a
 clears v (Does who (Shut t)) a = list_any (λ n. is_same_alarm a (Batch n)) (numbers_at (v.producers.built t))
 clears v (Does who StopAll) a = true
 clears v _ a = false

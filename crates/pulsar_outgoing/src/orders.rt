@@ -5,7 +5,7 @@ use pulsar_addresses::content::Text;
 
 /// The producer that is to be built.
 #[derive(Drop)]
-pub struct Order {
+pub struct ProducerOrder {
     pub topic: Text,
     pub name: Option<Text>,
     pub options: Settings,

@@ -5,14 +5,15 @@ use Rattle.std.specs.Prelude.{◌&&◌, not}
 use Rattle.pulsar_addresses.specs.Address.{Named, Place}
 use Rattle.pulsar_calls.specs.Content.{Said}
 use Rattle.pulsar_calls.specs.declared.act.Action.{Action}
-use Rattle.pulsar_calls.specs.declared.act.Action.TheVariants.{Ask, FailConsumer, Find, FindConsumer, Flush, Get, Number, PassTurn, RecallConsumer, Rest, Revive, Shut, StopAll, Store, TakeFlow, TakeNumber, TakeTurn, TellAll, Wait}
+use Rattle.pulsar_calls.specs.declared.act.Action.TheVariants.{Ask, FailConsumer, FindConsumer, Get, Number, OfTopic, RecallConsumer, Rest, Revive, Shut, StopAll, TakeFlow, TakeNumber, TellAll, Wait}
 use Rattle.pulsar_calls.specs.declared.act.Makes.TheVariants.{Nothing}
 use Rattle.pulsar_calls.specs.declared.act.Outcome.{Outcome}
 use Rattle.pulsar_calls.specs.declared.act.Place.TheVariants.{Link}
 use Rattle.pulsar_calls.specs.declared.act.Procedure.{Procedure}
-use Rattle.pulsar_calls.specs.declared.act.Refusal.{Refusal}
+use Rattle.pulsar_calls.specs.declared.act.CallRefusal.{CallRefusal}
 use Rattle.pulsar_calls.specs.declared.act.Round.TheVariants.{Checks, Flushes}
 use Rattle.pulsar_calls.specs.declared.act.Share.{Share}
+use Rattle.pulsar_calls.specs.declared.act.TopicAsk.TheVariants.{Find, Flush, PassTurn, Store, TakeTurn}
 use Rattle.pulsar_calls.specs.declared.act.Verdict.{Verdict}
 use Rattle.pulsar_exchange.specs.Messages.{Reply}
 use Rattle.pulsar_messages.specs.Words.{Words}
@@ -20,7 +21,7 @@ use Rattle.pulsar_outgoing.specs.declared.batch.Fate.{Fate}
 use Rattle.pulsar_outgoing.specs.declared.batch.Member.{Member}
 use Rattle.pulsar_outgoing.specs.declared.content.Built.{Built}
 use Rattle.pulsar_outgoing.specs.declared.orders.Errand.{Errand}
-use Rattle.pulsar_outgoing.specs.declared.orders.Order.{Order}
+use Rattle.pulsar_outgoing.specs.declared.orders.ProducerOrder.{ProducerOrder}
 use Rattle.pulsar_plans.specs.Plan.{action_of, batches_on, begins, is_answer, news_in, news_of, overrides, told, told_to, verdict}
 use Rattle.pulsar_plans.specs.declared.plan.Plan.{Plan}
 use Rattle.pulsar_plans.specs.declared.plan.Plan.TheVariants.{Asking, Awaiting, Batching, Leaving, Producing, Reporting, Serving, Stored, Storing, Subscribing, Visiting}
@@ -28,12 +29,12 @@ use Rattle.pulsar_plans.specs.declared.plan.Turn.{Turn}
 use Rattle.pulsar_plans.specs.declared.plan.Turn.TheVariants.{Gives, Stays}
 use Rattle.pulsar_producer.specs.News.{News}
 use Rattle.pulsar_producer.specs.declared.batching.Batching.{Batching as Batches}
-use Rattle.pulsar_producer.specs.declared.building.Building.{Building as Build}
+use Rattle.pulsar_producer.specs.declared.building.BuildingProducer.{BuildingProducer as Build}
 use Rattle.pulsar_producer.specs.declared.deed.Deed.{Deed}
 use Rattle.pulsar_producer.specs.declared.sending.Sending.{Sending as Send}
 use Rattle.pulsar_searches.specs.declared.making.Command.{Command}
 use Rattle.pulsar_searches.specs.declared.names.Naming.{Naming}
-use Rattle.pulsar_searches.specs.declared.plan.Procedure.{Procedure as Sought}
+use Rattle.pulsar_searches.specs.declared.plan.Sought.{Sought}
 use Rattle.pulsar_searches.specs.declared.turn.Action.{Action as Wish}
 use Rattle.pulsar_searches.specs.declared.turn.Turn.{Turn as SearchTurn}
 use Rattle.pulsar_searches.specs.declared.turn.Ways.{Ways}
@@ -46,15 +47,15 @@ use Rattle.pulsar_exchange.specs.Request.{is_answered, request_number}
 use Rattle.pulsar_searches.specs.Plans as search
 use Rattle.pulsar_searches.specs.declared.closing.Step.TheVariants as building_step
 use Rattle.pulsar_searches.specs.declared.plan.Answer.{Answer}
-use Rattle.pulsar_searches.specs.declared.plan.Plan.{Plan as Search}
+use Rattle.pulsar_searches.specs.declared.plan.SearchPlan.{SearchPlan as Search}
 use Rattle.pulsar_searches.specs.declared.turn.Action.TheVariants as wish
 use Rattle.pulsar_searches.specs.declared.turn.Turn.TheVariants as search_turn
 use Rattle.pulsar_consumer.specs.Plans as consume
-use Rattle.pulsar_consumer.specs.declared.building.Building.{Building as ConsumerBuild}
-use Rattle.pulsar_consumer.specs.declared.building.Building.TheVariants as consumer_build
+use Rattle.pulsar_consumer.specs.declared.building.BuildingConsumer.{BuildingConsumer as ConsumerBuild}
+use Rattle.pulsar_consumer.specs.declared.building.BuildingConsumer.TheVariants as consumer_build
 use Rattle.pulsar_consumer.specs.declared.building.Deed.TheVariants as consumer_deed
 use Rattle.pulsar_consumer.specs.declared.building.News.{News as ConsumerNews}
-use Rattle.pulsar_incoming.specs.declared.orders.Order.{Order as ConsumerOrder}
+use Rattle.pulsar_incoming.specs.declared.orders.ConsumerOrder.{ConsumerOrder}
 use Rattle.pulsar_consumer.specs.declared.resuming.Resuming.{Resuming}
 use Rattle.pulsar_outgoing.specs.Batch.{batch_of, cut_report, entries_in, failed, member_of, not_written, receipt_fate, reports}
 use Rattle.pulsar_producer.specs.Batching as batches
@@ -90,7 +91,7 @@ use Rattle.pulsar_producer.proofs.Arcs.{BuildArc, BuildEnd, BuildTo, SendArc, St
 use Rattle.pulsar_calls.specs.Content.{Done}
 use Rattle.pulsar_calls.specs.declared.act.Makes.TheVariants.{Client}
 use Rattle.pulsar_consumer.specs.declared.building.Built.{Built as ConsumerBuilt}
-use Rattle.pulsar_producer.specs.declared.building.Building.TheVariants as build
+use Rattle.pulsar_producer.specs.declared.building.BuildingProducer.TheVariants as build
 
 -- where a turn stays, the plan and what it does are so
 abbrev pub StaysSo : (Plan → Action → Type 0) → Turn Plan Verdict → Type 0
@@ -187,7 +188,7 @@ pub data Arc : Plan → Outcome → Plan → Action → Type 0 where
       Arc (Searching w s) u (Searching w q) (Ask l request)
   searches_waits : {w : Ways} {s q : Search} {u : Outcome} {delay : ℕ} → search.told w s (news_in u) ≡ search_turn.Stays q (wish.Wait delay) →
       Arc (Searching w s) u (Searching w q) (Wait delay)
-  builds_on : {w : Ways} {o : Order} {b q : Build} {u : Outcome} (d : Deed) → BuildArc w o b (news_of u) q d →
+  builds_on : {w : Ways} {o : ProducerOrder} {b q : Build} {u : Outcome} (d : Deed) → BuildArc w o b (news_of u) q d →
       Arc (Producing w o b) u (Producing w o q) (action_of d)
   sends : {w : Ways} {e : Errand} {s q : Send} {u : Outcome} (d : Deed) → SendArc w e s (news_of u) q d →
       Arc (Sending w e None s) u (Sending w e None q) (action_of d)
@@ -199,7 +200,7 @@ pub data Arc : Plan → Outcome → Plan → Action → Type 0 where
       Arc (Sending w e (Some h) s) u (Leaving f) (tells h (parted h (Some f)))
   part_halts : {w : Ways} {e : Errand} {h : Share} {s : Send} {u : Outcome} {f : Failure} → overrides u ≡ true →
       Arc (Sending w e (Some h) s) u (Leaving f) (tells h outcome.Stopped)
-  reports_on : {w : Ways} {e : Errand} {u : Outcome} → Arc (Reporting w e) u (Sending w e None send.Sent) (PassTurn e.producer)
+  reports_on : {w : Ways} {e : Errand} {u : Outcome} → Arc (Reporting w e) u (Sending w e None send.Sent) (OfTopic e.producer PassTurn)
   stores : Arc (Storing None) (outcome.Granted news.Done) Stored Rest
   part_stores : {h : Share} → Arc (Storing (Some h)) (outcome.Granted news.Done) Stored (tells h (parted h None))
   stored_rests : Arc Stored (outcome.Granted news.Done) Stored Rest
@@ -211,24 +212,24 @@ pub data Arc : Plan → Outcome → Plan → Action → Type 0 where
       Arc (Batching w e (batching.Sending ms c s)) u (Batching w e batching.Settling) (TellAll (map told_to rs))
   gathers_on : {first count left t : ℕ} {fs : List (ℕ × Failure)} {f : Option Failure} →
       Arc (Gathering first count left fs) (outcome.Parted t f) (Gathering first count (left - 1) (failed_with t f fs)) Rest
-  shuts : {n : ℕ} {left : List ℕ} → Arc (Shutting (n ∷ left)) (outcome.Granted news.Done) (Visiting Closes n left at.Settling) (Flush n)
+  shuts : {n : ℕ} {left : List ℕ} → Arc (Shutting (n ∷ left)) (outcome.Granted news.Done) (Visiting Closes n left at.Settling) (OfTopic n Flush)
   settled_turns : {r : Round} {n : ℕ} {left : List ℕ} →
-      Arc (Visiting r n left at.Settling) (outcome.Granted news.Done) (Visiting r n left at.Turning) (TakeTurn n)
+      Arc (Visiting r n left at.Settling) (outcome.Granted news.Done) (Visiting r n left at.Turning) (OfTopic n TakeTurn)
   settled_goes : {n m : ℕ} {left : List ℕ} →
-      Arc (Visiting Flushes n (m ∷ left) at.Settling) (outcome.Granted news.Done) (Visiting Flushes m left at.Settling) (Flush m)
+      Arc (Visiting Flushes n (m ∷ left) at.Settling) (outcome.Granted news.Done) (Visiting Flushes m left at.Settling) (OfTopic m Flush)
   turned_finds : {r : Round} {n : ℕ} {left : List ℕ} {v : Option (List ℕ)} →
-      Arc (Visiting r n left at.Turning) (outcome.Granted (news.HasTurn v)) (Visiting r n left at.Finding) (Find n)
+      Arc (Visiting r n left at.Turning) (outcome.Granted (news.HasTurn v)) (Visiting r n left at.Finding) (OfTopic n Find)
   found_asks : {r : Round} {n : ℕ} {left : List ℕ} {l : ℕ} →
       Arc (Visiting r n left at.Finding) (outcome.GotLink l) (Visiting r n left at.Asking) (Ask l (asks_of r n))
-  finds_not : {r : Round} {n : ℕ} {left : List ℕ} {u : Outcome} {f : Failure} → Arc (Visiting r n left at.Finding) u (Leaving f) (PassTurn n)
-  asked_passes : {r : Round} {n : ℕ} {left : List ℕ} → Arc (Visiting r n left at.Asking) outcome.Queued (Visiting r n left at.Passing) (PassTurn n)
-  line_passes : {r : Round} {n : ℕ} {left : List ℕ} → Arc (Visiting r n left at.Asking) outcome.InLine (Visiting r n left at.Passing) (PassTurn n)
-  asks_not : {r : Round} {n : ℕ} {left : List ℕ} {u : Outcome} {f : Failure} → Arc (Visiting r n left at.Asking) u (Leaving f) (PassTurn n)
+  finds_not : {r : Round} {n : ℕ} {left : List ℕ} {u : Outcome} {f : Failure} → Arc (Visiting r n left at.Finding) u (Leaving f) (OfTopic n PassTurn)
+  asked_passes : {r : Round} {n : ℕ} {left : List ℕ} → Arc (Visiting r n left at.Asking) outcome.Queued (Visiting r n left at.Passing) (OfTopic n PassTurn)
+  line_passes : {r : Round} {n : ℕ} {left : List ℕ} → Arc (Visiting r n left at.Asking) outcome.InLine (Visiting r n left at.Passing) (OfTopic n PassTurn)
+  asks_not : {r : Round} {n : ℕ} {left : List ℕ} {u : Outcome} {f : Failure} → Arc (Visiting r n left at.Asking) u (Leaving f) (OfTopic n PassTurn)
   passed_waits : {r : Round} {n : ℕ} {left : List ℕ} → Arc (Visiting r n left at.Passing) (outcome.Granted news.Done) (Visiting r n left at.Awaiting) Rest
   answered_turns : {n m : ℕ} {left : List ℕ} {reply : Reply} →
-      Arc (Visiting Checks n (m ∷ left) at.Awaiting) (outcome.Replied reply) (Visiting Checks m left at.Turning) (TakeTurn m)
+      Arc (Visiting Checks n (m ∷ left) at.Awaiting) (outcome.Replied reply) (Visiting Checks m left at.Turning) (OfTopic m TakeTurn)
   answered_settles : {r : Round} {n m : ℕ} {left : List ℕ} {reply : Reply} →
-      Arc (Visiting r n (m ∷ left) at.Awaiting) (outcome.Replied reply) (Visiting r m left at.Settling) (Flush m)
+      Arc (Visiting r n (m ∷ left) at.Awaiting) (outcome.Replied reply) (Visiting r m left at.Settling) (OfTopic m Flush)
   awaiting_rests : {r : Round} {n : ℕ} {left : List ℕ} → Arc (Visiting r n left at.Awaiting) outcome.Queued (Visiting r n left at.Awaiting) Rest
   subscribing_rests : {w : Ways} {o : ConsumerOrder} {b : ConsumerBuild} {u : Outcome} → consumer_news_of u ≡ None →
       Arc (Subscribing w o b) u (Subscribing w o b) Rest
@@ -317,7 +318,7 @@ pub data End : Plan → Outcome → Verdict → Type 0 where
   over : {w : Ways} {n : ℕ} {s : Service} {u : Outcome} → End (Serving w n s) u (verdict Nothing Done)
   client_built : {l : ℕ} → End Building (outcome.GotLink l) (verdict Client Done)
   answers : {x : Wanted} {r : Reply} → End (Awaiting x) (outcome.Replied r) (replied x r)
-  produced : {w : Ways} {o : Order} {b : Build} {u : Outcome} {parts : List Built} → BuildEnd b (news_of u) (Ok parts) →
+  produced : {w : Ways} {o : ProducerOrder} {b : Build} {u : Outcome} {parts : List Built} → BuildEnd b (news_of u) (Ok parts) →
       End (Producing w o b) u (verdict (built_of o parts) Done)
   subscribed : {w : Ways} {o : ConsumerOrder} {b : ConsumerBuild} {u : Outcome} {y : ConsumerNews} (x : ConsumerBuilt) → consumer_news_of u ≡ Some y →
       consume.build_told w o b y ≡ building_step.Gives (Ok x) → End (Subscribing w o b) u (verdict (consumer_of o x) Done)
@@ -335,7 +336,7 @@ goes_arcs : (w : Ways) (s : Search) (u : Outcome) (t : SearchTurn Search (Result
 goes_arcs w s u (search_turn.Stays q x) e = searches x e
 goes_arcs w s u (search_turn.Gives a) e = ends _ refl
 
-building : (w : Ways) (o : Order) (b : Build) (u : Outcome) (x : produce.Builds) → BuildTo w o b (news_of u) x →
+building : (w : Ways) (o : ProducerOrder) (b : Build) (u : Outcome) (x : produce.Builds) → BuildTo w o b (news_of u) x →
     ToldTo (Producing w o b) u (builds w o x)
 building w o b u (step.Stays q d) k = builds_on d k
 building w o b u (step.Gives (Ok parts)) k = produced k
@@ -526,22 +527,22 @@ pub data Begun : Procedure → Plan → Action → Type 0 where
       Begun (procedure.Search w what) (Searching w q) (Ask l request)
   begins_search_waits : {w : Ways} {what : Sought} {q : Search} {delay : ℕ} → search.begins w what ≡ search_turn.Stays q (wish.Wait delay) →
       Begun (procedure.Search w what) (Searching w q) (Wait delay)
-  begins_produce_gets : {w : Ways} {o : Order} {k : Naming} {at : Place} → search.names_begins w o.topic ≡ search_turn.Stays k (wish.Get at) →
+  begins_produce_gets : {w : Ways} {o : ProducerOrder} {k : Naming} {at : Place} → search.names_begins w o.topic ≡ search_turn.Stays k (wish.Get at) →
       Begun (procedure.Produce w o) (Producing w o (build.Naming k)) (Get at)
-  begins_produce_asks : {w : Ways} {o : Order} {k : Naming} {l : ℕ} {request : Words} →
+  begins_produce_asks : {w : Ways} {o : ProducerOrder} {k : Naming} {l : ℕ} {request : Words} →
       search.names_begins w o.topic ≡ search_turn.Stays k (wish.Ask l request) → Begun (procedure.Produce w o) (Producing w o (build.Naming k)) (Ask l request)
-  begins_produce_waits : {w : Ways} {o : Order} {k : Naming} {delay : ℕ} → search.names_begins w o.topic ≡ search_turn.Stays k (wish.Wait delay) →
+  begins_produce_waits : {w : Ways} {o : ProducerOrder} {k : Naming} {delay : ℕ} → search.names_begins w o.topic ≡ search_turn.Stays k (wish.Wait delay) →
       Begun (procedure.Produce w o) (Producing w o (build.Naming k)) (Wait delay)
-  begins_numbers : {w : Ways} {o : Order} (m : Named) (left : List Named) →
+  begins_numbers : {w : Ways} {o : ProducerOrder} (m : Named) (left : List Named) →
       Begun (procedure.Produce w o) (Producing w o (build.Numbering (record { topic = m.name; place = m.place; left = left; made = [] }))) Number
   begins_send : {w : Ways} {e : Errand} {share : Option Share} {m : ProducerMessageValues} →
-      Begun (procedure.Send w e share m) (Sending w e share (send.Waiting m)) (TakeTurn e.producer)
-  begins_storing : {n : ℕ} {share : Option Share} {x : EntryValues} → Begun (procedure.Store n share x) (Storing share) (Store n x)
+      Begun (procedure.Send w e share m) (Sending w e share (send.Waiting m)) (OfTopic e.producer TakeTurn)
+  begins_storing : {n : ℕ} {share : Option Share} {x : EntryValues} → Begun (procedure.Store n share x) (Storing share) (OfTopic n (Store x))
   begins_batch : {w : Ways} {e : Errand} → Begun (procedure.Batch w e) (Batching w e batching.Resting) Rest
-  begins_leaving : {h : Share} {x : Refusal} {f : Failure} → Begun (procedure.FailShare h x) (Leaving f) (tells h (parted h (Some f)))
+  begins_leaving : {h : Share} {x : CallRefusal} {f : Failure} → Begun (procedure.FailShare h x) (Leaving f) (tells h (parted h (Some f)))
   begins_gather : {first count : ℕ} → Begun (procedure.Gather first count) (Gathering first count count []) Rest
-  begins_checks : {n : ℕ} {left : List ℕ} → Begun (procedure.Go Checks (n ∷ left)) (Visiting Checks n left at.Turning) (TakeTurn n)
-  begins_visits : {r : Round} {n : ℕ} {left : List ℕ} → Begun (procedure.Go r (n ∷ left)) (Visiting r n left at.Settling) (Flush n)
+  begins_checks : {n : ℕ} {left : List ℕ} → Begun (procedure.Go Checks (n ∷ left)) (Visiting Checks n left at.Turning) (OfTopic n TakeTurn)
+  begins_visits : {r : Round} {n : ℕ} {left : List ℕ} → Begun (procedure.Go r (n ∷ left)) (Visiting r n left at.Settling) (OfTopic n Flush)
   begins_close : {t : ℕ} {ns : List ℕ} → Begun (procedure.Close t ns) (Shutting ns) (Shut t)
   begins_subscribe_gets : {w : Ways} {o : ConsumerOrder} {k : Naming} {at : Place} → search.names_begins w o.topic ≡ search_turn.Stays k (wish.Get at) →
       Begun (procedure.Subscribe w o) (Subscribing w o (consumer_build.Naming k)) (Get at)
@@ -562,7 +563,7 @@ begins_search (wish.Get at) e = begins_search_gets e
 begins_search (wish.Ask l request) e = begins_search_asks e
 begins_search (wish.Wait delay) e = begins_search_waits e
 
-begins_produce : {w : Ways} {o : Order} {k : Naming} (a : Wish) → search.names_begins w o.topic ≡ search_turn.Stays k a →
+begins_produce : {w : Ways} {o : ProducerOrder} {k : Naming} (a : Wish) → search.names_begins w o.topic ≡ search_turn.Stays k a →
     Begun (procedure.Produce w o) (Producing w o (build.Naming k)) (wished a)
 begins_produce (wish.Get at) e = begins_produce_gets e
 begins_produce (wish.Ask l request) e = begins_produce_asks e
@@ -576,7 +577,7 @@ begins_subscribe (wish.Wait delay) e = begins_subscribe_waits e
 
 pub data BegunEnd : Procedure → Verdict → Type 0 where
   begins_not : {p : Procedure} (x : Said) → BegunEnd p (verdict Nothing x)
-  begins_none : {w : Ways} {o : Order} → BegunEnd (procedure.Produce w o) (verdict (built_of o []) Done)
+  begins_none : {w : Ways} {o : ProducerOrder} → BegunEnd (procedure.Produce w o) (verdict (built_of o []) Done)
 
 abbrev BegunTo : Procedure → Turn Plan Verdict → Type 0
 BegunTo p = TurnTo (Begun p) (BegunEnd p)
@@ -586,11 +587,11 @@ begun_search : (w : Ways) (what : Sought) (t : SearchTurn Search (Result Answer 
 begun_search w what (search_turn.Stays q x) e = begins_search x e
 begun_search w what (search_turn.Gives a) e = begins_not _
 
-begun_names : (w : Ways) (o : Order) (names : List Named) → BegunTo (procedure.Produce w o) (builds w o (produce.build_next names []))
+begun_names : (w : Ways) (o : ProducerOrder) (names : List Named) → BegunTo (procedure.Produce w o) (builds w o (produce.build_next deed.Numbers names []))
 begun_names w o [] = begins_none
 begun_names w o (n ∷ names) = begins_numbers n names
 
-begun_building : (w : Ways) (o : Order) (t : SearchTurn Naming (Result (List Named) Failure)) → search.names_begins w o.topic ≡ t →
+begun_building : (w : Ways) (o : ProducerOrder) (t : SearchTurn Naming (Result (List Named) Failure)) → search.names_begins w o.topic ≡ t →
     BegunTo (procedure.Produce w o) (builds w o (produce.build_names t))
 begun_building w o (search_turn.Stays q x) e = begins_produce x e
 begun_building w o (search_turn.Gives (Ok names)) e = begun_names w o names

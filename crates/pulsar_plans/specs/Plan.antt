@@ -12,7 +12,8 @@ use Rattle.pulsar_exchange.specs.Messages.{Reply, Written, is_body}
 use Rattle.pulsar_exchange.specs.Refusals.{refused}
 use Rattle.pulsar_exchange.specs.Request.{Subscribed, answer_of, is_answered, request_number, subscribed}
 use Rattle.pulsar_calls.specs.declared.act.Action.{Action}
-use Rattle.pulsar_calls.specs.declared.act.Action.TheVariants.{Get, Ask, Wait, TakeTurn, PassTurn, Draw, Recall, Remake, Number, Find, Shut, Store, Flush, TakeBatch, TakeNumber, FindConsumer, TakeFlow, RecallConsumer, Revive, FailConsumer, Tell, TellAll, StopAll, Rest}
+use Rattle.pulsar_calls.specs.declared.act.Action.TheVariants.{OfTopic, Get, Ask, Wait, Number, Hold, Shut, TakeNumber, FindConsumer, TakeFlow, RecallConsumer, Revive, FailConsumer, Tell, TellAll, StopAll, Rest}
+use Rattle.pulsar_calls.specs.declared.act.TopicAsk.TheVariants.{TakeTurn, PassTurn, Draw, Recall, Remake, Find, Store, Flush, TakeBatch}
 use Rattle.pulsar_calls.specs.declared.act.Makes.{Makes}
 use Rattle.pulsar_calls.specs.declared.act.Makes.TheVariants.{Nothing, Client, Consumer, RawConsumer, Producer}
 use Rattle.pulsar_calls.specs.declared.act.Round.{Round}
@@ -26,8 +27,8 @@ use Rattle.pulsar_calls.specs.declared.act.Outcome.TheVariants.{GotLink, Queued,
 use Rattle.pulsar_calls.specs.declared.act.Place.TheVariants.{At, Link}
 use Rattle.pulsar_calls.specs.declared.act.Procedure.{Procedure}
 use Rattle.pulsar_calls.specs.declared.act.Procedure.TheVariants as procedure
-use Rattle.pulsar_calls.specs.declared.act.Refusal.{Refusal}
-use Rattle.pulsar_calls.specs.declared.act.Refusal.TheVariants as refusal
+use Rattle.pulsar_calls.specs.declared.act.CallRefusal.{CallRefusal}
+use Rattle.pulsar_calls.specs.declared.act.CallRefusal.TheVariants as refusal
 use Rattle.pulsar_calls.specs.declared.act.Says.{Says}
 use Rattle.pulsar_calls.specs.declared.act.Says.TheVariants as says
 use Rattle.pulsar_calls.specs.declared.act.Verdict.{Verdict}
@@ -44,24 +45,24 @@ use Rattle.pulsar_plans.specs.declared.plan.Turn.{Turn}
 use Rattle.pulsar_plans.specs.declared.plan.Turn.TheVariants.{Stays, Gives}
 use Rattle.pulsar_plans.specs.declared.plan.Wanted.{Wanted}
 use Rattle.pulsar_consumer.specs.Plans as consume
-use Rattle.pulsar_consumer.specs.declared.building.Building.{Building as ConsumerBuild}
+use Rattle.pulsar_consumer.specs.declared.building.BuildingConsumer.{BuildingConsumer as ConsumerBuild}
 use Rattle.pulsar_consumer.specs.declared.building.Built.{Built as ConsumerBuilt}
 use Rattle.pulsar_consumer.specs.declared.building.Deed.{Deed as ConsumerDeed}
 use Rattle.pulsar_consumer.specs.declared.building.Deed.TheVariants as consumer_deed
 use Rattle.pulsar_consumer.specs.declared.building.News.{News as ConsumerNews}
 use Rattle.pulsar_consumer.specs.declared.building.News.TheVariants as consumer_news
-use Rattle.pulsar_incoming.specs.declared.orders.Order.{Order as ConsumerOrder}
+use Rattle.pulsar_incoming.specs.declared.orders.ConsumerOrder.{ConsumerOrder}
 use Rattle.pulsar_searches.specs.Plans as search
 use Rattle.pulsar_consumer.specs.declared.resuming.Resuming.{Resuming}
 use Rattle.pulsar_searches.specs.declared.closing.Step.TheVariants as building_step
 use Rattle.pulsar_searches.specs.declared.making.Command.{Command}
 use Rattle.pulsar_searches.specs.declared.plan.Answer.{Answer}
 use Rattle.pulsar_searches.specs.declared.plan.Answer.TheVariants as answer
-use Rattle.pulsar_searches.specs.declared.plan.Plan.{Plan as Search}
+use Rattle.pulsar_searches.specs.declared.plan.SearchPlan.{SearchPlan as Search}
 use Rattle.pulsar_searches.specs.declared.turn.Action.{Action as Wish}
 use Rattle.pulsar_searches.specs.declared.turn.Action.TheVariants as wish
-use Rattle.pulsar_searches.specs.declared.turn.Outcome.{Outcome as News}
-use Rattle.pulsar_searches.specs.declared.turn.Outcome.TheVariants as news
+use Rattle.pulsar_searches.specs.declared.turn.SearchOutcome.{SearchOutcome as News}
+use Rattle.pulsar_searches.specs.declared.turn.SearchOutcome.TheVariants as news
 use Rattle.pulsar_searches.specs.declared.turn.Turn.{Turn as SearchTurn}
 use Rattle.pulsar_searches.specs.declared.turn.Turn.TheVariants as search_turn
 use Rattle.pulsar_searches.specs.declared.turn.Ways.{Ways}
@@ -78,8 +79,8 @@ use Rattle.pulsar_outgoing.specs.declared.batch.Fate.TheVariants as fate
 use Rattle.pulsar_outgoing.specs.declared.batch.Report.{Report}
 use Rattle.pulsar_producer.specs.declared.batching.Batching.{Batching as Batches}
 use Rattle.pulsar_producer.specs.declared.batching.Goes.{Goes}
-use Rattle.pulsar_producer.specs.declared.building.Building.{Building as Build}
-use Rattle.pulsar_outgoing.specs.declared.orders.Order.{Order}
+use Rattle.pulsar_producer.specs.declared.building.BuildingProducer.{BuildingProducer as Build}
+use Rattle.pulsar_outgoing.specs.declared.orders.ProducerOrder.{ProducerOrder}
 use Rattle.pulsar_outgoing.specs.declared.content.Built.{Built}
 use Rattle.pulsar_producer.specs.declared.deed.Deed.{Deed}
 use Rattle.pulsar_producer.specs.declared.deed.Deed.TheVariants as deed
@@ -138,7 +139,7 @@ abbrev pub fails : Fault → Verdict
 fails f = verdict Nothing (failed f)
 
 -- why a call is not made
-abbrev pub failure_of : Refusal → Failure
+abbrev pub failure_of : CallRefusal → Failure
 failure_of refusal.Shutdown = OfConnection Shutdown
 failure_of refusal.NoOutbound = Custom (codes "outbound size is 0")
 failure_of refusal.NoAddress = OfConnection NotFound
@@ -247,15 +248,16 @@ told_to r = record { who = Call r.ticket; outcome = told_of r.fate }
 -- what one does
 abbrev pub action_of : Deed → Action
 action_of (deed.Does wish) = wished wish
-action_of (deed.TakesTurn n) = TakeTurn n
-action_of (deed.Draws n) = Draw n
+action_of (deed.TakesTurn n) = OfTopic n TakeTurn
+action_of (deed.Draws n) = OfTopic n Draw
 action_of (deed.Sends link s) = Ask link (words.Send s.producer s.name s.sequence s.message s.block)
-action_of (deed.PassesTurn n) = PassTurn n
-action_of (deed.Recalls n) = Recall n
-action_of (deed.Remakes n link given) = Remake (record { number = n; link = link; given = given })
+action_of (deed.PassesTurn n) = OfTopic n PassTurn
+action_of (deed.Recalls n) = OfTopic n Recall
+action_of (deed.Remakes n link given) = OfTopic n (Remake (record { link = link; given = given }))
 action_of deed.Numbers = Number
+action_of (deed.Holds link n) = Hold link n
 action_of (deed.ClosesProducer link n) = Ask link (words.CloseProducer n)
-action_of (deed.TakesBatch n) = TakeBatch n
+action_of (deed.TakesBatch n) = OfTopic n TakeBatch
 action_of (deed.Settles reports) = TellAll (map told_to reports)
 action_of deed.Rests = Rest
 
@@ -271,10 +273,10 @@ fails_with f = Gives (verdict Nothing (Failed f))
 
 -- A BUILDING leaves a producer behind.
 
-abbrev pub built_of : Order → List Built → Makes
+abbrev pub built_of : ProducerOrder → List Built → Makes
 built_of o parts = Producer (record { topic = o.topic; settings = o.options; parts = parts })
 
-abbrev pub builds : Ways → Order → Step Build (Result (List Built) Failure) → Turn Plan Verdict
+abbrev pub builds : Ways → ProducerOrder → Step Build (Result (List Built) Failure) → Turn Plan Verdict
 builds w o (step.Stays b d) = Stays (Producing w o b) (action_of d)
 builds w o (step.Gives (Ok parts)) = Gives (verdict (built_of o parts) Done)
 builds w o (step.Gives (Err f)) = fails_with f
@@ -318,7 +320,7 @@ goes_on_sending w e share (step.Gives (Ok r)) = receipted r
 goes_on_sending w e share (step.Gives (Err f)) = leaves share f
 
 abbrev pub reported : Ways → Errand → Turn Plan Verdict
-reported w e = Stays (Sending w e None send.Sent) (PassTurn e.producer)
+reported w e = Stays (Sending w e None send.Sent) (OfTopic e.producer PassTurn)
 
 -- the stop of the client overrides it, until it is queued
 abbrev pub overrides : Outcome → Bool
@@ -402,29 +404,29 @@ stays_at r n left x action = Stays (Visiting r n left x) action
 
 -- the turn is over, and then it fails
 abbrev pub quits : Round → (number : ℕ) → Fault → Turn Plan Verdict
-quits r n f = Stays (Leaving (failure_in r f)) (PassTurn n)
+quits r n f = Stays (Leaving (failure_in r f)) (OfTopic n PassTurn)
 
 -- what a topic producer stores is settled before it is closed, and before its flush is done
 abbrev pub visits : Round → (number : ℕ) → List ℕ → Turn Plan Verdict
-visits Checks n left = stays_at Checks n left at.Turning (TakeTurn n)
-visits Flushes n left = stays_at Flushes n left at.Settling (Flush n)
-visits Closes n left = stays_at Closes n left at.Settling (Flush n)
+visits Checks n left = stays_at Checks n left at.Turning (OfTopic n TakeTurn)
+visits Flushes n left = stays_at Flushes n left at.Settling (OfTopic n Flush)
+visits Closes n left = stays_at Closes n left at.Settling (OfTopic n Flush)
 
 abbrev pub goes_round : Round → List ℕ → Turn Plan Verdict
 goes_round r [] = Gives (verdict Nothing Done)
 goes_round r (n ∷ left) = visits r n left
 
 abbrev pub is_settled : Round → (number : ℕ) → List ℕ → Turn Plan Verdict
-is_settled Checks n left = stays_at Checks n left at.Turning (TakeTurn n)
+is_settled Checks n left = stays_at Checks n left at.Turning (OfTopic n TakeTurn)
 is_settled Flushes n left = goes_round Flushes left
-is_settled Closes n left = stays_at Closes n left at.Turning (TakeTurn n)
+is_settled Closes n left = stays_at Closes n left at.Turning (OfTopic n TakeTurn)
 
 abbrev pub in_settling : Round → (number : ℕ) → List ℕ → Outcome → Turn Plan Verdict
 in_settling r n left (Granted granting.Done) = is_settled r n left
 in_settling r n left o = fails_in r (fault_of o)
 
 abbrev pub in_turning : Round → (number : ℕ) → List ℕ → Outcome → Turn Plan Verdict
-in_turning r n left (Granted (granting.HasTurn version)) = stays_at r n left at.Finding (Find n)
+in_turning r n left (Granted (granting.HasTurn version)) = stays_at r n left at.Finding (OfTopic n Find)
 in_turning r n left o = fails_in r (fault_of o)
 
 abbrev pub in_finding : Round → (number : ℕ) → List ℕ → Outcome → Turn Plan Verdict
@@ -432,8 +434,8 @@ in_finding r n left (GotLink link) = stays_at r n left at.Asking (Ask link (asks
 in_finding r n left o = quits r n (fault_of o)
 
 abbrev pub in_asking : Round → (number : ℕ) → List ℕ → Outcome → Turn Plan Verdict
-in_asking r n left Queued = stays_at r n left at.Passing (PassTurn n)
-in_asking r n left InLine = stays_at r n left at.Passing (PassTurn n)
+in_asking r n left Queued = stays_at r n left at.Passing (OfTopic n PassTurn)
+in_asking r n left InLine = stays_at r n left at.Passing (OfTopic n PassTurn)
 in_asking r n left o = quits r n (fault_of o)
 
 abbrev pub in_passing : Round → (number : ℕ) → List ℕ → Outcome → Turn Plan Verdict
@@ -615,7 +617,7 @@ begins (procedure.Ask (Link link) request s) = asks link request s
 begins (procedure.Search ways what) = goes ways (search.begins ways what)
 begins (procedure.Produce ways order) = builds ways order (produce.build_begins ways order)
 begins (procedure.Send ways errand share message) = goes_on_sending ways errand share (produce.send_begins errand message)
-begins (procedure.Store n share e) = Stays (Storing share) (Store n e)
+begins (procedure.Store n share e) = Stays (Storing share) (OfTopic n (Store e))
 begins (procedure.Batch ways errand) = batches_on ways errand batches.begins
 begins (procedure.FailShare share r) = leaves (Some share) (failure_of r)
 begins (procedure.Gather first count) = gathers first count count []

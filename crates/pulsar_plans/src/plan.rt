@@ -14,13 +14,13 @@ use crate::{
 };
 use pulsar_addresses::content::Refusal as Failure;
 use pulsar_calls::act::{
-    Action, Makes, Outcome, Place, Procedure, Refusal, Round, Says, Share, Verdict,
+    Action, CallRefusal, Makes, Outcome, Place, Procedure, Round, Says, Share, TopicAsk, Verdict,
 };
 use pulsar_calls::content::{Failures, Numbers, Said};
 use pulsar_calls::effect::Answer;
 use pulsar_exchange::content::{Received, Request, Subscribed};
-use pulsar_incoming::orders::Order as ConsumerOrder;
-use pulsar_outgoing::orders::{Errand, Order};
+use pulsar_incoming::orders::ConsumerOrder;
+use pulsar_outgoing::orders::{Errand, ProducerOrder};
 use pulsar_producer::deed;
 use pulsar_searches::turn::Ways;
 use pulsar_wire::error::{
@@ -63,7 +63,7 @@ pub enum Plan {
     /// It builds a producer.
     Producing {
         ways: Ways,
-        order: Order,
+        order: ProducerOrder,
         building: BuildState,
     },
     /// It sends a message. Where it is a part of another call, that is told once it is queued.
@@ -176,7 +176,10 @@ pub fn begins(alloc: Global, procedure: Procedure) -> Result<Turn<Plan, Verdict>
             number,
             share,
             entry,
-        } => Ok(Turn::Stays(Plan::Storing(share), Action::Store { number, entry })),
+        } => Ok(Turn::Stays(
+            Plan::Storing(share),
+            of_topic(number, TopicAsk::Store(entry)),
+        )),
         Procedure::Batch { ways, errand } => batches::begins(alloc, ways, errand),
         Procedure::FailShare { share, refusal } => {
             let error = refusal_error(alloc, refusal)?;
@@ -385,7 +388,7 @@ pub fn done(alloc: Global, makes: Makes) -> Result<Turn<Plan, Verdict>, NoMemory
 }
 
 /// A call that is not made.
-fn refused(alloc: Global, refusal: Refusal) -> Result<Turn<Plan, Verdict>, NoMemory>
+fn refused(alloc: Global, refusal: CallRefusal) -> Result<Turn<Plan, Verdict>, NoMemory>
     ensures { IfOk result (λ turn. turn ≡ Turn.Gives (verdict Makes.Nothing (Failed (failure_of refusal)))) }
 {
     let error = refusal_error(alloc, refusal)?;
@@ -396,29 +399,29 @@ fn refused(alloc: Global, refusal: Refusal) -> Result<Turn<Plan, Verdict>, NoMem
     }))
 }
 
-fn refusal_error(alloc: Global, refusal: Refusal) -> Result<Error, NoMemory>
+fn refusal_error(alloc: Global, refusal: CallRefusal) -> Result<Error, NoMemory>
     ensures { IfOk result (λ e. failure e ≡ failure_of refusal) }
 {
     match refusal {
-        Refusal::Shutdown => Ok(Error::Connection(ConnectionError::Shutdown)),
-        Refusal::NoAddress => Ok(Error::Connection(ConnectionError::NotFound)),
-        Refusal::NoOutbound => custom(alloc, "outbound size is 0"),
-        Refusal::UnknownTicket => custom(alloc, "unknown ticket"),
-        Refusal::NoTopic => custom(alloc, "topic not set"),
-        Refusal::Closed => Ok(Error::Producer(ProducerError::Closed)),
-        Refusal::NoBatches => custom_in_producer(alloc, "not a batching producer"),
-        Refusal::NoPartition => custom_in_producer(alloc, "routing index out of range"),
-        Refusal::NumberInUse => custom_in_producer(alloc, "number in use"),
-        Refusal::TooLarge => Ok(Error::Producer(ProducerError::Connection(ConnectionError::Encoding(
-            Reason::Batch,
-        )))),
-        Refusal::NoTopics => custom(
+        CallRefusal::Shutdown => Ok(Error::Connection(ConnectionError::Shutdown)),
+        CallRefusal::NoAddress => Ok(Error::Connection(ConnectionError::NotFound)),
+        CallRefusal::NoOutbound => custom(alloc, "outbound size is 0"),
+        CallRefusal::UnknownTicket => custom(alloc, "unknown ticket"),
+        CallRefusal::NoTopic => custom(alloc, "topic not set"),
+        CallRefusal::Closed => Ok(Error::Producer(ProducerError::Closed)),
+        CallRefusal::NoBatches => custom_in_producer(alloc, "not a batching producer"),
+        CallRefusal::NoPartition => custom_in_producer(alloc, "routing index out of range"),
+        CallRefusal::NumberInUse => custom_in_producer(alloc, "number in use"),
+        CallRefusal::TooLarge => Ok(Error::Producer(ProducerError::Connection(
+            ConnectionError::Encoding(Reason::Batch),
+        ))),
+        CallRefusal::NoTopics => custom(
             alloc,
             "Cannot create consumer with no topics and no topic prefix",
         ),
-        Refusal::ManyTopics => custom(alloc, "Unable to create consumer - topic not found"),
-        Refusal::ConsumerClosed => Ok(Error::Consumer(ConsumerError::Closed)),
-        Refusal::ConsumerInUse => Ok(Error::Consumer(ConsumerError::BuildError)),
+        CallRefusal::ManyTopics => custom(alloc, "Unable to create consumer - topic not found"),
+        CallRefusal::ConsumerClosed => Ok(Error::Consumer(ConsumerError::Closed)),
+        CallRefusal::ConsumerInUse => Ok(Error::Consumer(ConsumerError::BuildError)),
     }
 }
 
@@ -444,6 +447,13 @@ pub fn left(alloc: Global, failure: Failure) -> Result<Turn<Plan, Verdict>, NoMe
         makes: Makes::Nothing,
         said,
     }))
+}
+
+/// This is asked of a topic producer.
+pub fn of_topic(number: u64, ask: TopicAsk) -> Action
+    ensures { result ≡ Action.OfTopic number ask }
+{
+    Action::OfTopic { number, ask }
 }
 
 /// The end of a plan that failed.

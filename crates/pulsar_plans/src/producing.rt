@@ -8,24 +8,28 @@ ghost use Rattle.pulsar_plans.specs.Plan.{action_of, built_of, builds, news_of, 
 ghost use Rattle.pulsar_plans.specs.declared.plan.Plan.TheVariants.{Producing};
 
 use crate::batches::tells_all;
-use crate::plan::{Plan, Turn, error_of, fails, left, overrides};
+use crate::plan::{Plan, Turn, error_of, fails, left, of_topic, overrides};
 use crate::search::{news_in, wished};
 use crate::states::BuildState;
-use pulsar_calls::act::{Action, Makes, Outcome, Verdict};
-use pulsar_calls::content::{Building as Built, Made, Remade, Remaking, Said};
+use pulsar_calls::act::{Action, Makes, Outcome, TopicAsk, Verdict};
+use pulsar_calls::content::{BuiltProducer as Built, Made, Remade, Remaking, Said};
 use pulsar_calls::effect::Answer;
 use pulsar_exchange::content::Request;
 use pulsar_exchange::raw_call::RawCall;
 use pulsar_outgoing::content::Parts;
-use pulsar_outgoing::orders::Order;
-use pulsar_producer::building::{self, Building, Builds};
+use pulsar_outgoing::orders::ProducerOrder;
+use pulsar_producer::building::{self, BuildingProducer, Builds};
 use pulsar_producer::deed::{Deed, News, Send, Step};
 use pulsar_searches::turn::Ways;
 use pulsar_wire::error::NoMemory;
 use std::alloc::Global;
 
 /// A building begins.
-pub fn begins(alloc: Global, ways: Ways, order: Order) -> Result<Turn<Plan, Verdict>, NoMemory>
+pub fn begins(
+    alloc: Global,
+    ways: Ways,
+    order: ProducerOrder,
+) -> Result<Turn<Plan, Verdict>, NoMemory>
     ensures { IfOk result (λ turn. turn ≡ builds ways order (meaning.build_begins ways order)) }
 {
     let step = building::begins(alloc, &ways, &order)?;
@@ -36,7 +40,7 @@ pub fn begins(alloc: Global, ways: Ways, order: Order) -> Result<Turn<Plan, Verd
 pub fn told(
     alloc: Global,
     ways: Ways,
-    order: Order,
+    order: ProducerOrder,
     building: BuildState,
     outcome: Outcome,
 ) -> Result<Turn<Plan, Verdict>, NoMemory>
@@ -53,7 +57,7 @@ pub fn told(
 fn tells(
     alloc: Global,
     ways: Ways,
-    order: Order,
+    order: ProducerOrder,
     building: BuildState,
     outcome: Outcome,
 ) -> Result<Turn<Plan, Verdict>, NoMemory>
@@ -68,7 +72,7 @@ fn tells(
 fn goes(
     alloc: Global,
     ways: Ways,
-    order: Order,
+    order: ProducerOrder,
     step: Builds,
 ) -> Result<Turn<Plan, Verdict>, NoMemory>
     ensures { IfOk result (λ turn. turn ≡ builds ways order step) }
@@ -84,8 +88,8 @@ fn goes(
 fn stays(
     alloc: Global,
     ways: Ways,
-    order: Order,
-    building: Building,
+    order: ProducerOrder,
+    building: BuildingProducer,
     deed: Deed,
 ) -> Result<Turn<Plan, Verdict>, NoMemory>
     ensures { IfOk result (λ turn. turn ≡ builds ways order (Step.Stays building deed)) }
@@ -103,10 +107,10 @@ fn stays(
 }
 
 /// A producer was built.
-fn made(alloc: Global, order: Order, parts: Parts) -> Result<Turn<Plan, Verdict>, NoMemory>
+fn made(alloc: Global, order: ProducerOrder, parts: Parts) -> Result<Turn<Plan, Verdict>, NoMemory>
     ensures { IfOk result (λ turn. turn ≡ Turn.Gives (verdict (built_of order parts) Done)) }
 {
-    let Order {
+    let ProducerOrder {
         topic,
         name: _,
         options,
@@ -132,32 +136,29 @@ pub fn action_of(alloc: Global, deed: Deed) -> Result<Action, NoMemory>
 {
     match deed {
         Deed::Does(wish) => wished(alloc, wish),
-        Deed::TakesTurn(number) => Ok(Action::TakeTurn(number)),
-        Deed::Draws(number) => Ok(Action::Draw(number)),
+        Deed::TakesTurn(number) => Ok(of_topic(number, TopicAsk::TakeTurn)),
+        Deed::Draws(number) => Ok(of_topic(number, TopicAsk::Draw)),
         Deed::Sends { link, send } => Ok(Action::Ask {
             link,
             request: request_of(alloc, send)?,
         }),
-        Deed::PassesTurn(number) => Ok(Action::PassTurn(number)),
-        Deed::Recalls(number) => Ok(Action::Recall(number)),
+        Deed::PassesTurn(number) => Ok(of_topic(number, TopicAsk::PassTurn)),
+        Deed::Recalls(number) => Ok(of_topic(number, TopicAsk::Recall)),
         Deed::Remakes {
             number,
             link,
             given,
-        } => Ok(Action::Remake(Remade::new(
-            alloc,
-            Remaking {
-                number,
-                link,
-                given,
-            },
-        )?)),
+        } => {
+            let remade = Remade::new(alloc, Remaking { link, given })?;
+            Ok(of_topic(number, TopicAsk::Remake(remade)))
+        }
         Deed::Numbers => Ok(Action::Number),
+        Deed::Holds { link, number } => Ok(Action::Hold { link, number }),
         Deed::ClosesProducer { link, number } => Ok(Action::Ask {
             link,
             request: closes(alloc, number)?,
         }),
-        Deed::TakesBatch(number) => Ok(Action::TakeBatch(number)),
+        Deed::TakesBatch(number) => Ok(of_topic(number, TopicAsk::TakeBatch)),
         Deed::Settles(reports) => tells_all(alloc, reports),
         Deed::Rests => Ok(Action::Rest),
     }

@@ -18,9 +18,9 @@ use pulsar_exchange::raw_call::RawCall;
 use pulsar_frame::message::Message;
 use pulsar_frame::received::Received;
 use pulsar_searches::making::Served;
-use pulsar_searches::plan::{self, Answer as Found, Plan as Search, Procedure as Sought};
+use pulsar_searches::plan::{self, Answer as Found, SearchPlan as Search, Sought};
 use pulsar_searches::question::{Question, Request as Wanted};
-use pulsar_searches::turn::{Action as Wish, Outcome as News, Turn as SearchTurn, Ways};
+use pulsar_searches::turn::{Action as Wish, SearchOutcome as News, Turn as SearchTurn, Ways};
 use pulsar_wire::error::{ConnectionError, NoMemory};
 use std::alloc::Global;
 

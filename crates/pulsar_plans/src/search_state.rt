@@ -2,14 +2,14 @@
 
 ghost use Rattle.std.specs.Prelude.{◌≡◌, IfOk};
 
-use pulsar_searches::plan::Plan;
+use pulsar_searches::plan::SearchPlan;
 use pulsar_wire::error::NoMemory;
 use std::alloc::Global;
 use std::marker::Model;
 
 /// Where a search stands.
 pub struct SearchState {
-    plan: Box<Plan>,
+    plan: Box<SearchPlan>,
 }
 
 impl Drop for SearchState {
@@ -19,7 +19,7 @@ impl Drop for SearchState {
 }
 
 impl Model for SearchState {
-    ghost use Rattle.pulsar_searches.specs.declared.plan.Plan.{Plan as Search};
+    ghost use Rattle.pulsar_searches.specs.declared.plan.SearchPlan.{SearchPlan as Search};
 
     ghost Value = { Search };
 
@@ -27,14 +27,14 @@ impl Model for SearchState {
 }
 
 impl SearchState {
-    pub fn new(alloc: Global, plan: Plan) -> Result<SearchState, NoMemory>
+    pub fn new(alloc: Global, plan: SearchPlan) -> Result<SearchState, NoMemory>
         ensures { IfOk result (λ s. s ≡ plan) }
     {
         let plan = Box::new(alloc, plan)?;
         Ok(SearchState { plan })
     }
 
-    pub fn into_inner(self) -> Plan
+    pub fn into_inner(self) -> SearchPlan
         ensures { result ≡ self }
     {
         let SearchState { plan } = self;

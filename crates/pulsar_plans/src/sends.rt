@@ -9,11 +9,11 @@ ghost use Rattle.pulsar_calls.specs.Content.{Replies};
 ghost use Rattle.pulsar_plans.specs.Plan.{action_of, goes_on_sending, halted, leaves, news_of, parted, receipt_said, receipted, reported, sends_stay, told};
 ghost use Rattle.pulsar_plans.specs.declared.plan.Plan.TheVariants.{Sending as InSending};
 
-use crate::plan::{Plan, Turn, error_of, left, overrides};
+use crate::plan::{Plan, Turn, error_of, left, of_topic, overrides};
 use crate::producing::{action_of, news_of};
 use crate::states::SendState;
 use pulsar_addresses::content::Refusal;
-use pulsar_calls::act::{Action, Makes, Notice, Outcome, Share, Verdict, Who};
+use pulsar_calls::act::{Action, Makes, Notice, Outcome, Share, TopicAsk, Verdict, Who};
 use pulsar_calls::content::Said;
 use pulsar_calls::copying::twice;
 use pulsar_calls::effect::Answer;
@@ -149,7 +149,7 @@ pub fn reported(alloc: Global, ways: Ways, errand: Errand) -> Result<Turn<Plan, 
             share: None,
             sending,
         },
-        Action::PassTurn(errand.producer),
+        of_topic(errand.producer, TopicAsk::PassTurn),
     ))
 }
 

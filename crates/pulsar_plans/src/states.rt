@@ -3,10 +3,10 @@
 ghost use Rattle.std.specs.Prelude.{◌≡◌, IfOk};
 ghost use Rattle.pulsar_producer.specs.Batching.{is_sent_send};
 
-use pulsar_consumer::building::Building as Subscribing;
+use pulsar_consumer::building::BuildingConsumer;
 use pulsar_consumer::resuming::Resuming;
 use pulsar_producer::batching::Batching;
-use pulsar_producer::building::Building;
+use pulsar_producer::building::BuildingProducer;
 use pulsar_producer::sending::Sending;
 use pulsar_searches::making::Command;
 use pulsar_wire::error::NoMemory;
@@ -15,7 +15,7 @@ use std::marker::Model;
 
 /// Where the building of a producer stands.
 pub struct BuildState {
-    building: Box<Building>,
+    building: Box<BuildingProducer>,
 }
 
 impl Drop for BuildState {
@@ -26,10 +26,10 @@ impl Drop for BuildState {
 
 impl Model for BuildState {
     ghost use Rattle.pulsar_addresses.specs.contracts.content.Refusal as refusal;
-    ghost use Rattle.pulsar_producer.specs.declared.building.Building.{Building};
+    ghost use Rattle.pulsar_producer.specs.declared.building.BuildingProducer.{BuildingProducer};
     ghost use Rattle.std.specs.Coded.{codes};
 
-    ghost Value = { Building };
+    ghost Value = { BuildingProducer };
 
     ghost coded = { Prim.hlevel (codes, refusal.the_row.coded) };
 
@@ -37,14 +37,14 @@ impl Model for BuildState {
 }
 
 impl BuildState {
-    pub fn new(alloc: Global, building: Building) -> Result<BuildState, NoMemory>
+    pub fn new(alloc: Global, building: BuildingProducer) -> Result<BuildState, NoMemory>
         ensures { IfOk result (λ s. s ≡ building) }
     {
         let building = Box::new(alloc, building)?;
         Ok(BuildState { building })
     }
 
-    pub fn into_inner(self) -> Building
+    pub fn into_inner(self) -> BuildingProducer
         ensures { result ≡ self }
     {
         let BuildState { building } = self;
@@ -139,7 +139,7 @@ impl BatchState {
 
 /// Where the building of a consumer stands.
 pub struct ConsumerState {
-    building: Box<Subscribing>,
+    building: Box<BuildingConsumer>,
 }
 
 impl Drop for ConsumerState {
@@ -149,22 +149,22 @@ impl Drop for ConsumerState {
 }
 
 impl Model for ConsumerState {
-    ghost use Rattle.pulsar_consumer.specs.declared.building.Building.{Building};
+    ghost use Rattle.pulsar_consumer.specs.declared.building.BuildingConsumer.{BuildingConsumer};
 
-    ghost Value = { Building };
+    ghost Value = { BuildingConsumer };
 
     ghost view = { λ s. s.building.value };
 }
 
 impl ConsumerState {
-    pub fn new(alloc: Global, building: Subscribing) -> Result<ConsumerState, NoMemory>
+    pub fn new(alloc: Global, building: BuildingConsumer) -> Result<ConsumerState, NoMemory>
         ensures { IfOk result (λ s. s ≡ building) }
     {
         let building = Box::new(alloc, building)?;
         Ok(ConsumerState { building })
     }
 
-    pub fn into_inner(self) -> Subscribing
+    pub fn into_inner(self) -> BuildingConsumer
         ensures { result ≡ self }
     {
         let ConsumerState { building } = self;

@@ -10,15 +10,19 @@ use crate::search::{news_in, wished};
 use crate::states::ConsumerState;
 use pulsar_calls::act::{Action, Makes, Outcome, Verdict, Word};
 use pulsar_calls::content::{Joined, Joining};
-use pulsar_consumer::building::{self, Building, Builds, Built, Deed, News};
-use pulsar_incoming::orders::Order;
+use pulsar_consumer::building::{self, BuildingConsumer, Builds, Built, Deed, News};
+use pulsar_incoming::orders::ConsumerOrder;
 use pulsar_searches::closing::Step;
 use pulsar_searches::turn::Ways;
 use pulsar_wire::error::NoMemory;
 use std::alloc::Global;
 
 /// A building begins.
-pub fn begins(alloc: Global, ways: Ways, order: Order) -> Result<Turn<Plan, Verdict>, NoMemory>
+pub fn begins(
+    alloc: Global,
+    ways: Ways,
+    order: ConsumerOrder,
+) -> Result<Turn<Plan, Verdict>, NoMemory>
     ensures { IfOk result (λ turn. turn ≡ subscribes ways order (meaning.build_begins ways order)) }
 {
     let step = building::begins(alloc, &ways, &order)?;
@@ -29,7 +33,7 @@ pub fn begins(alloc: Global, ways: Ways, order: Order) -> Result<Turn<Plan, Verd
 pub fn told(
     alloc: Global,
     ways: Ways,
-    order: Order,
+    order: ConsumerOrder,
     building: ConsumerState,
     outcome: Outcome,
 ) -> Result<Turn<Plan, Verdict>, NoMemory>
@@ -47,7 +51,7 @@ pub fn told(
 fn tells(
     alloc: Global,
     ways: Ways,
-    order: Order,
+    order: ConsumerOrder,
     building: ConsumerState,
     news: Option<News>,
 ) -> Result<Turn<Plan, Verdict>, NoMemory>
@@ -73,7 +77,7 @@ fn tells(
 fn goes(
     alloc: Global,
     ways: Ways,
-    order: Order,
+    order: ConsumerOrder,
     step: Builds,
 ) -> Result<Turn<Plan, Verdict>, NoMemory>
     ensures { IfOk result (λ turn. turn ≡ subscribes ways order step) }
@@ -89,8 +93,8 @@ fn goes(
 fn stays(
     alloc: Global,
     ways: Ways,
-    order: Order,
-    building: Building,
+    order: ConsumerOrder,
+    building: BuildingConsumer,
     deed: Deed,
 ) -> Result<Turn<Plan, Verdict>, NoMemory>
     ensures { IfOk result (λ turn. turn ≡ subscribes ways order (Step.Stays building deed)) }
@@ -108,10 +112,10 @@ fn stays(
 }
 
 /// A consumer was built.
-fn made(alloc: Global, order: Order, built: Built) -> Result<Turn<Plan, Verdict>, NoMemory>
+fn made(alloc: Global, order: ConsumerOrder, built: Built) -> Result<Turn<Plan, Verdict>, NoMemory>
     ensures { IfOk result (λ turn. turn ≡ Turn.Gives (verdict (consumer_of order built) Done)) }
 {
-    let Order { topic: _, config } = order;
+    let ConsumerOrder { topic: _, config } = order;
     let Built {
         topic,
         number,

@@ -7,10 +7,10 @@ ghost use Rattle.pulsar_plans.specs.Plan.{asks_of, failure_in, fails_in, goes_ro
 ghost use Rattle.pulsar_plans.specs.declared.plan.Plan.TheVariants.{Shutting, Visiting};
 
 use crate::answers;
-use crate::plan::{At, Plan, Turn, done, error_of, fails, left, overrides};
+use crate::plan::{At, Plan, Turn, done, error_of, fails, left, of_topic, overrides};
 use crate::producing::closes;
 use pulsar_addresses::content::Refusal;
-use pulsar_calls::act::{Action, Makes, Outcome, Round, Verdict};
+use pulsar_calls::act::{Action, Makes, Outcome, Round, TopicAsk, Verdict};
 use pulsar_calls::content::Numbers;
 use pulsar_exchange::content::{Received, Request};
 use pulsar_exchange::raw_call::RawCall;
@@ -35,11 +35,18 @@ fn visits(round: Round, number: u64, left: Numbers) -> Turn<Plan, Verdict>
     ensures { result ≡ visits round number left }
 {
     match round {
-        Round::Checks => stays(round, number, left, At::Turning, Action::TakeTurn(number)),
+        Round::Checks => asks_it(round, number, left, At::Turning, TopicAsk::TakeTurn),
         Round::Flushes | Round::Closes => {
-            stays(round, number, left, At::Settling, Action::Flush(number))
+            asks_it(round, number, left, At::Settling, TopicAsk::Flush)
         }
     }
+}
+
+/// It asks this of the topic producer.
+fn asks_it(round: Round, number: u64, left: Numbers, at: At, ask: TopicAsk) -> Turn<Plan, Verdict>
+    ensures { result ≡ stays_at round number left at (Action.OfTopic number ask) }
+{
+    stays(round, number, left, at, of_topic(number, ask))
 }
 
 /// The producer takes no sends any more.
@@ -145,7 +152,7 @@ fn is_settled(
     match round {
         Round::Flushes => next(alloc, round, left),
         Round::Checks | Round::Closes => {
-            Ok(stays(round, number, left, At::Turning, Action::TakeTurn(number)))
+            Ok(asks_it(round, number, left, At::Turning, TopicAsk::TakeTurn))
         }
     }
 }
@@ -176,7 +183,7 @@ fn turned(
     ensures { IfOk result (λ turn. turn ≡ in_turning round number left (Outcome.Granted news)) }
 {
     match news {
-        News::HasTurn(_) => Ok(stays(round, number, left, At::Finding, Action::Find(number))),
+        News::HasTurn(_) => Ok(asks_it(round, number, left, At::Finding, TopicAsk::Find)),
         news => failed(alloc, round, error_told(news)),
     }
 }
@@ -244,7 +251,7 @@ fn in_asking(
 {
     match outcome {
         Outcome::Queued | Outcome::InLine => {
-            Ok(stays(round, number, left, At::Passing, Action::PassTurn(number)))
+            Ok(asks_it(round, number, left, At::Passing, TopicAsk::PassTurn))
         }
         outcome => quits(alloc, round, number, error_of(outcome)),
     }
@@ -292,7 +299,7 @@ fn quits(
     ensures { IfOk result (λ turn. turn ≡ quits round number (fault error)) }
 {
     let refusal = refusal_of(alloc, round, error)?;
-    Ok(Turn::Stays(Plan::Leaving(refusal), Action::PassTurn(number)))
+    Ok(Turn::Stays(Plan::Leaving(refusal), of_topic(number, TopicAsk::PassTurn)))
 }
 
 fn failed(

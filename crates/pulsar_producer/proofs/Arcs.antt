@@ -6,9 +6,9 @@ use Rattle.pulsar_messages.specs.Words.{Words}
 use Rattle.pulsar_outgoing.specs.declared.content.Built.{Built}
 use Rattle.pulsar_outgoing.specs.declared.news.Drawn.{Drawn}
 use Rattle.pulsar_outgoing.specs.declared.orders.Errand.{Errand}
-use Rattle.pulsar_outgoing.specs.declared.orders.Order.{Order}
+use Rattle.pulsar_outgoing.specs.declared.orders.ProducerOrder.{ProducerOrder}
 use Rattle.pulsar_producer.specs.News.{News}
-use Rattle.pulsar_producer.specs.declared.building.Building.{Building as Build}
+use Rattle.pulsar_producer.specs.declared.building.BuildingProducer.{BuildingProducer as Build}
 use Rattle.pulsar_producer.specs.declared.deed.Deed.{Deed}
 use Rattle.pulsar_producer.specs.declared.sending.Sending.{Sending as Send}
 use Rattle.pulsar_searches.specs.declared.look.Looking.{Looking}
@@ -17,7 +17,7 @@ use Rattle.pulsar_searches.specs.declared.making.Making.{Making}
 use Rattle.pulsar_searches.specs.declared.making.Served.{Served}
 use Rattle.pulsar_searches.specs.declared.names.Naming.{Naming}
 use Rattle.pulsar_searches.specs.declared.turn.Action.{Action as Wish}
-use Rattle.pulsar_searches.specs.declared.turn.Outcome.{Outcome as Heard}
+use Rattle.pulsar_searches.specs.declared.turn.SearchOutcome.{SearchOutcome as Heard}
 use Rattle.pulsar_searches.specs.declared.turn.Turn.{Turn as SearchTurn}
 use Rattle.pulsar_searches.specs.declared.turn.Ways.{Ways}
 use Rattle.pulsar_wire.specs.Failures.{Failure, Fault, OfConnection}
@@ -32,7 +32,7 @@ use Rattle.pulsar_messages.specs.Message.{with_version}
 use Rattle.pulsar_producer.specs.Plans as produce
 use Rattle.pulsar_producer.specs.Plans.{Builds, fault_told}
 use Rattle.pulsar_outgoing.specs.Replies.{given}
-use Rattle.pulsar_producer.specs.declared.building.Building.TheVariants as build
+use Rattle.pulsar_producer.specs.declared.building.BuildingProducer.TheVariants as build
 use Rattle.pulsar_producer.specs.declared.building.Part.{Part}
 use Rattle.pulsar_producer.specs.declared.deed.Deed.TheVariants as deed
 use Rattle.pulsar_outgoing.specs.declared.news.News.TheVariants as news
@@ -185,7 +185,7 @@ abbrev pub StepTo : {S A : Type 0} → (S → Deed → Type 0) → (A → Type 0
 StepTo P E (step.Stays s d) = P s d
 StepTo P E (step.Gives a) = E a
 
-pub data BuildArc (w : Ways) (o : Order) : Build → News → Build → Deed → Type 0 where
+pub data BuildArc (w : Ways) (o : ProducerOrder) : Build → News → Build → Deed → Type 0 where
   names_on_gets : {n k : Naming} {x : Heard} {at : Place} → search.names_told w o.topic n x ≡ search_turn.Stays k (wish.Get at) →
       BuildArc w o (build.Naming n) (news.Told x) (build.Naming k) (deed.Does (wish.Get at))
   names_on_asks : {n k : Naming} {x : Heard} {l : ℕ} {request : Words} → search.names_told w o.topic n x ≡ search_turn.Stays k (wish.Ask l request) →
@@ -198,6 +198,7 @@ pub data BuildArc (w : Ways) (o : Order) : Build → News → Build → Deed →
   numbered_makes : {p : Part} {i : ℕ} →
       BuildArc w o (build.Numbering p) (news.Numbered i) (build.Making (command p.topic i o.name o.options) (making.Getting 0) i p.left p.made)
       (deed.Does (wish.Get p.place))
+  held_numbers : {p : Part} → BuildArc w o (build.Numbering p) news.Done (build.Numbering p) deed.Numbers
   numbered_closes : {p : Part} {y : News} {rest : List Built} {f : Failure} (b : Built) → p.made ≡ b ∷ rest →
       BuildArc w o (build.Numbering p) y (build.Closing rest f) (deed.ClosesProducer b.link b.number)
   builds_on_gets : {c : Command} {s k : Making} {i : ℕ} {left : List Named} {made : List Built} {x : Heard} {at : Place} →
@@ -211,7 +212,8 @@ pub data BuildArc (w : Ways) (o : Order) : Build → News → Build → Deed →
       BuildArc w o (build.Making c s i left made) (news.Told x) (build.Making c k i left made) (deed.Does (wish.Wait delay))
   built_numbers : {c : Command} {s : Making} {i : ℕ} {m : Named} {left : List Named} {made : List Built} {x : Heard} (new : Served) →
       BuildArc w o (build.Making c s i (m ∷ left) made) (news.Told x)
-      (build.Numbering (record { topic = m.name; place = m.place; left = left; made = made ++ produce.built c.topic i new ∷ [] })) deed.Numbers
+      (build.Numbering (record { topic = m.name; place = m.place; left = left; made = made ++ produce.built c.topic i new ∷ [] }))
+      (deed.Holds new.link i)
   built_closes : {c : Command} {s : Making} {i : ℕ} {b : Built} {left : List Named} {rest : List Built} {x : Heard} {f : Failure} →
       BuildArc w o (build.Making c s i left (b ∷ rest)) (news.Told x) (build.Closing rest f) (deed.ClosesProducer b.link b.number)
   building_rests : {c : Command} {s : Making} {i : ℕ} {left : List Named} {made : List Built} {y : News} →
@@ -220,13 +222,13 @@ pub data BuildArc (w : Ways) (o : Order) : Build → News → Build → Deed →
       BuildArc w o (build.Closing (b ∷ rest) f) (news.Told x) (build.Closing rest f) (deed.ClosesProducer b.link b.number)
   closing_rests : {left : List Built} {f : Failure} {y : News} → BuildArc w o (build.Closing left f) y (build.Closing left f) deed.Rests
 
-names_on : {w : Ways} {o : Order} {n k : Naming} {x : Heard} (a : Wish) → search.names_told w o.topic n x ≡ search_turn.Stays k a →
+names_on : {w : Ways} {o : ProducerOrder} {n k : Naming} {x : Heard} (a : Wish) → search.names_told w o.topic n x ≡ search_turn.Stays k a →
     BuildArc w o (build.Naming n) (news.Told x) (build.Naming k) (deed.Does a)
 names_on (wish.Get at) e = names_on_gets e
 names_on (wish.Ask l request) e = names_on_asks e
 names_on (wish.Wait delay) e = names_on_waits e
 
-builds_on : {w : Ways} {o : Order} {c : Command} {s k : Making} {i : ℕ} {left : List Named} {made : List Built} {x : Heard} (a : Wish) →
+builds_on : {w : Ways} {o : ProducerOrder} {c : Command} {s k : Making} {i : ℕ} {left : List Named} {made : List Built} {x : Heard} (a : Wish) →
     search.made_told w c s x ≡ search_turn.Stays k a → BuildArc w o (build.Making c s i left made) (news.Told x) (build.Making c k i left made) (deed.Does a)
 builds_on (wish.Get at) e = builds_on_gets e
 builds_on (wish.Ask l request) e = builds_on_asks e
@@ -238,11 +240,11 @@ pub data BuildEnd : Build → News → Result (List Built) Failure → Type 0 wh
       BuildEnd (build.Making c s i [] made) (news.Told x) (Ok (made ++ produce.built c.topic i new ∷ []))
   build_fails : {b : Build} {y : News} {f : Failure} → BuildEnd b y (Err f)
 
-abbrev pub BuildTo : Ways → Order → Build → News → Builds → Type 0
+abbrev pub BuildTo : Ways → ProducerOrder → Build → News → Builds → Type 0
 BuildTo w o b y = StepTo (BuildArc w o b y) (BuildEnd b y)
 
-module _ (w : Ways) (o : Order) where
-  named : (n : Naming) (x : Heard) (names : List Named) → BuildTo w o (build.Naming n) (news.Told x) (produce.build_next names [])
+module _ (w : Ways) (o : ProducerOrder) where
+  named : (n : Naming) (x : Heard) (names : List Named) → BuildTo w o (build.Naming n) (news.Told x) (produce.build_next deed.Numbers names [])
   named n x [] = none_named
   named n x (m ∷ names) = named_numbers m names
 
@@ -277,10 +279,11 @@ module _ (w : Ways) (o : Order) where
     makes left made (search_turn.Gives (Ok new)) e = built left made new
     makes left made (search_turn.Gives (Err f)) e = unmade left made f
 
-pub build_arcs : (w : Ways) (o : Order) (b : Build) (y : News) → BuildTo w o b y (produce.build_told w o b y)
+pub build_arcs : (w : Ways) (o : ProducerOrder) (b : Build) (y : News) → BuildTo w o b y (produce.build_told w o b y)
 build_arcs w o (build.Naming n) (news.Told x) = names w o n x (search.names_told w o.topic n x) refl
 build_arcs w o (build.Naming n) _ = naming_rests
 build_arcs w o (build.Numbering p) (news.Numbered n) = numbered_makes
+build_arcs w o (build.Numbering p) news.Done = held_numbers
 build_arcs w o (build.Numbering p) y = unnumbered w o p y p.made (OfConnection (fault_told y)) refl
 build_arcs w o (build.Making c s i left made) (news.Told x) = makes w o c s i x left made (search.made_told w c s x) refl
 build_arcs w o (build.Making c s i left made) _ = building_rests

@@ -149,6 +149,7 @@ is_send (PassesTurn n) = false
 is_send (Recalls n) = false
 is_send (deed.Remakes n link g) = false
 is_send Numbers = false
+is_send (deed.Holds link n) = false
 is_send (ClosesProducer link n) = false
 is_send (deed.TakesBatch n) = false
 is_send (Settles reports) = false

@@ -19,7 +19,8 @@ use Rattle.pulsar_outgoing.specs.Errors.{in_producer}
 use Rattle.pulsar_messages.specs.Message.{with_version}
 use Rattle.pulsar_outgoing.specs.Replies.{given}
 use Rattle.pulsar_outgoing.specs.declared.content.Built.{Built}
-use Rattle.pulsar_producer.specs.declared.deed.Deed.TheVariants.{Does, TakesTurn, Draws, Sends, PassesTurn, Recalls, Remakes, Numbers, ClosesProducer, Rests}
+use Rattle.pulsar_producer.specs.declared.deed.Deed.{Deed}
+use Rattle.pulsar_producer.specs.declared.deed.Deed.TheVariants.{Does, TakesTurn, Draws, Sends, PassesTurn, Recalls, Remakes, Numbers, Holds, ClosesProducer, Rests}
 use Rattle.pulsar_outgoing.specs.declared.news.Drawn.{Drawn}
 use Rattle.pulsar_producer.specs.News.{News}
 use Rattle.pulsar_outgoing.specs.declared.news.News.TheVariants.{Told, Queued, InLine, HasTurn, Drew, Recalled, Numbered, Ready, HasBatch, Done}
@@ -29,10 +30,10 @@ use Rattle.pulsar_producer.specs.declared.deed.Step.TheVariants.{Stays, Gives}
 use Rattle.pulsar_outgoing.specs.declared.orders.Errand.{Errand}
 use Rattle.pulsar_producer.specs.declared.sending.Sending.{Sending}
 use Rattle.pulsar_producer.specs.declared.sending.Sending.TheVariants as send
-use Rattle.pulsar_outgoing.specs.declared.orders.Order.{Order}
+use Rattle.pulsar_outgoing.specs.declared.orders.ProducerOrder.{ProducerOrder}
 use Rattle.pulsar_producer.specs.declared.building.Part.{Part}
-use Rattle.pulsar_producer.specs.declared.building.Building.{Building}
-use Rattle.pulsar_producer.specs.declared.building.Building.TheVariants as build
+use Rattle.pulsar_producer.specs.declared.building.BuildingProducer.{BuildingProducer}
+use Rattle.pulsar_producer.specs.declared.building.BuildingProducer.TheVariants as build
 
 -- a plan within a plan: its states are states of the outer one, and the outer one goes on with what it gives
 abbrev pub nested : {S T A B : Type 0} → Turn S A → (S → T) → (A → Step T B) → Step T B
@@ -162,43 +163,45 @@ send_told w e (send.Ending f) n = Gives (Err f)
 -- were made are closed in order, whatever the answers, and then it fails.
 
 abbrev pub Builds : Type 0
-Builds = Step Building (Result (List Built) Failure)
+Builds = Step BuildingProducer (Result (List Built) Failure)
 
 abbrev pub build_closes : List Built → Failure → Builds
 build_closes [] f = Gives (Err f)
 build_closes (p ∷ left) f = Stays (build.Closing left f) (ClosesProducer p.link p.number)
 
 -- the next name, behind those that were made
-abbrev pub build_next : List Named → List Built → Builds
-build_next [] made = Gives (Ok made)
-build_next (n ∷ left) made = Stays (build.Numbering (record { topic = n.name; place = n.place; left = left; made = made })) Numbers
+-- with this deed before the next of them
+abbrev pub build_next : Deed → List Named → List Built → Builds
+build_next d [] made = Gives (Ok made)
+build_next d (n ∷ left) made = Stays (build.Numbering (record { topic = n.name; place = n.place; left = left; made = made })) d
 
 -- one more was made
 abbrev pub built : (topic : List ℕ) (number : ℕ) → Served → Built
 built topic number s = record { topic = topic; number = number; link = s.link; given = given s.reply }
 
 abbrev pub build_made : (topic : List ℕ) (number : ℕ) → List Named → List Built → Served → Builds
-build_made topic number left made s = build_next left (made ++ built topic number s ∷ [])
+build_made topic number left made s = build_next (Holds s.link number) left (made ++ built topic number s ∷ [])
 
 abbrev pub build_makes : Command → (number : ℕ) → List Named → List Built → Turn Making (Result Served Failure) → Builds
 build_makes c number left made turn =
     or_else turn (λ k. build.Making c k number left made) (build_made c.topic number left made) (build_closes made)
 
-abbrev pub build_numbered : Order → Part → (number : ℕ) → Builds
+abbrev pub build_numbered : ProducerOrder → Part → (number : ℕ) → Builds
 build_numbered o p number = build_makes (command p.topic number o.name o.options) number p.left p.made (made_gets 0 p.place)
 
 abbrev pub build_names : Turn Naming (Result (List Named) Failure) → Builds
-build_names turn = or_else turn build.Naming (λ names. build_next names []) (λ f. Gives (Err f))
+build_names turn = or_else turn build.Naming (λ names. build_next Numbers names []) (λ f. Gives (Err f))
 
-abbrev pub build_begins : Ways → Order → Builds
+abbrev pub build_begins : Ways → ProducerOrder → Builds
 build_begins w o = build_names (names_begins w o.topic)
 
-abbrev pub in_naming : Ways → Order → Naming → News → Builds
+abbrev pub in_naming : Ways → ProducerOrder → Naming → News → Builds
 in_naming w o n (Told x) = build_names (names_told w o.topic n x)
 in_naming w o n y = Stays (build.Naming n) Rests
 
-abbrev pub in_numbering : Order → Part → News → Builds
+abbrev pub in_numbering : ProducerOrder → Part → News → Builds
 in_numbering o p (Numbered number) = build_numbered o p number
+in_numbering o p Done = Stays (build.Numbering p) Numbers
 in_numbering o p y = build_closes p.made (OfConnection (fault_told y))
 
 abbrev pub in_producing : Ways → Command → Making → (number : ℕ) → List Named → List Built → News → Builds
@@ -209,7 +212,7 @@ abbrev pub in_closing : List Built → Failure → News → Builds
 in_closing left f (Told x) = build_closes left f
 in_closing left f y = Stays (build.Closing left f) Rests
 
-abbrev pub build_told : Ways → Order → Building → News → Builds
+abbrev pub build_told : Ways → ProducerOrder → BuildingProducer → News → Builds
 build_told w o (build.Naming n) y = in_naming w o n y
 build_told w o (build.Numbering p) y = in_numbering o p y
 build_told w o (build.Making c k number left made) y = in_producing w c k number left made y

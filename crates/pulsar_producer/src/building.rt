@@ -7,7 +7,7 @@ use crate::deed::{Deed, News, Step, error_told};
 use crate::topic_producer::command;
 use pulsar_addresses::content::{Address, Names, Refusal, Text};
 use pulsar_outgoing::content::{Built, Left, Parts, Settings};
-use pulsar_outgoing::orders::Order;
+use pulsar_outgoing::orders::ProducerOrder;
 use pulsar_outgoing::replies::given_by;
 use pulsar_searches::making::{self, Command, Making, Served};
 use pulsar_searches::names::{self, Naming};
@@ -27,7 +27,7 @@ pub struct Part {
 
 /// Where a building stands.
 #[derive(Drop)]
-pub enum Building {
+pub enum BuildingProducer {
     /// It finds the names of the topic.
     Naming(Naming),
     /// It draws a number.
@@ -48,10 +48,10 @@ pub enum Building {
 }
 
 /// What a building gives at its end.
-pub type Builds = Step<Building, Result<Parts, Refusal>>;
+pub type Builds = Step<BuildingProducer, Result<Parts, Refusal>>;
 
 /// Where it begins.
-pub fn begins(alloc: Global, ways: &Ways, order: &Order) -> Result<Builds, NoMemory>
+pub fn begins(alloc: Global, ways: &Ways, order: &ProducerOrder) -> Result<Builds, NoMemory>
     ensures { IfOk result (λ step. step ≡ meaning.build_begins ways.now order.now) }
 {
     let turn = names::begins(alloc, ways, &order.topic)?;
@@ -62,30 +62,30 @@ pub fn begins(alloc: Global, ways: &Ways, order: &Order) -> Result<Builds, NoMem
 pub fn told(
     alloc: Global,
     ways: &Ways,
-    order: &Order,
-    building: Building,
+    order: &ProducerOrder,
+    building: BuildingProducer,
     news: News,
 ) -> Result<Builds, NoMemory>
     ensures { IfOk result (λ step. step ≡ meaning.build_told ways.now order.now building news) }
 {
     match building {
-        Building::Naming(naming) => in_naming(alloc, ways, order, naming, news),
-        Building::Numbering(part) => in_numbering(alloc, order, part, news),
-        Building::Making {
+        BuildingProducer::Naming(naming) => in_naming(alloc, ways, order, naming, news),
+        BuildingProducer::Numbering(part) => in_numbering(alloc, order, part, news),
+        BuildingProducer::Making {
             command,
             making,
             number,
             left,
             made,
         } => in_producing(alloc, ways, command, making, number, left, made, news),
-        Building::Closing { left, refusal } => Ok(in_closing(left, refusal, news)),
+        BuildingProducer::Closing { left, refusal } => Ok(in_closing(left, refusal, news)),
     }
 }
 
 fn in_naming(
     alloc: Global,
     ways: &Ways,
-    order: &Order,
+    order: &ProducerOrder,
     naming: Naming,
     news: News,
 ) -> Result<Builds, NoMemory>
@@ -96,15 +96,21 @@ fn in_naming(
             let turn = names::told(alloc, ways, &order.topic, naming, outcome)?;
             names(alloc, turn)
         }
-        _ => Ok(Step::Stays(Building::Naming(naming), Deed::Rests)),
+        _ => Ok(Step::Stays(BuildingProducer::Naming(naming), Deed::Rests)),
     }
 }
 
-fn in_numbering(alloc: Global, order: &Order, part: Part, news: News) -> Result<Builds, NoMemory>
+fn in_numbering(
+    alloc: Global,
+    order: &ProducerOrder,
+    part: Part,
+    news: News,
+) -> Result<Builds, NoMemory>
     ensures { IfOk result (λ step. step ≡ meaning.in_numbering order.now part news) }
 {
     match news {
         News::Numbered(number) => numbered(alloc, order, part, number),
+        News::Done => Ok(Step::Stays(BuildingProducer::Numbering(part), Deed::Numbers)),
         news => {
             let refusal = Refusal::in_connection(alloc, error_told(news))?;
             Ok(closes(part.made, refusal))
@@ -130,7 +136,7 @@ fn in_producing(
             makes(alloc, command, number, left, made, turn)
         }
         _ => Ok(Step::Stays(
-            Building::Making {
+            BuildingProducer::Making {
                 command,
                 making,
                 number,
@@ -147,7 +153,7 @@ fn in_closing(left: Parts, refusal: Refusal, news: News) -> Builds
 {
     match news {
         News::Told(_) => closes(left, refusal),
-        _ => Step::Stays(Building::Closing { left, refusal }, Deed::Rests),
+        _ => Step::Stays(BuildingProducer::Closing { left, refusal }, Deed::Rests),
     }
 }
 
@@ -157,34 +163,39 @@ fn names(alloc: Global, turn: Turn<Naming, Result<Names, Refusal>>) -> Result<Bu
 {
     match turn {
         Turn::Stays(naming, action) => Ok(Step::Stays(
-            Building::Naming(naming),
+            BuildingProducer::Naming(naming),
             Deed::Does(action),
         )),
-        Turn::Gives(Ok(names)) => next(alloc, Left::new(names), Parts::new(alloc)),
+        Turn::Gives(Ok(names)) => next(alloc, Left::new(names), Parts::new(alloc), Deed::Numbers),
         Turn::Gives(Err(refusal)) => Ok(Step::Gives(Err(refusal))),
     }
 }
 
-/// The next of the names that are left, behind those for which a topic producer was made.
-fn next(alloc: Global, mut left: Left, made: Parts) -> Result<Builds, NoMemory>
-    ensures { IfOk result (λ step. step ≡ meaning.build_next left made) }
+/// The next of the names that are left, behind those for which a topic producer was made. This is done before it.
+fn next(alloc: Global, mut left: Left, made: Parts, deed: Deed) -> Result<Builds, NoMemory>
+    ensures { IfOk result (λ step. step ≡ meaning.build_next deed left made) }
 {
     match left.next(alloc)? {
         Some((topic, place)) => Ok(Step::Stays(
-            Building::Numbering(Part {
+            BuildingProducer::Numbering(Part {
                 topic,
                 place,
                 left,
                 made,
             }),
-            Deed::Numbers,
+            deed,
         )),
         None => Ok(Step::Gives(Ok(made))),
     }
 }
 
 /// The topic producer of this number is made.
-fn numbered(alloc: Global, order: &Order, part: Part, number: u64) -> Result<Builds, NoMemory>
+fn numbered(
+    alloc: Global,
+    order: &ProducerOrder,
+    part: Part,
+    number: u64,
+) -> Result<Builds, NoMemory>
     ensures { IfOk result (λ step. step ≡ meaning.build_numbered order.now part number) }
 {
     let Part {
@@ -214,7 +225,7 @@ fn makes(
 {
     match turn {
         Turn::Stays(making, action) => Ok(Step::Stays(
-            Building::Making {
+            BuildingProducer::Making {
                 command,
                 making,
                 number,
@@ -224,8 +235,9 @@ fn makes(
             Deed::Does(action),
         )),
         Turn::Gives(Ok(served)) => {
+            let link = served.link;
             let built = built(alloc, command.topic, number, served)?;
-            next(alloc, left, made.with(built)?)
+            next(alloc, left, made.with(built)?, Deed::Holds { link, number })
         }
         Turn::Gives(Err(refusal)) => Ok(closes(made, refusal)),
     }
@@ -250,7 +262,7 @@ fn closes(mut left: Parts, refusal: Refusal) -> Builds
 {
     match left.next() {
         Some(built) => Step::Stays(
-            Building::Closing { left, refusal },
+            BuildingProducer::Closing { left, refusal },
             Deed::ClosesProducer {
                 link: built.link,
                 number: built.number,

@@ -11,12 +11,12 @@ use pulsar_outgoing::failing::in_producer;
 use pulsar_outgoing::news;
 use pulsar_outgoing::replies::Given;
 use pulsar_searches::making::Command;
-use pulsar_searches::turn::{self, Action, Outcome};
+use pulsar_searches::turn::{self, Action, SearchOutcome};
 use pulsar_wire::error::{ConnectionError, Error, NoMemory, ProducerError};
 use std::alloc::Global;
 
 /// What a plan is told.
-pub type News = news::News<Outcome, Command>;
+pub type News = news::News<SearchOutcome, Command>;
 
 /// A message as it is asked of a link. Where `block` is not set, it is refused where there is no room.
 #[derive(Drop)]
@@ -54,6 +54,11 @@ pub enum Deed {
     },
     /// Draw the number of a new topic producer.
     Numbers,
+    /// The topic producer of this number was made on the link, and others of its producer are still to be made.
+    Holds {
+        link: u64,
+        number: u64,
+    },
     /// Close the topic producer of this number on the link.
     ClosesProducer {
         link: u64,

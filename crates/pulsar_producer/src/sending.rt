@@ -17,7 +17,7 @@ use pulsar_outgoing::orders::Errand;
 use pulsar_outgoing::replies::given_by;
 use pulsar_searches::look::{self, Looking};
 use pulsar_searches::making::{self, Command, Making, Served, verdict};
-use pulsar_searches::turn::{Outcome, Turn, Ways, is_lost};
+use pulsar_searches::turn::{SearchOutcome, Turn, Ways, is_lost};
 use pulsar_wire::error::{ConnectionError, NoMemory};
 use std::alloc::Global;
 
@@ -346,7 +346,7 @@ fn fails(alloc: Global, errand: Errand, error: ConnectionError) -> Result<Sent, 
 }
 
 /// What comes of the frame is the answer.
-fn receipt(alloc: Global, outcome: Outcome) -> Result<Sent, NoMemory>
+fn receipt(alloc: Global, outcome: SearchOutcome) -> Result<Sent, NoMemory>
     ensures { IfOk result (λ step. step ≡ meaning.receipt (verdict 7 outcome)) }
 {
     match verdict(alloc, SEND_RECEIPT, outcome)? {

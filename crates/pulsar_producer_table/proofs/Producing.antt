@@ -16,7 +16,7 @@ use Rattle.pulsar_producer.specs.Topic.{Act, Closes, Seen, fresh}
 use Rattle.pulsar_outgoing.specs.declared.content.Built.{Built}
 use Rattle.pulsar_producer.specs.declared.routing.Partition.{Partition}
 use Rattle.pulsar_outgoing.specs.declared.storage.Limits.{Limits}
-use Rattle.pulsar_calls.specs.declared.content.Building.{Building}
+use Rattle.pulsar_calls.specs.declared.content.BuiltProducer.{BuiltProducer}
 use Rattle.pulsar_producer_table.specs.declared.table.Topic.{Topic}
 use Rattle.pulsar_producer_table.specs.Producers.{Producers, changed, joined, made_of, partition_of, routed, shut_all, topic_after, with_built, with_topic, with_topics}
 
@@ -87,13 +87,13 @@ topics_end owner first limits (a ∷ bs) b ps = topics_end owner first limits bs
 
 -- A PRODUCER IS MADE
 
-pub made_so : (seed ticket : ℕ) (b : Building) (qs : List Partition) → qs ≡ map partition_of b.parts →
+pub made_so : (seed ticket : ℕ) (b : BuiltProducer) (qs : List Partition) → qs ≡ map partition_of b.parts →
     made b.topic b.settings qs (first_index seed ticket (length qs)) ≡ made_of seed ticket b
 made_so seed ticket b qs are =
     ap (λ xs. made b.topic b.settings xs (first_index seed ticket (length xs))) are
     ∙ ap (λ n. made b.topic b.settings (map partition_of b.parts) (first_index seed ticket n)) (length-map b.parts partition_of)
 
-pub joined_so : (t seed first : ℕ) (b : Building) (ps now : Producers) (p : producer.Seen) (built : ℕ → Option producer.Seen) →
+pub joined_so : (t seed first : ℕ) (b : BuiltProducer) (ps now : Producers) (p : producer.Seen) (built : ℕ → Option producer.Seen) →
     now ≡ with_topics t first (limits_of b.settings) b.parts ps → made_of seed t b ≡ Some p → ((u : ℕ) → built u ≡ cond (is_at (nat_cmp t) u) (Some p) (now.built u)) →
     record now { built = built } ≡ joined t b seed first ps
 joined_so t seed first b ps now p built topics is written =

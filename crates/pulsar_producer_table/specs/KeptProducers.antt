@@ -10,6 +10,7 @@ producers_of p =
       built = get nat_cmp p.built;
       topics = get nat_cmp p.topics;
       numbers = p.numbers.items;
+      held = p.held.items;
       named = p.named.keys;
       next = p.next;
     }

@@ -1,3 +1,4 @@
 pub mod Producers
 pub mod Notices
 pub mod KeptProducers
+pub mod Asks

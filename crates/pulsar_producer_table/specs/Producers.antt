@@ -1,9 +1,10 @@
 -- The producers of a client: what is seen of them, and what becomes of that.  (Pulsar binary protocol, Producer)
-use Rattle.std.specs.Prelude.{ℕ, ◌+◌, ◌==◌, ◌&&◌, not, nat_lt, ◌^◌, ◌-◌, Bool, true, false, if◌then◌else◌, List, [], ◌∷◌, ◌++◌, length, map, Option, Some, None}
+use Rattle.std.specs.Prelude.{ℕ, ◌+◌, ◌==◌, ◌&&◌, ◌||◌, filter, not, nat_lt, ◌^◌, ◌-◌, Bool, true, false, if◌then◌else◌, List, [], ◌∷◌, ◌++◌, length, map, Option, Some, None}
 use Rattle.std.specs.BTreeSet.{insert_key}
 use Rattle.std.specs.List.{flat_map, list_any}
 use Rattle.std.specs.Option.{is_some, option_map}
 use Rattle.std.specs.Ordering.{nat_cmp}
+use Rattle.pulsar_run.specs.Things.{row_by}
 use Rattle.pulsar_messages.specs.Content.{ProducerMessageValues}
 use Rattle.pulsar_messages.specs.Claims.{is_spent}
 use Rattle.pulsar_exchange.specs.Request.{named_producer}
@@ -22,28 +23,31 @@ use Rattle.pulsar_outgoing.specs.declared.news.Drawn.{Drawn}
 use Rattle.pulsar_producer.specs.declared.routing.Partition.{Partition}
 use Rattle.pulsar_outgoing.specs.declared.orders.Errand.{Errand}
 use Rattle.pulsar_outgoing.specs.declared.storage.Limits.{Limits}
-use Rattle.pulsar_calls.specs.declared.act.Refusal.{Refusal}
-use Rattle.pulsar_calls.specs.declared.act.Refusal.TheVariants as refusal
-use Rattle.pulsar_calls.specs.declared.content.Building.{Building}
+use Rattle.pulsar_calls.specs.declared.act.CallRefusal.{CallRefusal}
+use Rattle.pulsar_calls.specs.declared.act.CallRefusal.TheVariants as refusal
+use Rattle.pulsar_calls.specs.declared.content.BuiltProducer.{BuiltProducer}
 use Rattle.pulsar_calls.specs.declared.act.Who.{Who}
+use Rattle.pulsar_producer_table.specs.declared.table.Held.{Held}
 use Rattle.pulsar_producer_table.specs.declared.table.Topic.{Topic}
 use Rattle.pulsar_calls.specs.Content as content
 use Rattle.pulsar_calls.specs.Content.{Asked, sent_by}
 use Rattle.pulsar_calls.specs.Who.{in_turn}
 
 -- The producers, by the tickets of the calls that built them; their topic producers by number, and these numbers in the order in which they
--- were made; the numbers that raw calls have named, in order; and the number from which on the next one is drawn.
+-- were made; those that were made for calls that still make others; the numbers that raw calls have named, in order; and the number from which
+-- on the next one is drawn.
 pub record Producers : Type 0 where
   pub built : (ticket : ℕ) → Option producer.Seen
   pub topics : (number : ℕ) → Option Topic
   pub numbers : List ℕ
+  pub held : List Held
   pub named : List ℕ
   pub next : ℕ
 
 -- at first
 abbrev pub none : (first_number : ℕ) → Producers
 none first_number =
-    record { built = λ t. None; topics = λ n. None; numbers = []; named = []; next = first_number }
+    record { built = λ t. None; topics = λ n. None; numbers = []; held = []; named = []; next = first_number }
 
 -- TOPIC PRODUCERS
 
@@ -54,6 +58,11 @@ topic_after act t = record { owner = t.owner; seen = topic.after act t.seen }
 abbrev pub changed : (number : ℕ) → Act → Producers → Producers
 changed number act ps =
     record ps { topics = λ n. if n == number then option_map (topic_after act) (ps.topics n) else ps.topics n }
+
+-- and several acts, the newest first
+abbrev pub done_to : (number : ℕ) → List Act → Producers → Producers
+done_to number acts ps =
+    record ps { topics = λ n. row_by topic_after (if n == number then acts else []) (ps.topics n) }
 
 -- its link, and whether it takes no sends any more
 abbrev pub link_at : Option Topic → Option ℕ
@@ -69,7 +78,18 @@ is_open_on l None = false
 is_open_on l (Some t) = not t.seen.is_closed && (t.seen.link == l)
 
 abbrev pub is_held : Producers → (link : ℕ) → Bool
-is_held ps l = list_any (λ n. is_open_on l (ps.topics n)) ps.numbers
+is_held ps l = list_any (λ n. is_open_on l (ps.topics n)) ps.numbers || list_any (λ h. h.link == l) ps.held
+
+-- a topic producer has this number, also where its producer is still made
+abbrev pub is_used : Producers → (number : ℕ) → Bool
+is_used ps n = is_some (ps.topics n) || list_any (λ h. h.number == n) ps.held
+
+-- one was made for a call that still makes others; once that call has ended it counts no more by itself
+abbrev pub holding : (owner link number : ℕ) → Producers → Producers
+holding owner link number ps = record ps { held = ps.held ++ record { owner = owner; link = link; number = number } ∷ [] }
+
+abbrev pub freed : (owner : ℕ) → Producers → Producers
+freed owner ps = record ps { held = filter (λ h. not (h.owner == owner)) ps.held }
 
 -- the version of its schema for one that has its turn at once
 abbrev pub turn_in : Topic → Option (Option (List ℕ))
@@ -200,7 +220,7 @@ is_closed_at ps None = false
 is_closed_at ps (Some p) = is_shut_first ps p.routes.partitions
 
 -- why nothing is sent by the producer of a ticket
-abbrev pub why_not : Producers → (ticket : ℕ) → Option Refusal
+abbrev pub why_not : Producers → (ticket : ℕ) → Option CallRefusal
 why_not ps t =
     if is_some (ps.built t) then (if is_closed_at ps (ps.built t) then Some refusal.Closed else None) else Some refusal.UnknownTicket
 
@@ -217,6 +237,11 @@ stored_by ps ns = flat_map (λ n. stored_at (ps.topics n)) ns
 abbrev pub shut_all : List ℕ → Producers → Producers
 shut_all [] ps = ps
 shut_all (n ∷ ns) ps = shut_all ns (changed n Closes ps)
+
+-- each of them is closed
+abbrev pub shut_by : (number : ℕ) → List ℕ → List Act
+shut_by n [] = []
+shut_by n (m ∷ ms) = if n == m then Closes ∷ shut_by n ms else shut_by n ms
 
 abbrev pub shut : (ticket : ℕ) → Producers → Producers
 shut t ps = shut_all (numbers_at (ps.built t)) ps
@@ -267,11 +292,21 @@ abbrev pub with_topics : (owner first_number : ℕ) → Limits → List Built �
 with_topics owner first_number limits [] ps = ps
 with_topics owner first_number limits (b ∷ bs) ps = with_topics owner first_number limits bs (with_topic owner first_number limits b ps)
 
+-- the new one of a number, where one of these has it: the last
+abbrev pub last_of : Option Topic → Option Topic → Option Topic
+last_of None row = row
+last_of (Some t) row = Some t
+
+abbrev pub topic_in : (owner first_number : ℕ) → Limits → List Built → (number : ℕ) → Option Topic
+topic_in owner first_number limits [] n = None
+topic_in owner first_number limits (b ∷ bs) n =
+    last_of (topic_in owner first_number limits bs n) (if n == b.number then Some (fresh_topic owner first_number limits b) else None)
+
 abbrev pub partition_of : Built → Partition
 partition_of b = record { name = b.topic; number = b.number }
 
 -- it begins behind an index that is drawn for it
-abbrev pub made_of : (seed ticket : ℕ) → Building → Option producer.Seen
+abbrev pub made_of : (seed ticket : ℕ) → BuiltProducer → Option producer.Seen
 made_of seed ticket b =
     producer.made b.topic b.settings (map partition_of b.parts) (first_index seed ticket (length b.parts))
 
@@ -279,7 +314,7 @@ abbrev pub with_built : (ticket : ℕ) → Option producer.Seen → Producers �
 with_built t None ps = ps
 with_built t (Some p) ps = record ps { built = λ u. if u == t then Some p else ps.built u }
 
-abbrev pub joined : (ticket : ℕ) → Building → (seed first_number : ℕ) → Producers → Producers
+abbrev pub joined : (ticket : ℕ) → BuiltProducer → (seed first_number : ℕ) → Producers → Producers
 joined t b seed first_number ps = with_built t (made_of seed t b) (with_topics t first_number (limits_of b.settings) b.parts ps)
 
 -- CALLS

@@ -2,4 +2,5 @@
 //! numbers are drawn.
 #![tactic(auto)]
 
+pub mod asks;
 pub mod table;

@@ -1,8 +1,8 @@
 //! The producers of a client, their topic producers, and the numbers of these.
 
-ghost use Rattle.std.specs.Prelude.{◌≡◌, ◌==◌, ◌&&◌, ◌+◌, ◌-◌, ◌^◌, nat_lt, ◌++◌, ℕ, IfOk, OnOk, Some, length, map, if◌then◌else◌};
+ghost use Rattle.std.specs.Prelude.{◌≡◌, ◌==◌, ◌&&◌, ◌+◌, ◌-◌, ◌^◌, nat_lt, ◌++◌, not, ℕ, IfOk, OnOk, Some, length, map, if◌then◌else◌};
 ghost use Rattle.std.specs.BTreeMap.{get};
-ghost use Rattle.std.specs.List.{flat_map, list_any};
+ghost use Rattle.std.specs.List.{filter, flat_map, list_any};
 ghost use Rattle.std.specs.Option.{is_some, option_map};
 ghost use Rattle.std.specs.Ordering.{nat_cmp};
 ghost use Rattle.pulsar_messages.specs.Content.{message_content};
@@ -18,7 +18,7 @@ ghost use Rattle.pulsar_producer_table.specs.KeptProducers.{producers_of};
 
 use pulsar_addresses::content::Text;
 use pulsar_calls::act::{Notice, Outcome, Who};
-use pulsar_calls::content::{Advice, Building, Numbers, Remaking};
+use pulsar_calls::content::{Advice, BuiltProducer, Numbers, Remaking};
 use pulsar_calls::who::in_turn;
 use pulsar_messages::Message;
 use pulsar_outgoing::content::{Batch, Built, Entry, Parts, Settings, Version};
@@ -45,13 +45,23 @@ impl Drop for Topic {
     }
 }
 
+/// A topic producer that was made on this link for a call of this ticket, which still makes others.
+#[derive(Clone, Copy)]
+pub struct Held {
+    pub owner: u64,
+    pub link: u64,
+    pub number: u64,
+}
+
 /// The producers of a client, by the tickets of the calls that built them; their topic producers, by number, and the numbers in the order
-/// in which they were made; the numbers that raw calls have named; and the number from which on the next is drawn.
+/// in which they were made; those that were made for calls that still make others; the numbers that raw calls have named; and the number from
+/// which on the next is drawn.
 pub struct Producers {
     pub alloc: Global,
     pub built: BTreeMap<u64, Producer>,
     pub topics: BTreeMap<u64, Topic>,
     pub numbers: Vec<u64>,
+    pub held: Vec<Held>,
     pub named: BTreeSet<u64>,
     pub next: u64,
 }
@@ -63,6 +73,7 @@ impl Drop for Producers {
             built: _,
             topics: _,
             numbers: _,
+            held: _,
             named: _,
             next: _,
         } = self;
@@ -79,6 +90,7 @@ impl Producers {
             built: BTreeMap::new(alloc),
             topics: BTreeMap::new(alloc),
             numbers: Vec::new(alloc),
+            held: Vec::new(alloc),
             named: BTreeSet::new(alloc),
             next: first_number,
         }
@@ -114,11 +126,37 @@ impl Producers {
         }
     }
 
-    /// A producer of the client has this number.
-    pub fn is_used(&self, number: u64) -> bool
+    /// There is a topic producer of this number.
+    pub(crate) fn knows(&self, number: u64) -> bool
         ensures { result ≡ is_some ((producers_of self.now).topics number) }
     {
         self.topics.contains_key(&number)
+    }
+
+    /// A topic producer of the client has this number, also where its producer is still made.
+    pub fn is_used(&self, number: u64) -> bool
+        ensures { result ≡ meaning.is_used (producers_of self.now) number }
+    {
+        self.knows(number) || has_number(&self.held, number)
+    }
+
+    /// A topic producer was made for a call, which still makes others.
+    pub fn hold(&mut self, owner: u64, link: u64, number: u64) -> Result<(), NoMemory>
+        ensures { OnOk result (producers_of self.new ≡ meaning.holding owner link number (producers_of self.old)) }
+    {
+        self.held.push(Held {
+            owner,
+            link,
+            number,
+        })?;
+        Ok(())
+    }
+
+    /// A call has ended, and makes no topic producers any more.
+    pub fn free(&mut self, owner: u64)
+        ensures { producers_of self.new ≡ meaning.freed owner (producers_of self.old) }
+    {
+        let_go(&mut self.held, owner);
     }
 
     /// A raw call has named a number.
@@ -181,7 +219,7 @@ impl Producers {
     }
 
     /// One wants its turn at a topic producer. It has it at once where nobody has it: then this is the version of the schema.
-    pub fn take_turn(
+    pub(crate) fn take_turn(
         &mut self,
         number: u64,
         ticket: u64,
@@ -199,7 +237,10 @@ impl Producers {
     }
 
     /// The turn at a topic producer is over: the ticket of the one who has it now, and the version of the schema.
-    pub fn pass_turn(&mut self, number: u64) -> Result<Option<(u64, Option<Version>)>, NoMemory>
+    pub(crate) fn pass_turn(
+        &mut self,
+        number: u64,
+    ) -> Result<Option<(u64, Option<Version>)>, NoMemory>
         ensures next { IfOk result (λ r. r ≡ meaning.turn_passed ((producers_of self.old).topics number)) }
         ensures after { OnOk result (producers_of self.new ≡ meaning.changed number topic.Passes (producers_of self.old)) }
     {
@@ -213,7 +254,7 @@ impl Producers {
     }
 
     /// The number of a message is drawn, for a link with room or without. There is none where the numbers are spent.
-    pub fn draw(&mut self, number: u64, room: bool) -> Result<Option<Drawn>, NoMemory>
+    pub(crate) fn draw(&mut self, number: u64, room: bool) -> Result<Option<Drawn>, NoMemory>
         ensures drawn { IfOk result (λ d. d ≡ meaning.drawn room ((producers_of self.old).topics number)) }
         ensures after { OnOk result (producers_of self.new ≡ meaning.changed number topic.Draws (producers_of self.old)) }
     {
@@ -232,7 +273,7 @@ impl Producers {
     }
 
     /// The command by which a topic producer is made again.
-    pub fn recall(&self, number: u64) -> Result<Option<Command>, NoMemory>
+    pub(crate) fn recall(&self, number: u64) -> Result<Option<Command>, NoMemory>
         ensures { IfOk result (λ c. c ≡ meaning.recalled (producers_of self.now) number) }
     {
         let Some(topic) = self.topics.get(&number) else {
@@ -245,14 +286,10 @@ impl Producers {
     }
 
     /// A topic producer was made again.
-    pub fn remake(&mut self, remaking: Remaking)
-        ensures { producers_of self.new ≡ meaning.changed remaking.number (topic.Remakes remaking.link remaking.given) (producers_of self.old) }
+    pub(crate) fn remake(&mut self, number: u64, remaking: Remaking)
+        ensures { producers_of self.new ≡ meaning.changed number (topic.Remakes remaking.link remaking.given) (producers_of self.old) }
     {
-        let Remaking {
-            number,
-            link,
-            given,
-        } = remaking;
+        let Remaking { link, given } = remaking;
         match self.topics.get_mut(&number) {
             Some(topic) => topic.seen.remake(link, given),
             None => drop(given),
@@ -287,13 +324,13 @@ impl Producers {
     pub fn join(
         &mut self,
         ticket: u64,
-        building: Building,
+        building: BuiltProducer,
         seed: u64,
         first_number: u64,
     ) -> Result<(), NoMemory>
         ensures { OnOk result (producers_of self.new ≡ meaning.joined ticket building seed first_number (producers_of self.old)) }
     {
-        let Building {
+        let BuiltProducer {
             topic,
             settings,
             parts,
@@ -346,7 +383,7 @@ impl Producers {
     pub fn holds(&self, link: u64) -> bool
         ensures { result ≡ meaning.is_held (producers_of self.now) link }
     {
-        is_held(&self.numbers, &self.topics, link)
+        is_held(&self.numbers, &self.topics, link) || is_on_link(&self.held, link)
     }
 
     /// Those that wait for a turn, or for a batch that is not under way, are told that the client is stopped.
@@ -417,7 +454,7 @@ impl Producers {
     }
 
     /// All that a topic producer has taken is settled.
-    pub fn is_settled(&self, number: u64) -> bool
+    pub(crate) fn is_settled(&self, number: u64) -> bool
         ensures { result ≡ meaning.is_settled_at ((producers_of self.now).topics number) }
     {
         match self.topics.get(&number) {
@@ -427,7 +464,7 @@ impl Producers {
     }
 
     /// A topic producer stores a message. It has a batch to send, and none was under way.
-    pub fn store(&mut self, number: u64, turn: u64, entry: Entry) -> Result<bool, NoMemory>
+    pub(crate) fn store(&mut self, number: u64, turn: u64, entry: Entry) -> Result<bool, NoMemory>
         ensures woken { IfOk result (λ w. w ≡ meaning.is_woken (topic.Stores turn entry) ((producers_of self.old).topics number)) }
         ensures after { OnOk result (producers_of self.new ≡ meaning.changed number (topic.Stores turn entry) (producers_of self.old)) }
     {
@@ -441,7 +478,7 @@ impl Producers {
     }
 
     /// All that a topic producer has taken is to be settled. It has a batch to send, and none was under way.
-    pub fn flush(&mut self, number: u64, turn: u64) -> Result<bool, NoMemory>
+    pub(crate) fn flush(&mut self, number: u64, turn: u64) -> Result<bool, NoMemory>
         ensures woken { IfOk result (λ w. w ≡ meaning.is_woken (topic.Flushes turn) ((producers_of self.old).topics number)) }
         ensures after { OnOk result (producers_of self.new ≡ meaning.changed number (topic.Flushes turn) (producers_of self.old)) }
     {
@@ -463,7 +500,7 @@ impl Producers {
     }
 
     /// The batch that a topic producer sends next.
-    pub fn take_batch(&mut self, number: u64) -> Option<Batch>
+    pub(crate) fn take_batch(&mut self, number: u64) -> Option<Batch>
         ensures batch { result ≡ meaning.next_batch_at ((producers_of self.old).topics number) }
         ensures after { producers_of self.new ≡ meaning.changed number topic.TakesBatch (producers_of self.old) }
     {
@@ -591,6 +628,27 @@ fn holds_at(topics: &BTreeMap<u64, Topic>, number: u64, link: u64) -> bool
         Some(topic) => !topic.seen.is_closed() && topic.seen.link() == link,
         None => false,
     }
+}
+
+/// One that is held has this number.
+fn has_number(held: &[Held], number: u64) -> bool
+    ensures { result ≡ list_any (λ h. h.number == number) held.now }
+{
+    held.iter().any(|one| one.number == number)
+}
+
+/// One that is held is on this link.
+fn is_on_link(held: &[Held], link: u64) -> bool
+    ensures { result ≡ list_any (λ h. h.link == link) held.now }
+{
+    held.iter().any(|one| one.link == link)
+}
+
+/// What a call has held is let go.
+fn let_go(held: &mut Vec<Held>, owner: u64)
+    ensures { held.new.items ≡ filter (λ h. not (h.owner == owner)) held.old.items }
+{
+    held.retain(|one| one.owner != owner);
 }
 
 /// Those that wait for a turn at this topic producer are told that the client is stopped.

@@ -19,8 +19,8 @@ use Rattle.pulsar_searches.specs.declared.replies.Pointed.{Pointed}
 use Rattle.pulsar_searches.specs.declared.replies.Pointed.TheVariants.{Redirects, Serves}
 use Rattle.pulsar_searches.specs.declared.turn.Ways.{Ways}
 use Rattle.pulsar_searches.specs.declared.turn.Action.TheVariants.{Get, Ask, Wait}
-use Rattle.pulsar_searches.specs.declared.turn.Outcome.{Outcome}
-use Rattle.pulsar_searches.specs.declared.turn.Outcome.TheVariants.{GotLink, Replied, Woken, Failed}
+use Rattle.pulsar_searches.specs.declared.turn.SearchOutcome.{SearchOutcome}
+use Rattle.pulsar_searches.specs.declared.turn.SearchOutcome.TheVariants.{GotLink, Replied, Woken, Failed}
 use Rattle.pulsar_searches.specs.declared.turn.Turn.{Turn}
 use Rattle.pulsar_searches.specs.declared.turn.Turn.TheVariants.{Stays, Gives}
 use Rattle.pulsar_searches.specs.declared.count.Counting.{Counting}
@@ -38,10 +38,10 @@ use Rattle.pulsar_searches.specs.declared.making.Making.{Making}
 use Rattle.pulsar_searches.specs.declared.making.Making.TheVariants as make
 use Rattle.pulsar_searches.specs.declared.plan.Answer.{Answer}
 use Rattle.pulsar_searches.specs.declared.plan.Answer.TheVariants as answer
-use Rattle.pulsar_searches.specs.declared.plan.Procedure.{Procedure}
-use Rattle.pulsar_searches.specs.declared.plan.Procedure.TheVariants as procedure
-use Rattle.pulsar_searches.specs.declared.plan.Plan.{Plan}
-use Rattle.pulsar_searches.specs.declared.plan.Plan.TheVariants as plan
+use Rattle.pulsar_searches.specs.declared.plan.Sought.{Sought}
+use Rattle.pulsar_searches.specs.declared.plan.Sought.TheVariants as procedure
+use Rattle.pulsar_searches.specs.declared.plan.SearchPlan.{SearchPlan}
+use Rattle.pulsar_searches.specs.declared.plan.SearchPlan.TheVariants as plan
 use Rattle.pulsar_addresses.specs.Address.{name_found}
 
 -- PLANS WITHIN PLANS
@@ -67,7 +67,7 @@ abbrev pub and_then : {S T A B : Type 0} → Turn S (Result A Failure) → (S �
 and_then turn within on = or_else turn within on fails
 
 -- Why a plan fails at an outcome. An outcome that it doesn't wait for counts as the loss of what it waits for.
-abbrev pub fault_of : Outcome → Fault
+abbrev pub fault_of : SearchOutcome → Fault
 fault_of (GotLink link) = Disconnected
 fault_of (Replied r) = Disconnected
 fault_of Woken = Disconnected
@@ -105,7 +105,7 @@ is_partition topic = mentions (codes "-partition-") topic
 abbrev pub count_begins : Ways → (topic : List ℕ) → Turn Counting (Result ℕ Failure)
 count_begins w t = if is_partition t then Gives (Ok 0) else count_gets w true 0
 
-abbrev pub count_told : Ways → (topic : List ℕ) → Counting → Outcome → Turn Counting (Result ℕ Failure)
+abbrev pub count_told : Ways → (topic : List ℕ) → Counting → SearchOutcome → Turn Counting (Result ℕ Failure)
 count_told w t (count.Getting again n) (GotLink link) = count_asks t again n link
 count_told w t (count.Getting again n) o = fails (in_discovery (fault_of o))
 count_told w t (count.Asked again n link) (Replied r) = count_heard w n link (count_in w n r)
@@ -145,7 +145,7 @@ first_search w = record { last = w.base; authority = false; again = true; retrie
 abbrev pub look_begins : Ways → Turn Looking (Result Place Failure)
 look_begins w = look_gets (first_search w)
 
-abbrev pub look_told : Ways → (topic : List ℕ) → Looking → Outcome → Turn Looking (Result Place Failure)
+abbrev pub look_told : Ways → (topic : List ℕ) → Looking → SearchOutcome → Turn Looking (Result Place Failure)
 look_told w t (look.Getting s) (GotLink link) = look_asks t s link
 look_told w t (look.Getting s) o = fails (in_discovery (fault_of o))
 look_told w t (look.Asked s link) (Replied r) = look_heard w s link (place_heard w s.last.proxy s.retries r)
@@ -173,7 +173,7 @@ names_of w t count =
 abbrev pub names_begins : Ways → (topic : List ℕ) → Turn Naming (Result (List Named) Failure)
 names_begins w t = and_then (count_begins w t) name.Counting (names_of w t)
 
-abbrev pub names_told : Ways → (topic : List ℕ) → Naming → Outcome → Turn Naming (Result (List Named) Failure)
+abbrev pub names_told : Ways → (topic : List ℕ) → Naming → SearchOutcome → Turn Naming (Result (List Named) Failure)
 names_told w t (name.Counting c) o = and_then (count_told w t c o) name.Counting (names_of w t)
 names_told w t (name.Whole l) o = and_then (look_told w t l o) name.Whole (λ place. Gives (Ok (name_found [] t place)))
 names_told w t (name.Part l p) o =
@@ -199,7 +199,7 @@ abbrev pub retry_begins : Ways → (n : ℕ) → Fault → Turn Retrying (Result
 retry_begins w n f =
     if is_retryable f && allow_retry w.max_retries n then Stays retry.Resting (Wait w.retry_delay) else fails (OfConnection f)
 
-abbrev pub retry_told : Ways → (topic : List ℕ) → Retrying → Outcome → Turn Retrying (Result Place Failure)
+abbrev pub retry_told : Ways → (topic : List ℕ) → Retrying → SearchOutcome → Turn Retrying (Result Place Failure)
 retry_told w t retry.Resting Woken = nested (look_begins w) retry.Looking Gives
 retry_told w t retry.Resting o = fails (OfConnection (fault_of o))
 retry_told w t (retry.Looking l) o = nested (look_told w t l o) retry.Looking Gives
@@ -217,7 +217,7 @@ made_asks c n link = Stays (make.Asked n link) (Ask link c.request)
 abbrev pub answered : (answer : ℕ) → Reply → Result Reply Fault
 answered answer r = if is_body answer r.body then Ok r else Err (unexpected r r.body)
 
-abbrev pub verdict : (answer : ℕ) → Outcome → Result Reply Fault
+abbrev pub verdict : (answer : ℕ) → SearchOutcome → Result Reply Fault
 verdict answer (Replied r) = answered answer r
 verdict answer o = Err (fault_of o)
 
@@ -225,7 +225,7 @@ abbrev pub made_answered : Ways → (n link : ℕ) → Result Reply Fault → Tu
 made_answered w n link (Ok r) = Gives (Ok (record { link = link; reply = r }))
 made_answered w n link (Err f) = and_then (retry_begins w n f) (λ r. make.Retrying r n) (made_gets (one_more n))
 
-abbrev pub made_told : Ways → Command → Making → Outcome → Turn Making (Result Served Failure)
+abbrev pub made_told : Ways → Command → Making → SearchOutcome → Turn Making (Result Served Failure)
 made_told w c (make.Getting n) (GotLink link) = made_asks c n link
 made_told w c (make.Getting n) o = fails (OfConnection (fault_of o))
 made_told w c (make.Asked n link) o = made_answered w n link (verdict c.answer o)
@@ -233,14 +233,14 @@ made_told w c (make.Retrying r n) o = and_then (retry_told w c.topic r o) (λ r.
 
 -- ALL OF THEM
 
-abbrev pub begins : Ways → Procedure → Turn Plan (Result Answer Failure)
+abbrev pub begins : Ways → Sought → Turn SearchPlan (Result Answer Failure)
 begins w (procedure.CountPartitions t) = and_then (count_begins w t) (plan.Counting t) (λ n. Gives (Ok (answer.Count n)))
 begins w (procedure.Look t) = and_then (look_begins w) (plan.Looking t) (λ place. Gives (Ok (answer.Address place)))
 begins w (procedure.Name t) = and_then (names_begins w t) (plan.Naming t) (λ names. Gives (Ok (answer.Addresses names)))
 begins w (procedure.Retry t n f) = and_then (retry_begins w n f) (plan.Retrying t) (λ place. Gives (Ok (answer.Address place)))
 begins w (procedure.Make c place) = and_then (made_gets 0 place) (plan.Making c) (λ s. Gives (Ok (answer.Reply s)))
 
-abbrev pub told : Ways → Plan → Outcome → Turn Plan (Result Answer Failure)
+abbrev pub told : Ways → SearchPlan → SearchOutcome → Turn SearchPlan (Result Answer Failure)
 told w (plan.Counting t c) o = and_then (count_told w t c o) (plan.Counting t) (λ n. Gives (Ok (answer.Count n)))
 told w (plan.Looking t l) o = and_then (look_told w t l o) (plan.Looking t) (λ place. Gives (Ok (answer.Address place)))
 told w (plan.Naming t n) o = and_then (names_told w t n o) (plan.Naming t) (λ names. Gives (Ok (answer.Addresses names)))

@@ -7,7 +7,7 @@ ghost use Rattle.pulsar_addresses.specs.Address.{in_discovery};
 
 use crate::question::Request;
 use crate::replies::{Heard, count_in};
-use crate::turn::{Action, Outcome, Turn, Ways, error_of, is_lost};
+use crate::turn::{Action, SearchOutcome, Turn, Ways, error_of, is_lost};
 use pulsar_addresses::content::{Refusal, Text};
 use pulsar_wire::error::{ConnectionError, NoMemory};
 use std::alloc::Global;
@@ -60,13 +60,13 @@ pub fn told(
     ways: &Ways,
     topic: &Text,
     counting: Counting,
-    outcome: Outcome,
+    outcome: SearchOutcome,
 ) -> Result<Turn<Counting, Result<u32, Refusal>>, NoMemory>
     ensures { IfOk result (λ turn. turn ≡ meaning.count_told ways.now topic.now counting outcome) }
 {
     match counting {
         Counting::Getting { again, retries } => match outcome {
-            Outcome::GotLink(link) => asks(alloc, topic, again, retries, link),
+            SearchOutcome::GotLink(link) => asks(alloc, topic, again, retries, link),
             outcome => fails(alloc, error_of(outcome)),
         },
         Counting::Asked {
@@ -74,14 +74,14 @@ pub fn told(
             retries,
             link,
         } => match outcome {
-            Outcome::Replied(reply) => {
+            SearchOutcome::Replied(reply) => {
                 let heard = count_in(alloc, ways, retries, &reply)?;
                 Ok(told_by(ways, retries, link, heard))
             }
             outcome => failed(alloc, ways, again, retries, error_of(outcome)),
         },
         Counting::Resting { retries, link } => match outcome {
-            Outcome::Woken => asks(alloc, topic, true, retries.saturating_add(1), link),
+            SearchOutcome::Woken => asks(alloc, topic, true, retries.saturating_add(1), link),
             outcome => fails(alloc, error_of(outcome)),
         },
     }

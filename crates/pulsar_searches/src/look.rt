@@ -7,7 +7,7 @@ ghost use Rattle.pulsar_addresses.specs.Address.{in_discovery};
 
 use crate::question::Request;
 use crate::replies::{Heard, Pointed, place_in};
-use crate::turn::{Action, Outcome, Turn, Ways, error_of, is_lost};
+use crate::turn::{Action, SearchOutcome, Turn, Ways, error_of, is_lost};
 use pulsar_addresses::content::{Address, Refusal, Text};
 use pulsar_wire::error::{ConnectionError, NoMemory};
 use std::alloc::Global;
@@ -56,28 +56,28 @@ pub fn told(
     ways: &Ways,
     topic: &Text,
     looking: Looking,
-    outcome: Outcome,
+    outcome: SearchOutcome,
 ) -> Result<Turn<Looking, Result<Address, Refusal>>, NoMemory>
     ensures { IfOk result (λ turn. turn ≡ meaning.look_told ways.now topic.now looking outcome) }
 {
     match looking {
         Looking::Getting(search) => match outcome {
-            Outcome::GotLink(link) => asks(alloc, topic, search, link),
+            SearchOutcome::GotLink(link) => asks(alloc, topic, search, link),
             outcome => fails(alloc, error_of(outcome)),
         },
         Looking::Asked { search, link } => match outcome {
-            Outcome::Replied(reply) => {
+            SearchOutcome::Replied(reply) => {
                 let heard = place_in(alloc, ways, search.last.is_proxy(), search.retries, &reply)?;
                 told_by(alloc, ways, search, link, heard)
             }
             outcome => failed(alloc, search, error_of(outcome)),
         },
         Looking::Resting { search, link } => match outcome {
-            Outcome::Woken => asks(alloc, topic, asked_anew(search), link),
+            SearchOutcome::Woken => asks(alloc, topic, asked_anew(search), link),
             outcome => fails(alloc, error_of(outcome)),
         },
         Looking::Reaching(found) => match outcome {
-            Outcome::GotLink(_) => Ok(Turn::Gives(Ok(found))),
+            SearchOutcome::GotLink(_) => Ok(Turn::Gives(Ok(found))),
             outcome => fails(alloc, error_of(outcome)),
         },
     }

@@ -8,7 +8,7 @@ ghost use Rattle.pulsar_searches.specs.Plans as meaning;
 use crate::question::Request;
 use crate::replies::why_refused;
 use crate::retry::{self, Retrying};
-use crate::turn::{Action, Outcome, Turn, Ways, error_of};
+use crate::turn::{Action, SearchOutcome, Turn, Ways, error_of};
 use pulsar_addresses::content::{Address, Refusal, Text};
 use pulsar_frame::received::Received;
 use pulsar_wire::error::{ConnectionError, NoMemory};
@@ -53,13 +53,13 @@ pub fn told(
     ways: &Ways,
     command: &Command,
     making: Making,
-    outcome: Outcome,
+    outcome: SearchOutcome,
 ) -> Result<Turn<Making, Result<Served, Refusal>>, NoMemory>
     ensures { IfOk result (λ turn. turn ≡ meaning.made_told ways.now command.now making outcome) }
 {
     match making {
         Making::Getting { retries } => match outcome {
-            Outcome::GotLink(link) => asks(alloc, command, retries, link),
+            SearchOutcome::GotLink(link) => asks(alloc, command, retries, link),
             outcome => fails(alloc, error_of(outcome)),
         },
         Making::Asked { retries, link } => match verdict(alloc, command.answer, outcome)? {
@@ -121,12 +121,12 @@ fn after_retry(
 pub fn verdict(
     alloc: Global,
     answer: u32,
-    outcome: Outcome,
+    outcome: SearchOutcome,
 ) -> Result<Result<Received, ConnectionError>, NoMemory>
     ensures { IfOk result (λ v. MatchResult v (λ r. meaning.verdict answer outcome ≡ Ok r) (λ e. meaning.verdict answer outcome ≡ Err (fault e))) }
 {
     match outcome {
-        Outcome::Replied(reply) => answered(alloc, answer, reply),
+        SearchOutcome::Replied(reply) => answered(alloc, answer, reply),
         outcome => Ok(Err(error_of(outcome))),
     }
 }

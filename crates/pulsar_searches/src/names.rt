@@ -7,7 +7,7 @@ ghost use Rattle.pulsar_searches.specs.declared.turn.Turn.TheVariants.{Gives};
 
 use crate::count::{self, Counting};
 use crate::look::{self, Looking};
-use crate::turn::{Outcome, Turn, Ways};
+use crate::turn::{SearchOutcome, Turn, Ways};
 use pulsar_addresses::content::{Address, Names, Refusal, Text};
 use pulsar_wire::error::NoMemory;
 use std::alloc::Global;
@@ -50,7 +50,7 @@ pub fn told(
     ways: &Ways,
     topic: &Text,
     naming: Naming,
-    outcome: Outcome,
+    outcome: SearchOutcome,
 ) -> Result<Turn<Naming, Result<Names, Refusal>>, NoMemory>
     ensures { IfOk result (λ turn. turn ≡ meaning.names_told ways.now topic.now naming outcome) }
 {

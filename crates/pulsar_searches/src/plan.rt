@@ -9,14 +9,14 @@ use crate::look::{self, Looking};
 use crate::making::{self, Command, Making, Served};
 use crate::names::{self, Naming};
 use crate::retry::{self, Retrying};
-use crate::turn::{Outcome, Turn, Ways};
+use crate::turn::{SearchOutcome, Turn, Ways};
 use pulsar_addresses::content::{Address, Cause, Names, Refusal, Text};
 use pulsar_wire::error::NoMemory;
 use std::alloc::Global;
 
 /// What is to be done.
 #[derive(Drop)]
-pub enum Procedure {
+pub enum Sought {
     /// Find how many partitions a topic has.
     CountPartitions(Text),
     /// Find the broker of a topic.
@@ -47,7 +47,7 @@ pub enum Answer {
 
 /// Where a plan stands.
 #[derive(Drop)]
-pub enum Plan {
+pub enum SearchPlan {
     Counting { topic: Text, counting: Counting },
     Looking { topic: Text, looking: Looking },
     Naming { topic: Text, naming: Naming },
@@ -59,24 +59,24 @@ pub enum Plan {
 pub fn begins(
     alloc: Global,
     ways: &Ways,
-    procedure: Procedure,
-) -> Result<Turn<Plan, Result<Answer, Refusal>>, NoMemory>
+    procedure: Sought,
+) -> Result<Turn<SearchPlan, Result<Answer, Refusal>>, NoMemory>
     ensures { IfOk result (λ turn. turn ≡ meaning.begins ways.now procedure) }
 {
     match procedure {
-        Procedure::CountPartitions(topic) => {
+        Sought::CountPartitions(topic) => {
             let turn = count::begins(alloc, ways, &topic)?;
             Ok(after_count(topic, turn))
         }
-        Procedure::Look(topic) => {
+        Sought::Look(topic) => {
             let turn = look::begins(alloc, ways)?;
             Ok(after_look(topic, turn))
         }
-        Procedure::Name(topic) => {
+        Sought::Name(topic) => {
             let turn = names::begins(alloc, ways, &topic)?;
             Ok(after_names(topic, turn))
         }
-        Procedure::Retry {
+        Sought::Retry {
             topic,
             retries,
             cause,
@@ -84,7 +84,7 @@ pub fn begins(
             let turn = retry::begins(alloc, ways, retries, cause.into_inner())?;
             Ok(after_retry(topic, turn))
         }
-        Procedure::Make { command, address } => Ok(after_making(command, making::gets(0, address))),
+        Sought::Make { command, address } => Ok(after_making(command, making::gets(0, address))),
     }
 }
 
@@ -92,29 +92,29 @@ pub fn begins(
 pub fn told(
     alloc: Global,
     ways: &Ways,
-    plan: Plan,
-    outcome: Outcome,
-) -> Result<Turn<Plan, Result<Answer, Refusal>>, NoMemory>
+    plan: SearchPlan,
+    outcome: SearchOutcome,
+) -> Result<Turn<SearchPlan, Result<Answer, Refusal>>, NoMemory>
     ensures { IfOk result (λ turn. turn ≡ meaning.told ways.now plan outcome) }
 {
     match plan {
-        Plan::Counting { topic, counting } => {
+        SearchPlan::Counting { topic, counting } => {
             let turn = count::told(alloc, ways, &topic, counting, outcome)?;
             Ok(after_count(topic, turn))
         }
-        Plan::Looking { topic, looking } => {
+        SearchPlan::Looking { topic, looking } => {
             let turn = look::told(alloc, ways, &topic, looking, outcome)?;
             Ok(after_look(topic, turn))
         }
-        Plan::Naming { topic, naming } => {
+        SearchPlan::Naming { topic, naming } => {
             let turn = names::told(alloc, ways, &topic, naming, outcome)?;
             Ok(after_names(topic, turn))
         }
-        Plan::Retrying { topic, retrying } => {
+        SearchPlan::Retrying { topic, retrying } => {
             let turn = retry::told(alloc, ways, &topic, retrying, outcome)?;
             Ok(after_retry(topic, turn))
         }
-        Plan::Making { command, making } => {
+        SearchPlan::Making { command, making } => {
             let turn = making::told(alloc, ways, &command, making, outcome)?;
             Ok(after_making(command, turn))
         }
@@ -124,11 +124,14 @@ pub fn told(
 fn after_count(
     topic: Text,
     turn: Turn<Counting, Result<u32, Refusal>>,
-) -> Turn<Plan, Result<Answer, Refusal>>
-    ensures { result ≡ meaning.and_then turn (Plan.Counting topic) (λ n. Gives (Ok (Answer.Count n))) }
+) -> Turn<SearchPlan, Result<Answer, Refusal>>
+    ensures { result ≡ meaning.and_then turn (SearchPlan.Counting topic) (λ n. Gives (Ok (Answer.Count n))) }
 {
     match turn {
-        Turn::Stays(counting, action) => Turn::Stays(Plan::Counting { topic, counting }, action),
+        Turn::Stays(counting, action) => Turn::Stays(
+            SearchPlan::Counting { topic, counting },
+            action,
+        ),
         Turn::Gives(Ok(count)) => Turn::Gives(Ok(Answer::Count(count))),
         Turn::Gives(Err(refusal)) => Turn::Gives(Err(refusal)),
     }
@@ -137,11 +140,11 @@ fn after_count(
 fn after_look(
     topic: Text,
     turn: Turn<Looking, Result<Address, Refusal>>,
-) -> Turn<Plan, Result<Answer, Refusal>>
-    ensures { result ≡ meaning.and_then turn (Plan.Looking topic) (λ place. Gives (Ok (Answer.Address place))) }
+) -> Turn<SearchPlan, Result<Answer, Refusal>>
+    ensures { result ≡ meaning.and_then turn (SearchPlan.Looking topic) (λ place. Gives (Ok (Answer.Address place))) }
 {
     match turn {
-        Turn::Stays(looking, action) => Turn::Stays(Plan::Looking { topic, looking }, action),
+        Turn::Stays(looking, action) => Turn::Stays(SearchPlan::Looking { topic, looking }, action),
         Turn::Gives(Ok(address)) => Turn::Gives(Ok(Answer::Address(address))),
         Turn::Gives(Err(refusal)) => Turn::Gives(Err(refusal)),
     }
@@ -150,11 +153,11 @@ fn after_look(
 fn after_names(
     topic: Text,
     turn: Turn<Naming, Result<Names, Refusal>>,
-) -> Turn<Plan, Result<Answer, Refusal>>
-    ensures { result ≡ meaning.and_then turn (Plan.Naming topic) (λ names. Gives (Ok (Answer.Addresses names))) }
+) -> Turn<SearchPlan, Result<Answer, Refusal>>
+    ensures { result ≡ meaning.and_then turn (SearchPlan.Naming topic) (λ names. Gives (Ok (Answer.Addresses names))) }
 {
     match turn {
-        Turn::Stays(naming, action) => Turn::Stays(Plan::Naming { topic, naming }, action),
+        Turn::Stays(naming, action) => Turn::Stays(SearchPlan::Naming { topic, naming }, action),
         Turn::Gives(Ok(names)) => Turn::Gives(Ok(Answer::Addresses(names))),
         Turn::Gives(Err(refusal)) => Turn::Gives(Err(refusal)),
     }
@@ -163,11 +166,14 @@ fn after_names(
 fn after_retry(
     topic: Text,
     turn: Turn<Retrying, Result<Address, Refusal>>,
-) -> Turn<Plan, Result<Answer, Refusal>>
-    ensures { result ≡ meaning.and_then turn (Plan.Retrying topic) (λ place. Gives (Ok (Answer.Address place))) }
+) -> Turn<SearchPlan, Result<Answer, Refusal>>
+    ensures { result ≡ meaning.and_then turn (SearchPlan.Retrying topic) (λ place. Gives (Ok (Answer.Address place))) }
 {
     match turn {
-        Turn::Stays(retrying, action) => Turn::Stays(Plan::Retrying { topic, retrying }, action),
+        Turn::Stays(retrying, action) => Turn::Stays(
+            SearchPlan::Retrying { topic, retrying },
+            action,
+        ),
         Turn::Gives(Ok(address)) => Turn::Gives(Ok(Answer::Address(address))),
         Turn::Gives(Err(refusal)) => Turn::Gives(Err(refusal)),
     }
@@ -176,11 +182,11 @@ fn after_retry(
 fn after_making(
     command: Command,
     turn: Turn<Making, Result<Served, Refusal>>,
-) -> Turn<Plan, Result<Answer, Refusal>>
-    ensures { result ≡ meaning.and_then turn (Plan.Making command) (λ s. Gives (Ok (Answer.Reply s))) }
+) -> Turn<SearchPlan, Result<Answer, Refusal>>
+    ensures { result ≡ meaning.and_then turn (SearchPlan.Making command) (λ s. Gives (Ok (Answer.Reply s))) }
 {
     match turn {
-        Turn::Stays(making, action) => Turn::Stays(Plan::Making { command, making }, action),
+        Turn::Stays(making, action) => Turn::Stays(SearchPlan::Making { command, making }, action),
         Turn::Gives(Ok(served)) => Turn::Gives(Ok(Answer::Reply(served))),
         Turn::Gives(Err(refusal)) => Turn::Gives(Err(refusal)),
     }

@@ -6,7 +6,7 @@ ghost use Rattle.pulsar_searches.specs.Plans as meaning;
 ghost use Rattle.pulsar_searches.specs.declared.turn.Turn.TheVariants.{Gives};
 
 use crate::look::{self, Looking};
-use crate::turn::{Action, Outcome, Turn, Ways, error_of};
+use crate::turn::{Action, SearchOutcome, Turn, Ways, error_of};
 use pulsar_addresses::content::{Address, Refusal, Text};
 use pulsar_addresses::options::allow_retry;
 use pulsar_wire::commands::enumerations::ServerError;
@@ -70,13 +70,13 @@ pub fn told(
     ways: &Ways,
     topic: &Text,
     retrying: Retrying,
-    outcome: Outcome,
+    outcome: SearchOutcome,
 ) -> Result<Turn<Retrying, Result<Address, Refusal>>, NoMemory>
     ensures { IfOk result (λ turn. turn ≡ meaning.retry_told ways.now topic.now retrying outcome) }
 {
     match retrying {
         Retrying::Resting => match outcome {
-            Outcome::Woken => {
+            SearchOutcome::Woken => {
                 let turn = look::begins(alloc, ways)?;
                 Ok(after_look(turn))
             }

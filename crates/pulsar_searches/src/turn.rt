@@ -32,7 +32,7 @@ pub enum Action {
 
 /// What a plan is told.
 #[derive(Drop)]
-pub enum Outcome {
+pub enum SearchOutcome {
     /// The address has this link, which is ready.
     GotLink(u64),
     /// The reply to its request came.
@@ -51,12 +51,12 @@ pub enum Turn<S, A> {
 }
 
 /// Why a plan fails at an outcome.
-pub fn error_of(outcome: Outcome) -> ConnectionError
+pub fn error_of(outcome: SearchOutcome) -> ConnectionError
     ensures { fault result ≡ fault_of outcome }
 {
     match outcome {
-        Outcome::Failed(cause) => cause.into_inner(),
-        Outcome::GotLink(_) | Outcome::Replied(_) | Outcome::Woken => {
+        SearchOutcome::Failed(cause) => cause.into_inner(),
+        SearchOutcome::GotLink(_) | SearchOutcome::Replied(_) | SearchOutcome::Woken => {
             ConnectionError::Disconnected
         }
     }

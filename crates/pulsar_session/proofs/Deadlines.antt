@@ -11,13 +11,13 @@ use Rattle.pulsar_session.specs.Link.{Seen, after_of, answer_of, can_wait, drawn
 use Rattle.pulsar_messages.specs.Claims.{claim, is_spent}
 use Rattle.pulsar_requests.specs.Waits.{Pending, Waits, is_due, is_overdue, is_some_due, request_at, request_of, waits_for}
 use Rattle.pulsar_messages.specs.Words.{Words, is_numbered, when_full}
-use Rattle.pulsar_session.specs.Laws.{DueIsOverdue, Outcome, QueuedWaits, WaitsUntilSettled, outcome, told_of}
+use Rattle.pulsar_session.specs.Laws.{DueIsOverdue, RequestOutcome, QueuedWaits, WaitsUntilSettled, outcome, told_of}
 use Rattle.pulsar_session.proofs.Settled.{Stands, rising, stands_at}
 use Rattle.pulsar_session.proofs.Steps.{Rises}
 
 -- UNTIL IT IS SETTLED
 
-stands_now : (o : Option Outcome) (told : List Outcome) (now : Option Pending) (r : Pending) → Stands o told now r → now ≡ cond (is_none o) (Some r) None
+stands_now : (o : Option RequestOutcome) (told : List RequestOutcome) (now : Option Pending) (r : Pending) → Stands o told now r → now ≡ cond (is_none o) (Some r) None
 stands_now None told now r h = h.1
 stands_now (Some o) told now r h = h.1
 

@@ -24,7 +24,7 @@ use Rattle.pulsar_session.specs.declared.states.Stage.{Stage}
 use Rattle.pulsar_session.specs.declared.states.Stage.TheVariants.{Dialing, Handshaking, Ready, Over}
 use Rattle.pulsar_session.specs.Answers.{answers, answers_by, awaited_by, is as says, is_number}
 use Rattle.pulsar_session.specs.Link.{Act, Opens, Feeds, Takes, Asks, Drains, Closes, Seen, Setup, after, answered_to, greeted, is_open, is_over, moved_up, named_by, number_for, reacts, reacts_unless, received, seen, settled_by, taken_in, ticked, unready_in}
-use Rattle.pulsar_session.specs.Laws.{Ended, NamedIsNotDue, Outcome, Replied, answered_in, names, settles}
+use Rattle.pulsar_session.specs.Laws.{Ended, NamedIsNotDue, RequestOutcome, Replied, answered_in, names, settles}
 use Rattle.pulsar_session.proofs.Awaiting.{answered_is}
 use Rattle.pulsar_session.proofs.Others.{takes_ready}
 use Rattle.pulsar_session.proofs.Settled.{at_after, grows, passes, rising}
@@ -77,7 +77,7 @@ without_other n (Some (Reply k)) ns apart h = removed_other n k ns apart h
 without_other n (Some (Receipt p s)) ns apart h = h
 
 -- as long as it isn't answered, its number stays excused
-not_answered : (m : MessageValues) (a : Awaited) (o : Outcome) → cond (answers m a) (Some o) None ≡ None → answers m a ≡ false
+not_answered : (m : MessageValues) (a : Awaited) (o : RequestOutcome) → cond (answers m a) (Some o) None ≡ None → answers m a ≡ false
 not_answered m a o h = elim (cases_Bool (answers m a)) [ inl y ↦ absurd (let no = rw y at h in cc) | inr y ↦ y ]
 
 greeted_listed : (n : ℕ) (b : Bool) (rest : List ℕ) (v : Seen) → is_listed v.waits.excused (Reply n) ≡ true → is_listed (greeted b rest v).waits.excused (Reply n) ≡ true
@@ -130,7 +130,7 @@ record Named (n : ℕ) (r : Pending) (v : Seen) : Type 0 where
   below : r.place < v.waits.queued
   waits : (request_at r.place v.waits.waiting ≡ None) ⊎ ((request_at r.place v.waits.waiting ≡ Some r) × (is_listed v.waits.excused (Reply n) ≡ true))
 
-unsettled : (o : Option Outcome) (kept : Bool) → is_some o ≡ not kept → kept ≡ true → o ≡ None
+unsettled : (o : Option RequestOutcome) (kept : Bool) → is_some o ≡ not kept → kept ≡ true → o ≡ None
 unsettled None kept h k = refl
 unsettled (Some x) kept h k = absurd (let no = h ∙ ap not k in cc)
 

@@ -16,7 +16,7 @@ use Rattle.pulsar_messages.specs.Messages.{connect_command}
 use Rattle.pulsar_messages.specs.Words.{Words, is_numbered}
 use Rattle.pulsar_session.specs.Link.{Act, Asks, Closes, Drains, Feeds, Opens, Seen, Setup, Takes, after, after_of, answered_to, asks_for, bare, came_by, came_in, closes, drains, drawn, feeds, greeted, greeted_by, is_open, is_over, moved_up, number_for, opens_in, received, request, seen, settled_by, taken_in, ticked, unasked}
 use Rattle.pulsar_requests.specs.Waits.{Pending, ended, places, request_at}
-use Rattle.pulsar_session.specs.Laws.{Outcome, Replied, Ended, SettledByFirst, PlacesCount, WrittenInOrder, answered_in, frames_queued, frames_written, is_named, left_in, outcome, queued_in, settles, told_by, told_in, told_of, written_in}
+use Rattle.pulsar_session.specs.Laws.{RequestOutcome, Replied, Ended, SettledByFirst, PlacesCount, WrittenInOrder, answered_in, frames_queued, frames_written, is_named, left_in, outcome, queued_in, settles, told_by, told_in, told_of, written_in}
 use Rattle.pulsar_session.proofs.Steps.{Moves, Rises, absent_append, absent_filter, asks_for_moves, found_filter, greets_moves, is_named_at, moved_up_moves, moves_same, moves_then, place_below, rises_append, rises_filter, rises_le, unless_moves}
 
 -- WHAT AN ACT DOES TO THE REQUESTS
@@ -69,11 +69,11 @@ came_tells : (n : ℕ) (ps : List ℕ) (m : MessageValues) → told_by n (came_b
 came_tells n [] m = unasked_tells n m (is 36 m) (key m) refl refl
 came_tells n (p ∷ ps) m = refl
 
-some_of : (b : Bool) (r : Pending) (o : Outcome) → cond (is_some (cond b (Some r) None)) (Some o) None ≡ cond b (Some o) None
+some_of : (b : Bool) (r : Pending) (o : RequestOutcome) → cond (is_some (cond b (Some r) None)) (Some o) None ≡ cond b (Some o) None
 some_of true r o = refl
 some_of false r o = refl
 
-is_some_of : (b : Bool) (o : Outcome) → is_some (cond b (Some o) None) ≡ not (not b)
+is_some_of : (b : Bool) (o : RequestOutcome) → is_some (cond b (Some o) None) ≡ not (not b)
 is_some_of true o = refl
 is_some_of false o = refl
 
@@ -214,11 +214,11 @@ at_after act v n lt =
     ∙ ap (request_at n) p.waiting
 
 -- where a request stands: it waits and is told nothing, or it was told once and waits no longer
-abbrev pub Stands : Option Outcome → List Outcome → Option Pending → Pending → Type 0
+abbrev pub Stands : Option RequestOutcome → List RequestOutcome → Option Pending → Pending → Type 0
 Stands None told now r = (told ≡ []) × (now ≡ Some r)
 Stands (Some o) told now r = (told ≡ o ∷ []) × (now ≡ None)
 
-stands_next : (before : Option Outcome) (told : List Outcome) (act : Act) (v : Seen) (r : Pending) → Rises 0 v.waits.waiting v.waits.queued → r.place < v.waits.queued →
+stands_next : (before : Option RequestOutcome) (told : List RequestOutcome) (act : Act) (v : Seen) (r : Pending) → Rises 0 v.waits.waiting v.waits.queued → r.place < v.waits.queued →
     Stands before told (request_at r.place v.waits.waiting) r →
     Stands (option_or before (settles act v r)) (told ++ option_to_list (told_in act v r.place)) (request_at r.place (after act v).waits.waiting) r
 stands_next (Some o) told act v r rise lt h =
@@ -226,7 +226,7 @@ stands_next (Some o) told act v r rise lt h =
     (rw (p.silent r.place h.1) (append-nil told ∙ h.0), at_after act v r.place lt ∙ absent_filter p.kept r.place v.waits.waiting h.1)
 stands_next None told act v r rise lt h = by (settles act v r) ((passes act v).kept r) refl refl
   where
-    by : (o : Option Outcome) (kept : Bool) → settles act v r ≡ o → (passes act v).kept r ≡ kept → Stands (settles act v r) (told ++ option_to_list (told_in act v r.place)) (request_at r.place (after act v).waits.waiting) r
+    by : (o : Option RequestOutcome) (kept : Bool) → settles act v r ≡ o → (passes act v).kept r ≡ kept → Stands (settles act v r) (told ++ option_to_list (told_in act v r.place)) (request_at r.place (after act v).waits.waiting) r
     by None true e k =
         let p = passes act v in let t = p.tells r.place r h.1 rise in
         rw e (
@@ -251,7 +251,7 @@ stands_at s (act ∷ later) h r at =
     let more = grows act v in
     (stands_next (outcome s r later h) (told_of s r.place later h) act v r (rising s (later ++ h)) before.1 before.0, omega (arith, more, before.1))
 
-told_list : (o : Option Outcome) (told : List Outcome) (now : Option Pending) (r : Pending) → Stands o told now r → told ≡ option_to_list o
+told_list : (o : Option RequestOutcome) (told : List RequestOutcome) (now : Option Pending) (r : Pending) → Stands o told now r → told ≡ option_to_list o
 told_list None told now r h = h.0
 told_list (Some o) told now r h = h.0
 

@@ -4,7 +4,7 @@ use Rattle.std.proofs.lemmas.Bool.{cases_lt}
 use Rattle.std.specs.Option.{is_some, option_to_list}
 use Rattle.pulsar_session.specs.Link.{Act, Seen, Setup, after, seen}
 use Rattle.pulsar_requests.specs.Waits.{Pending, request_at}
-use Rattle.pulsar_session.specs.Laws.{NobodyIsTold, Outcome, ToldOnce, settles, told_in, told_of}
+use Rattle.pulsar_session.specs.Laws.{NobodyIsTold, RequestOutcome, ToldOnce, settles, told_in, told_of}
 use Rattle.pulsar_session.proofs.Settled.{at_after, grows, passes, rising}
 use Rattle.pulsar_session.proofs.Steps.{Rises, absent_filter, found_filter, place_below}
 
@@ -30,19 +30,19 @@ pub nobody_is_told : NobodyIsTold
 nobody_is_told s later h place lt none = (silent s later h place lt none).told
 
 -- what was told of a place so far
-record Once (told : List Outcome) (v : Seen) (place : ℕ) : Type 0 where
+record Once (told : List RequestOutcome) (v : Seen) (place : ℕ) : Type 0 where
   once : length told ≤ 1
   waits : is_some (request_at place v.waits.waiting) ≡ true → told ≡ []
   comes : v.waits.queued ≤ place → told ≡ []
 
-at_most_one : (o : Option Outcome) → length (option_to_list o) ≤ 1
+at_most_one : (o : Option RequestOutcome) → length (option_to_list o) ≤ 1
 at_most_one None = omega arith
 at_most_one (Some x) = omega arith
 
-one_of : (told : List Outcome) (o : Option Outcome) → told ≡ [] → length (told ++ option_to_list o) ≤ 1
+one_of : (told : List RequestOutcome) (o : Option RequestOutcome) → told ≡ [] → length (told ++ option_to_list o) ≤ 1
 one_of told o e = let le = at_most_one o in subst (λ t. length (t ++ option_to_list o) ≤ 1) (sym e) le
 
-none_of : (o : Option Outcome) → is_some o ≡ false → o ≡ None
+none_of : (o : Option RequestOutcome) → is_some o ≡ false → o ≡ None
 none_of None h = refl
 none_of (Some x) h = absurd cc
 
@@ -54,7 +54,7 @@ kept_is : (b : Bool) (r : Pending) → is_some (cond b (Some r) None) ≡ true �
 kept_is true r h = refl
 kept_is false r h = absurd cc
 
-next : (told : List Outcome) (act : Act) (v : Seen) (place : ℕ) → Rises 0 v.waits.waiting v.waits.queued → Once told v place → Once (told ++ option_to_list (told_in act v place)) (after act v) place
+next : (told : List RequestOutcome) (act : Act) (v : Seen) (place : ℕ) → Rises 0 v.waits.waiting v.waits.queued → Once told v place → Once (told ++ option_to_list (told_in act v place)) (after act v) place
 next told act v place rise x = by (request_at place v.waits.waiting) refl
   where
     w : Seen

@@ -39,23 +39,23 @@ HistoryGoesOn = (s : Setup) → StandsFor (fresh s) s []
 
 -- how the wait of a request ends: by a message, or with its connection. It was too long where the request was overdue as the connection
 -- was closed.
-pub data Outcome : Type 0 where
-  Replied : MessageValues → Outcome
-  Ended : Fault → Outcome
+pub data RequestOutcome : Type 0 where
+  Replied : MessageValues → RequestOutcome
+  Ended : Fault → RequestOutcome
 
 -- what settles a request that waits: a frame of the ready connection that answers it, or the end of the connection
-abbrev pub answered_by_front : Front → Pending → Option Outcome
+abbrev pub answered_by_front : Front → Pending → Option RequestOutcome
 answered_by_front Short r = None
 answered_by_front (Refused x) r = None
 answered_by_front (Whole m rest) r = if answers m r.awaits then Some (Replied m) else None
 
-abbrev pub answered_in : Stage → Front → Pending → Option Outcome
+abbrev pub answered_in : Stage → Front → Pending → Option RequestOutcome
 answered_in Dialing f r = None
 answered_in Handshaking f r = None
 answered_in Ready f r = answered_by_front f r
 answered_in Over f r = None
 
-abbrev pub settles : Act → Seen → Pending → Option Outcome
+abbrev pub settles : Act → Seen → Pending → Option RequestOutcome
 settles (Opens now) v r = None
 settles (Feeds piece) v r = None
 settles (Takes now) v r = answered_in v.stage (front v.unread) r
@@ -64,7 +64,7 @@ settles (Drains most now) v r = None
 settles (Closes cause) v r = if is_over v.stage then None else Some (Ended cause)
 
 -- what the first of the later acts that settles a request settles it as. Both lists are newest first.
-abbrev pub outcome : Setup → Pending → (later h : List Act) → Option Outcome
+abbrev pub outcome : Setup → Pending → (later h : List Act) → Option RequestOutcome
 outcome s r [] h = None
 outcome s r (act ∷ later) h = option_or (outcome s r later h) (settles act (seen s (later ++ h)) r)
 
@@ -72,7 +72,7 @@ abbrev pub is_named : ℕ → List ℕ → Bool
 is_named place ps = list_any (λ p. p == place) ps
 
 -- what the answer of an act tells of the request of a place
-abbrev pub told_by : ℕ → Came → Option Outcome
+abbrev pub told_by : ℕ → Came → Option RequestOutcome
 told_by place Nothing = None
 told_by place Readied = None
 told_by place (Settles ps m) = if is_named place ps then Some (Replied m) else None
@@ -81,7 +81,7 @@ told_by place Challenged = None
 told_by place Dropped = None
 told_by place (Bad fault) = None
 
-abbrev pub told_in : Act → Seen → ℕ → Option Outcome
+abbrev pub told_in : Act → Seen → ℕ → Option RequestOutcome
 told_in (Opens now) v place = None
 told_in (Feeds piece) v place = None
 told_in (Takes now) v place = told_by place (came v)
@@ -89,7 +89,7 @@ told_in (Asks now words) v place = None
 told_in (Drains most now) v place = None
 told_in (Closes cause) v place = if is_named place (ends v) then Some (Ended cause) else None
 
-abbrev pub told_of : Setup → ℕ → (later h : List Act) → List Outcome
+abbrev pub told_of : Setup → ℕ → (later h : List Act) → List RequestOutcome
 told_of s place [] h = []
 told_of s place (act ∷ later) h = told_of s place later h ++ option_to_list (told_in act (seen s (later ++ h)) place)
 

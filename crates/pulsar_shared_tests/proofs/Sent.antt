@@ -29,8 +29,8 @@ use Rattle.pulsar_calls.specs.contracts.effect.Effect as calls-Effect
 use Rattle.pulsar_calls.proofs.effect.Handed.TheSendSync as calls-Handed
 use Rattle.pulsar_calls.proofs.effect.Settlement.TheSendSync as calls-Settlement
 use Rattle.pulsar_client.specs.contracts.answers.Answers as client-Answers
-use Rattle.pulsar_consumer.proofs.building.Building.TheSendSync as consumer-Building
-use Rattle.pulsar_incoming.proofs.orders.Order.TheSendSync as consumer-Order
+use Rattle.pulsar_consumer.proofs.building.BuildingConsumer.TheSendSync as consumer-Building
+use Rattle.pulsar_incoming.proofs.orders.ConsumerOrder.TheSendSync as consumer-Order
 use Rattle.pulsar_consumer.specs.contracts.consumer.Consumer as consumer-Consumer
 use Rattle.pulsar_consumer.specs.contracts.engine.ConsumerEngine as consumer-ConsumerEngine
 use Rattle.pulsar_consumer.specs.contracts.frame.Frame as consumer-Frame
@@ -63,8 +63,8 @@ use Rattle.pulsar_plans.proofs.states.ConsumerState.TheSendSync as procedures-Co
 use Rattle.pulsar_plans.specs.contracts.states.SendState as procedures-SendState
 use Rattle.pulsar_plans.specs.contracts.table.Plans as procedures-Plans
 use Rattle.pulsar_producer.specs.contracts.batching.Batching as producer-Batching
-use Rattle.pulsar_producer.specs.contracts.building.Building as producer-Building
-use Rattle.pulsar_outgoing.proofs.orders.Order.TheSendSync as producer-Order
+use Rattle.pulsar_producer.specs.contracts.building.BuildingProducer as producer-Building
+use Rattle.pulsar_outgoing.proofs.orders.ProducerOrder.TheSendSync as producer-Order
 use Rattle.pulsar_producer.proofs.building.Part.TheSendSync as producer-Part
 use Rattle.pulsar_outgoing.proofs.content.Left.TheSendSync as producer-Left
 use Rattle.pulsar_outgoing.proofs.content.Members.TheSendSync as producer-Members

@@ -1,16 +1,17 @@
 //! Batches of topic producers: what is stored, what waits for its time, and what is sent.
 
-ghost use Rattle.std.specs.Prelude.{◌≡◌, ◌∷◌, [], ◌++◌, IfOk, OnOk, if◌then◌else◌, map, true, Some};
+ghost use Rattle.std.specs.Prelude.{◌≡◌, ◌∷◌, [], ◌++◌, IfOk, OnOk, if◌then◌else◌, map, Some};
 ghost use Rattle.pulsar_run.specs.Order.{arranged, put_all};
 ghost use Rattle.pulsar_producer_table.specs.KeptProducers.{producers_of};
 ghost use Rattle.pulsar_plans.specs.Plan.{closed_notice};
-ghost use Rattle.pulsar_producer_table.specs.Producers.{is_bare, numbers_at, timeout_at};
+ghost use Rattle.pulsar_producer.specs.Topic as topic;
+ghost use Rattle.pulsar_producer_table.specs.Producers.{changed, numbers_at};
 ghost use Rattle.pulsar_acts.specs.Rules.{batches_by, batches_from, batches_made, ready_notice, woken};
 ghost use Rattle.pulsar_calls.specs.Order.{below, opens};
 ghost use Rattle.pulsar_acts.specs.Run.{goes_on};
 ghost use Rattle.pulsar_agenda.specs.Agenda.{agenda_of};
-ghost use Rattle.pulsar_acts.specs.Tables.{chosen_of, rung_view, view_of};
-ghost use Rattle.pulsar_acts.specs.View.{after, alarms_waiting, clear_all, producers_rung, ways_of};
+ghost use Rattle.pulsar_acts.specs.Tables.{chosen_of, rung_view, view_of, waiting_from};
+ghost use Rattle.pulsar_acts.specs.View.{after, clear_all, ways_of};
 ghost use Rattle.pulsar_calls.specs.declared.act.Act.{Act};
 
 use crate::tables::Tables;
@@ -18,9 +19,8 @@ use crate::tables::alarms::later;
 use pulsar_addresses::content::Refusal;
 use pulsar_agenda::agenda::Tasks;
 use pulsar_calls::act::{Act as Deed, Action, Alarm, Notice, Outcome, Procedure, Who};
-use pulsar_calls::content::{Building, Granted, Notices};
-use pulsar_calls::who::turn_of;
-use pulsar_outgoing::content::{Built, Entry};
+use pulsar_calls::content::{BuiltProducer, Granted, Notices};
+use pulsar_outgoing::content::Built;
 use pulsar_outgoing::orders::Errand;
 use pulsar_producer::deed::News;
 use pulsar_searches::turn::Ways;
@@ -29,63 +29,6 @@ use std::alloc::Global;
 use std::collections::VecDeque;
 
 impl Tables {
-    /// A message is stored at a topic producer.
-    pub(super) fn stores(
-        &mut self,
-        who: Who,
-        number: u64,
-        entry: Entry,
-        tasks: &mut Tasks,
-    ) -> Result<(), NoMemory>
-        ensures left { OnOk result (agenda_of tasks.new ≡ goes_on (view_of self.old) (Act.Does who (Action.Store number entry)) (agenda_of tasks.old)) }
-        ensures sees { OnOk result (view_of self.new ≡ after (Act.Does who (Action.Store number entry)) (view_of self.old)) }
-        ensures settings { self.new.settings ≡ self.old.settings }
-    {
-        let was_bare = self.producers.is_bare(number);
-        let is_ready = self.producers.store(number, turn_of(who), entry)?;
-        self.waits_from(number, was_bare)?;
-        join_ready(self.alloc, number, is_ready, tasks)?;
-        self.grants(who, News::Done, tasks)
-    }
-
-    /// All that a topic producer has taken is to be settled. That is so at once where nothing waits for it.
-    pub(super) fn flushes_at(
-        &mut self,
-        who: Who,
-        number: u64,
-        tasks: &mut Tasks,
-    ) -> Result<(), NoMemory>
-        ensures left { OnOk result (agenda_of tasks.new ≡ goes_on (view_of self.old) (Act.Does who (Action.Flush number)) (agenda_of tasks.old)) }
-        ensures sees { OnOk result (view_of self.new ≡ after (Act.Does who (Action.Flush number)) (view_of self.old)) }
-        ensures settings { self.new.settings ≡ self.old.settings }
-    {
-        let is_settled = self.producers.is_settled(number);
-        let was_bare = self.producers.is_bare(number);
-        let is_ready = self.producers.flush(number, turn_of(who))?;
-        self.waits_from(number, was_bare)?;
-        join_ready(self.alloc, number, is_ready, tasks)?;
-        if is_settled {
-            self.grants(who, News::Done, tasks)
-        } else {
-            Ok(())
-        }
-    }
-
-    /// The next batch of a topic producer is taken.
-    pub(super) fn takes_batch(
-        &mut self,
-        who: Who,
-        number: u64,
-        tasks: &mut Tasks,
-    ) -> Result<(), NoMemory>
-        ensures left { OnOk result (agenda_of tasks.new ≡ goes_on (view_of self.old) (Act.Does who (Action.TakeBatch number)) (agenda_of tasks.old)) }
-        ensures sees { OnOk result (view_of self.new ≡ after (Act.Does who (Action.TakeBatch number)) (view_of self.old)) }
-        ensures settings { self.new.settings ≡ self.old.settings }
-    {
-        let batch = self.producers.take_batch(number);
-        self.grants(who, News::HasBatch(batch), tasks)
-    }
-
     /// Others are told, who join those whom the present cause serves.
     pub(super) fn tells_all(
         &mut self,
@@ -103,14 +46,27 @@ impl Tables {
         self.grants(who, News::Done, tasks)
     }
 
+    /// The same, where what is stored may have changed.
+    pub(super) fn waits_if(
+        &mut self,
+        fills: bool,
+        number: u64,
+        was_bare: bool,
+    ) -> Result<(), NoMemory>
+        ensures sees { OnOk result (view_of self.new
+            ≡ (if fills then waiting_from number was_bare (view_of self.old) else view_of self.old)) }
+        ensures settings { self.new.settings ≡ self.old.settings }
+    {
+        if fills {
+            self.waits_from(number, was_bare)
+        } else {
+            Ok(())
+        }
+    }
+
     /// What a topic producer stores waits from its first message on; where it stores nothing any longer nothing waits.
     fn waits_from(&mut self, number: u64, was_bare: bool) -> Result<(), NoMemory>
-        ensures sees { OnOk result (view_of self.new
-            ≡ record (view_of self.old) {
-              alarms = alarms_waiting self.old.clock
-                  (timeout_at (producers_of self.old.producers) ((producers_of self.old.producers).topics number)) number was_bare
-                  (is_bare ((producers_of self.old.producers).topics number)) self.old.alarms;
-            }) }
+        ensures sees { OnOk result (view_of self.new ≡ waiting_from number was_bare (view_of self.old)) }
         ensures settings { self.new.settings ≡ self.old.settings }
     {
         if self.producers.is_bare(number) {
@@ -136,7 +92,7 @@ impl Tables {
             }) }
         ensures sees { OnOk result (view_of self.new
             ≡ record (rung_view (Alarm.Batch number) (view_of self.old))
-            { producers = producers_rung true (Alarm.Batch number) (view_of self.old).producers }) }
+            { producers = changed number topic.Cuts (view_of self.old).producers }) }
         ensures settings { self.new.settings ≡ self.old.settings }
     {
         self.alarms.clear(Alarm::Batch(number))?;
@@ -159,7 +115,7 @@ impl Tables {
     }
 
     /// The topic producers of a producer that is made send their batches, where they do, each by a plan of its own.
-    pub(super) fn batches_made(&self, building: &Building) -> Result<VecDeque<Deed>, NoMemory>
+    pub(super) fn batches_made(&self, building: &BuiltProducer) -> Result<VecDeque<Deed>, NoMemory>
         ensures { IfOk result (λ acts. acts.items ≡ batches_made (ways_of (chosen_of self.now.settings)) building.now) }
     {
         if !building.settings.is_batching() {
@@ -173,7 +129,11 @@ impl Tables {
 }
 
 /// Each topic producer of a producer sends its batches by a plan of its own.
-fn batches_from(alloc: Global, ways: &Ways, building: &Building) -> Result<VecDeque<Deed>, NoMemory>
+fn batches_from(
+    alloc: Global,
+    ways: &Ways,
+    building: &BuiltProducer,
+) -> Result<VecDeque<Deed>, NoMemory>
     ensures { IfOk result (λ acts. acts.items ≡ batches_from (Some ways.now) building.now) }
 {
     let mut acts = VecDeque::new(alloc);
@@ -183,7 +143,7 @@ fn batches_from(alloc: Global, ways: &Ways, building: &Building) -> Result<VecDe
     Ok(acts)
 }
 
-fn batches_by(ways: Ways, building: &Building, built: &Built) -> Deed
+fn batches_by(ways: Ways, building: &BuiltProducer, built: &Built) -> Deed
     ensures { result ≡ batches_by ways building.now.settings.block_queue_if_full built.now }
 {
     let errand = Errand {
@@ -215,17 +175,6 @@ fn readied(alloc: Global, number: u64, is_ready: bool) -> Result<Vec<Notice>, No
         notices.push(ready(alloc, number)?)?;
     }
     Ok(notices)
-}
-
-fn join_ready(alloc: Global, number: u64, is_ready: bool, tasks: &mut Tasks) -> Result<(), NoMemory>
-    ensures { OnOk result (agenda_of tasks.new
-        ≡ record (agenda_of tasks.old) { here = put_all below (if is_ready then ready_notice number ∷ [] else []) tasks.old.here }) }
-{
-    if is_ready {
-        tasks.join(ready(alloc, number)?)
-    } else {
-        Ok(())
-    }
 }
 
 /// Those whose messages a producer stores that is closed join those whom the present cause serves.

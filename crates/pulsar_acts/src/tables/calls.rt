@@ -24,7 +24,8 @@ use crate::tables::consumers::{join_all, join_some};
 use pulsar_addresses::content::{Address, Text as Topic};
 use pulsar_agenda::agenda::Tasks;
 use pulsar_calls::act::{
-    Act, Action, Alarm, Makes, Notice, Outcome, Part, Place, Procedure, Refusal, Says, Verdict, Who,
+    Act, Action, Alarm, CallRefusal, Makes, Notice, Outcome, Part, Place, Procedure, Says, Verdict,
+    Who,
 };
 use pulsar_calls::content::{Advice, Asking, Said};
 use pulsar_calls::effect::Effect;
@@ -34,7 +35,7 @@ use pulsar_exchange::raw_call::RawCall;
 use pulsar_links::addresses::Series;
 use pulsar_plans::plan::{Plan, Turn, begins, failure, told};
 use pulsar_plans::table::Plans;
-use pulsar_searches::plan::Procedure as Sought;
+use pulsar_searches::plan::Sought;
 use pulsar_wire::commands::topics::Mode;
 use pulsar_wire::error::{ConnectionError, NoMemory};
 use std::collections::VecDeque;
@@ -104,7 +105,7 @@ impl Tables {
             return self.builds_if(!self.is_stopped);
         }
         if !self.is_open() {
-            return Ok(Procedure::Refuse(Refusal::Shutdown));
+            return Ok(Procedure::Refuse(CallRefusal::Shutdown));
         }
         self.opened(asking, advice, parts)
     }
@@ -114,14 +115,14 @@ impl Tables {
         ensures { IfOk result (λ p. p ≡ unless_refused is_allowed (builds_with self.now.settings.outbound self.now.settings.base)) }
     {
         if !is_allowed {
-            return Ok(Procedure::Refuse(Refusal::Shutdown));
+            return Ok(Procedure::Refuse(CallRefusal::Shutdown));
         }
         if self.settings.outbound == 0 {
-            return Ok(Procedure::Refuse(Refusal::NoOutbound));
+            return Ok(Procedure::Refuse(CallRefusal::NoOutbound));
         }
         match self.settings.base(self.alloc)? {
             Some(base) => Ok(Procedure::Build(base)),
-            None => Ok(Procedure::Refuse(Refusal::NoAddress)),
+            None => Ok(Procedure::Refuse(CallRefusal::NoAddress)),
         }
     }
 
@@ -216,7 +217,7 @@ impl Tables {
         ensures { IfOk result (λ p. p ≡ from_base self.now.settings.base (asks_topics (string_bytes namespace) mode)) }
     {
         let Some(base) = self.settings.base(self.alloc)? else {
-            return Ok(Procedure::Refuse(Refusal::NoAddress));
+            return Ok(Procedure::Refuse(CallRefusal::NoAddress));
         };
         Ok(Procedure::Ask {
             place: Place::At(base),
@@ -234,7 +235,7 @@ impl Tables {
     {
         match self.settings.ways(self.alloc)? {
             Some(ways) => Ok(Procedure::Search { ways, what }),
-            None => Ok(Procedure::Refuse(Refusal::NoAddress)),
+            None => Ok(Procedure::Refuse(CallRefusal::NoAddress)),
         }
     }
 
@@ -289,17 +290,10 @@ impl Tables {
             Action::Get(address) => self.gets(who, address, tasks),
             Action::Ask { link, request } => self.asks(who, link, request, tasks, out),
             Action::Wait(delay) => self.alarms.set(Alarm::Wake(who), later(self.clock, delay)),
-            Action::TakeTurn(number) => self.takes_turn(who, number, tasks),
-            Action::PassTurn(number) => self.passes_turn(who, number, tasks),
-            Action::Draw(number) => self.draws(who, number, tasks),
-            Action::Recall(number) => self.recalls(who, number, tasks),
-            Action::Remake(remade) => self.remakes(who, remade, tasks),
+            Action::OfTopic { number, ask } => self.asks_topic(who, number, ask, tasks),
             Action::Number => self.numbers(who, tasks),
-            Action::Find(number) => self.finds(who, number, tasks),
+            Action::Hold { link, number } => self.holds(who, link, number, tasks),
             Action::Shut(producer) => self.shuts(who, producer, tasks),
-            Action::Store { number, entry } => self.stores(who, number, entry, tasks),
-            Action::Flush(number) => self.flushes_at(who, number, tasks),
-            Action::TakeBatch(number) => self.takes_batch(who, number, tasks),
             Action::TakeNumber(wanted) => self.takes_number(who, wanted, tasks),
             Action::FindConsumer(consumer) => self.finds_consumer(who, consumer, tasks),
             Action::TakeFlow => self.takes_flow(who, tasks),
@@ -410,20 +404,20 @@ impl Tables {
 }
 
 /// Why a raw call is refused that names a number.
-fn taken_by(by_producer: bool, by_consumer: bool) -> Option<Refusal>
+fn taken_by(by_producer: bool, by_consumer: bool) -> Option<CallRefusal>
     ensures { result ≡ taken_by by_producer by_consumer }
 {
     if by_producer {
-        Some(Refusal::NumberInUse)
+        Some(CallRefusal::NumberInUse)
     } else if by_consumer {
-        Some(Refusal::ConsumerInUse)
+        Some(CallRefusal::ConsumerInUse)
     } else {
         None
     }
 }
 
 /// A request on a link, unless it is refused.
-fn asks_unless(refusal: Option<Refusal>, link: u64, request: Request) -> Procedure
+fn asks_unless(refusal: Option<CallRefusal>, link: u64, request: Request) -> Procedure
     ensures { result ≡ unless refusal (Procedure.Ask (Place.Link link) request Says.Bodies) }
 {
     match refusal {

@@ -23,7 +23,7 @@ use crate::tables::Tables;
 use crate::tables::calls::tell;
 use pulsar_addresses::content::{Cause, Refusal as Failure};
 use pulsar_agenda::agenda::Tasks;
-use pulsar_calls::act::{Action, Notice, Outcome, Part, Procedure, Refusal, Who, Word};
+use pulsar_calls::act::{Action, CallRefusal, Notice, Outcome, Part, Procedure, Who, Word};
 use pulsar_calls::content::Recalled;
 use pulsar_calls::effect::Effect;
 use pulsar_calls::who::ticket_of;
@@ -69,13 +69,13 @@ impl Tables {
         ensures { IfOk result (λ p. p ≡ subscribes_by (ways_of (chosen_of self.now.settings)) ordered) }
     {
         match ordered {
-            Ordered::Nothing => Ok(Procedure::Refuse(Refusal::NoTopics)),
-            Ordered::Several => Ok(Procedure::Refuse(Refusal::ManyTopics)),
+            Ordered::Nothing => Ok(Procedure::Refuse(CallRefusal::NoTopics)),
+            Ordered::Several => Ok(Procedure::Refuse(CallRefusal::ManyTopics)),
             Ordered::One(order) => match self.settings.ways(self.alloc)? {
                 Some(ways) => Ok(Procedure::Subscribe { ways, order }),
                 None => {
                     drop(order);
-                    Ok(Procedure::Refuse(Refusal::NoAddress))
+                    Ok(Procedure::Refuse(CallRefusal::NoAddress))
                 }
             },
         }

@@ -9,7 +9,7 @@ ghost use Rattle.pulsar_consumer_table.specs.Notices.{due_to};
 ghost use Rattle.pulsar_acts.specs.Reading.{made_due, serves_by};
 ghost use Rattle.pulsar_acts.specs.Rules.{left_with};
 ghost use Rattle.pulsar_acts.specs.Tables.{chosen_of, view_of};
-ghost use Rattle.pulsar_acts.specs.View.{consumers_left, consumers_made, joins_as, member_on, producers_made, setup_of, ways_of};
+ghost use Rattle.pulsar_acts.specs.View.{consumers_left, consumers_made, joins_as, member_on, producers_left, producers_made, setup_of, ways_of};
 ghost use Rattle.pulsar_calls.specs.Who.{ticket_of};
 
 use crate::tables::Tables;
@@ -112,14 +112,19 @@ impl Tables {
         }
     }
 
-    /// A call that has ended holds no number.
+    /// A call that has ended holds no number, and makes no topic producers.
     pub(super) fn frees(&mut self, who: Who)
-        ensures sees { view_of self.new ≡ record (view_of self.old)
-            { consumers = consumers_left who (consumers_in self.old.consumers.rows self.old.consumers.numbers) } }
+        ensures sees { view_of self.new ≡ record (view_of self.old) {
+          consumers = consumers_left who (consumers_in self.old.consumers.rows self.old.consumers.numbers);
+          producers = producers_left who (producers_of self.old.producers);
+        } }
         ensures settings { self.new.settings ≡ self.old.settings }
     {
         match who {
-            Who::Call(ticket) => self.consumers.free(ticket),
+            Who::Call(ticket) => {
+                self.consumers.free(ticket);
+                self.producers.free(ticket);
+            }
             Who::Consumer { .. } | Who::Producer(_) => {}
         }
     }

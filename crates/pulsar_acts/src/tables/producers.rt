@@ -1,81 +1,49 @@
 //! What plans ask of topic producers.
 
-ghost use Rattle.std.specs.Prelude.{◌≡◌, ◌++◌, OnOk, map};
-ghost use Rattle.std.specs.Option.{option_map, option_to_list};
-ghost use Rattle.pulsar_run.specs.Order.{put_all};
+ghost use Rattle.std.specs.Prelude.{◌≡◌, ◌++◌, OnOk};
 ghost use Rattle.pulsar_wire.specs.Failures.{fault};
 ghost use Rattle.pulsar_acts.specs.Reading.{tells};
-ghost use Rattle.pulsar_acts.specs.Rules.{grants, turn_notice};
-ghost use Rattle.pulsar_calls.specs.Order.{below};
+ghost use Rattle.pulsar_acts.specs.Rules.{grants, says_to};
 ghost use Rattle.pulsar_acts.specs.Run.{goes_on};
 ghost use Rattle.pulsar_agenda.specs.Agenda.{agenda_of};
-ghost use Rattle.pulsar_acts.specs.Tables.{view_of};
+ghost use Rattle.pulsar_acts.specs.Tables.{fills, view_of};
 ghost use Rattle.pulsar_acts.specs.View.{after, room_of};
 ghost use Rattle.pulsar_calls.specs.declared.act.Act.{Act};
 
 use crate::tables::Tables;
 use crate::tables::batches::join_closed;
 use crate::tables::calls::tell;
+use crate::tables::consumers::join_some;
 use pulsar_addresses::content::Cause;
 use pulsar_agenda::agenda::Tasks;
-use pulsar_calls::act::{Action, Notice, Outcome, Who};
-use pulsar_calls::content::{Granted, Remade};
-use pulsar_calls::who::{in_turn, turn_of};
-use pulsar_outgoing::content::Version;
+use pulsar_calls::act::{Action, Outcome, TopicAsk, Who};
+use pulsar_calls::content::Granted;
+use pulsar_calls::who::{ticket_of, turn_of};
 use pulsar_producer::deed::News;
+use pulsar_producer_table::asks::Given;
 use pulsar_wire::error::{ConnectionError, NoMemory};
-use std::alloc::Global;
 
 impl Tables {
-    /// One wants its turn at a topic producer, and has it where nobody else has it.
-    pub(super) fn takes_turn(
+    /// This is asked of a topic producer. What that stores waits from its first message on.
+    pub(super) fn asks_topic(
         &mut self,
         who: Who,
         number: u64,
+        ask: TopicAsk,
         tasks: &mut Tasks,
     ) -> Result<(), NoMemory>
-        ensures left { OnOk result (agenda_of tasks.new ≡ goes_on (view_of self.old) (Act.Does who (Action.TakeTurn number)) (agenda_of tasks.old)) }
-        ensures sees { OnOk result (view_of self.new ≡ after (Act.Does who (Action.TakeTurn number)) (view_of self.old)) }
+        ensures left { OnOk result (agenda_of tasks.new ≡ goes_on (view_of self.old) (Act.Does who (Action.OfTopic number ask)) (agenda_of tasks.old)) }
+        ensures sees { OnOk result (view_of self.new ≡ after (Act.Does who (Action.OfTopic number ask)) (view_of self.old)) }
         ensures settings { self.new.settings ≡ self.old.settings }
     {
-        if !self.producers.is_used(number) {
-            return tell(who, Outcome::Disconnected, tasks);
-        }
-        match self.producers.take_turn(number, turn_of(who))? {
-            Some(version) => self.grants(who, News::HasTurn(version), tasks),
-            None => Ok(()),
-        }
-    }
-
-    /// A turn is over: the next one who waits for it has it.
-    pub(super) fn passes_turn(
-        &mut self,
-        who: Who,
-        number: u64,
-        tasks: &mut Tasks,
-    ) -> Result<(), NoMemory>
-        ensures left { OnOk result (agenda_of tasks.new ≡ goes_on (view_of self.old) (Act.Does who (Action.PassTurn number)) (agenda_of tasks.old)) }
-        ensures sees { OnOk result (view_of self.new ≡ after (Act.Does who (Action.PassTurn number)) (view_of self.old)) }
-        ensures settings { self.new.settings ≡ self.old.settings }
-    {
-        let next = self.producers.pass_turn(number)?;
-        join_next(self.alloc, number, next, tasks)?;
-        self.grants(who, News::Done, tasks)
-    }
-
-    /// The number of a message is drawn.
-    pub(super) fn draws(&mut self, who: Who, number: u64, tasks: &mut Tasks) -> Result<(), NoMemory>
-        ensures left { OnOk result (agenda_of tasks.new ≡ goes_on (view_of self.old) (Act.Does who (Action.Draw number)) (agenda_of tasks.old)) }
-        ensures sees { OnOk result (view_of self.new ≡ after (Act.Does who (Action.Draw number)) (view_of self.old)) }
-        ensures settings { self.new.settings ≡ self.old.settings }
-    {
-        let Some(room) = self.room_for(number) else {
-            return self.refuses(who, ConnectionError::Disconnected, tasks);
-        };
-        match self.producers.draw(number, room)? {
-            Some(drawn) => self.grants(who, News::Drew(drawn), tasks),
-            None => self.refuses(who, ConnectionError::Exhausted, tasks),
-        }
+        let fills = fills(&ask);
+        let was_bare = self.producers.is_bare(number);
+        let room = self.room_for(number);
+        let given = self.producers.ask(number, turn_of(who), room, ask)?;
+        let Given { says, serves } = given;
+        self.waits_if(fills, number, was_bare)?;
+        join_some(serves, tasks)?;
+        tell_some(who, says, tasks)
     }
 
     /// Whether there is room on the link of a topic producer, where that is ready.
@@ -84,38 +52,6 @@ impl Tables {
     {
         let link = self.producers.link(number)?;
         self.links.room(link)
-    }
-
-    /// The command by which a topic producer is made again.
-    pub(super) fn recalls(
-        &mut self,
-        who: Who,
-        number: u64,
-        tasks: &mut Tasks,
-    ) -> Result<(), NoMemory>
-        ensures left { OnOk result (agenda_of tasks.new ≡ goes_on (view_of self.old) (Act.Does who (Action.Recall number)) (agenda_of tasks.old)) }
-        ensures sees { OnOk result (view_of self.new ≡ after (Act.Does who (Action.Recall number)) (view_of self.old)) }
-        ensures settings { self.new.settings ≡ self.old.settings }
-    {
-        match self.producers.recall(number)? {
-            Some(command) => self.grants(who, News::Recalled(command), tasks),
-            None => tell(who, Outcome::Disconnected, tasks),
-        }
-    }
-
-    /// A topic producer was made again.
-    pub(super) fn remakes(
-        &mut self,
-        who: Who,
-        remade: Remade,
-        tasks: &mut Tasks,
-    ) -> Result<(), NoMemory>
-        ensures left { OnOk result (agenda_of tasks.new ≡ goes_on (view_of self.old) (Act.Does who (Action.Remake remade)) (agenda_of tasks.old)) }
-        ensures sees { OnOk result (view_of self.new ≡ after (Act.Does who (Action.Remake remade)) (view_of self.old)) }
-        ensures settings { self.new.settings ≡ self.old.settings }
-    {
-        self.producers.remake(remade.into_inner());
-        self.grants(who, News::Done, tasks)
     }
 
     /// The number of a new topic producer is drawn.
@@ -130,16 +66,20 @@ impl Tables {
         }
     }
 
-    /// The link of a topic producer is told.
-    pub(super) fn finds(&mut self, who: Who, number: u64, tasks: &mut Tasks) -> Result<(), NoMemory>
-        ensures left { OnOk result (agenda_of tasks.new ≡ goes_on (view_of self.old) (Act.Does who (Action.Find number)) (agenda_of tasks.old)) }
-        ensures sees { OnOk result (view_of self.new ≡ after (Act.Does who (Action.Find number)) (view_of self.old)) }
+    /// A topic producer was made for a call, which still makes others.
+    pub(super) fn holds(
+        &mut self,
+        who: Who,
+        link: u64,
+        number: u64,
+        tasks: &mut Tasks,
+    ) -> Result<(), NoMemory>
+        ensures left { OnOk result (agenda_of tasks.new ≡ goes_on (view_of self.old) (Act.Does who (Action.Hold link number)) (agenda_of tasks.old)) }
+        ensures sees { OnOk result (view_of self.new ≡ after (Act.Does who (Action.Hold link number)) (view_of self.old)) }
         ensures settings { self.new.settings ≡ self.old.settings }
     {
-        match self.producers.link(number) {
-            Some(link) => tell(who, Outcome::GotLink(link), tasks),
-            None => tell(who, Outcome::Disconnected, tasks),
-        }
+        self.producers.hold(ticket_of(who), link, number)?;
+        self.grants(who, News::Done, tasks)
     }
 
     /// A producer takes no sends from now on. Those whose messages it stores are told so.
@@ -177,22 +117,28 @@ impl Tables {
     }
 }
 
-/// The one who has the turn next joins those whom the present cause serves.
-fn join_next(
-    alloc: Global,
-    number: u64,
-    next: Option<(u64, Option<Version>)>,
-    tasks: &mut Tasks,
-) -> Result<(), NoMemory>
-    ensures { OnOk result (agenda_of tasks.new
-        ≡ record (agenda_of tasks.old) { here = put_all below (option_to_list (option_map (turn_notice number) next)) tasks.old.here }) }
+/// What is stored may change by it.
+fn fills(ask: &TopicAsk) -> bool
+    ensures { result ≡ fills ask.now }
 {
-    let Some((turn, version)) = next else {
-        return Ok(());
-    };
-    let granted = Granted::new(alloc, News::HasTurn(version))?;
-    tasks.join(Notice {
-        who: in_turn(number, turn),
-        outcome: Outcome::Granted(granted),
-    })
+    match ask {
+        TopicAsk::Store(_) | TopicAsk::Flush => true,
+        TopicAsk::TakeTurn
+        | TopicAsk::PassTurn
+        | TopicAsk::Draw
+        | TopicAsk::Recall
+        | TopicAsk::Remake(_)
+        | TopicAsk::Find
+        | TopicAsk::TakeBatch => false,
+    }
+}
+
+/// One is told this, if anything.
+fn tell_some(who: Who, outcome: Option<Outcome>, tasks: &mut Tasks) -> Result<(), NoMemory>
+    ensures { OnOk result (agenda_of tasks.new ≡ record (agenda_of tasks.old) { now = says_to who outcome ++ tasks.old.now.items }) }
+{
+    match outcome {
+        Some(outcome) => tell(who, outcome, tasks),
+        None => Ok(()),
+    }
 }

@@ -18,11 +18,11 @@ ghost use Rattle.pulsar_acts.specs.View.{after, may_call};
 use crate::tables::Tables;
 use pulsar_addresses::content::Text;
 use pulsar_agenda::agenda::Tasks;
-use pulsar_calls::act::{Act, Notice, Procedure, Refusal, Round, Share, Who};
+use pulsar_calls::act::{Act, CallRefusal, Notice, Procedure, Round, Share, Who};
 use pulsar_calls::content::Advice;
 use pulsar_messages::Message;
 use pulsar_outgoing::content::{Entry, Outgoing, Settings};
-use pulsar_outgoing::orders::Order;
+use pulsar_outgoing::orders::ProducerOrder;
 use pulsar_outgoing::producer_builder::ProducerBuilder;
 use pulsar_producer::deed::News;
 use pulsar_wire::error::NoMemory;
@@ -41,15 +41,15 @@ impl Tables {
             ..
         } = builder;
         let Some(topic) = topic else {
-            return Ok(Procedure::Refuse(Refusal::NoTopic));
+            return Ok(Procedure::Refuse(CallRefusal::NoTopic));
         };
         let Some(ways) = self.settings.ways(self.alloc)? else {
-            return Ok(Procedure::Refuse(Refusal::NoAddress));
+            return Ok(Procedure::Refuse(CallRefusal::NoAddress));
         };
         let options = Settings::new(self.alloc, options)?;
         Ok(Procedure::Produce {
             ways,
-            order: Order {
+            order: ProducerOrder {
                 topic: Text::new(topic),
                 name: text(name),
                 options,
@@ -58,13 +58,13 @@ impl Tables {
     }
 
     /// Why nothing is sent by the producer of this ticket: there is none, or it was closed.
-    pub(super) fn why_not(&self, producer: u64) -> Option<Refusal>
+    pub(super) fn why_not(&self, producer: u64) -> Option<CallRefusal>
         ensures { result ≡ why_not (producers_of self.now.producers) producer }
     {
         if !self.producers.has(producer) {
-            Some(Refusal::UnknownTicket)
+            Some(CallRefusal::UnknownTicket)
         } else if self.producers.is_closed(producer) {
-            Some(Refusal::Closed)
+            Some(CallRefusal::Closed)
         } else {
             None
         }
@@ -104,10 +104,10 @@ impl Tables {
         ensures settings { self.new.settings ≡ self.old.settings }
     {
         let Some(errand) = self.producers.route(producer, &message, advice) else {
-            return Ok(fails(share, Refusal::NoPartition));
+            return Ok(fails(share, CallRefusal::NoPartition));
         };
         let Some(ways) = self.settings.ways(self.alloc)? else {
-            return Ok(fails(share, Refusal::NoAddress));
+            return Ok(fails(share, CallRefusal::NoAddress));
         };
         if self.producers.batches(producer) {
             drop(ways);
@@ -210,7 +210,7 @@ impl Tables {
             return Ok(Procedure::Refuse(refusal));
         }
         if !self.producers.batches(producer) {
-            return Ok(Procedure::Refuse(Refusal::NoBatches));
+            return Ok(Procedure::Refuse(CallRefusal::NoBatches));
         }
         Ok(Procedure::Go {
             round: Round::Flushes,
@@ -236,7 +236,7 @@ impl Tables {
         ensures { IfOk result (λ p. p ≡ rules.closes (producers_of self.now.producers) producer) }
     {
         if !self.producers.has(producer) {
-            return Ok(Procedure::Refuse(Refusal::UnknownTicket));
+            return Ok(Procedure::Refuse(CallRefusal::UnknownTicket));
         }
         Ok(Procedure::Close {
             producer,
@@ -275,12 +275,12 @@ fn stores_as(
             share,
             entry,
         }),
-        None => Ok(fails(share, Refusal::TooLarge)),
+        None => Ok(fails(share, CallRefusal::TooLarge)),
     }
 }
 
 /// A send is not made.
-fn fails(share: Option<Share>, refusal: Refusal) -> Procedure
+fn fails(share: Option<Share>, refusal: CallRefusal) -> Procedure
     ensures { result ≡ rules.fails_as share refusal }
 {
     match share {

@@ -1,6 +1,6 @@
 -- The stop is asked for where nothing else is left to do.
 use Rattle.std.proofs.Common.{◌≡◌, ◌⊎◌, inl, inr, ◌∙◌, sym, ap, subst, ℕ, ◌+◌, List, ◌∷◌, ◌++◌, refl, map, Bool, true, false, cond, Option, Some, None, drop, length, [], ◌^◌, ◌-◌}
-use Rattle.pulsar_laws.proofs.ActWords.{Act, Answers, Asked, below, Call, Calls, Comes, Consumer, Does, lacks_tickets, Makes, next_advice, Notice, Outcome, Part, Procedure, Producer, Refusal, Rest, Share, shares, Starts, StopAll, Told, Verdict, Who}
+use Rattle.pulsar_laws.proofs.ActWords.{Act, Answers, Asked, below, Call, Calls, Comes, Consumer, Does, lacks_tickets, Makes, next_advice, Notice, Outcome, Part, Procedure, Producer, CallRefusal, Rest, Share, shares, Starts, StopAll, Told, Verdict, Who}
 use Rattle.pulsar_laws.proofs.PlanWords.{begins, Errand, fails, Gives, Plan, Stays, told, Turn, verdict, Ways}
 use Rattle.pulsar_laws.proofs.RunWords.{agenda, Agenda, arranged, at_once, Begins, called, causes, Chosen, Each, each_append, each_first, each_map, each_rest, Entry, fails_as, first, first_of, follows, follows_some, is_served, IsRun, joins, left_with, may_call, Options, procedure_for, put_all, rest, rest_of, rules, sends_by, share, shares_of, shares_unless, starts, stores_as, Then, told_some, unless, unless_refused, view, View, ways_of, why_no_sends}
 use Rattle.pulsar_laws.proofs.LinkWords.{Exhausted}
@@ -56,7 +56,7 @@ some_no_stop who None u = tt
 some_no_stop who (Some plan) u = turn_no_stop who (told plan u) (told_fits plan u)
 
 -- no part of a call is a stop, nor is a call that has parts
-fails_no_stop : (who : Who) (share : Option Share) (r : Refusal) → NoStop (Starts who (fails_as share r))
+fails_no_stop : (who : Who) (share : Option Share) (r : CallRefusal) → NoStop (Starts who (fails_as share r))
 fails_no_stop who None r = refl
 fails_no_stop who (Some s) r = refl
 
@@ -83,12 +83,12 @@ shares_no_stop o ps of ticket advice t (m ∷ ms) = (
   shares_no_stop o (routed t m ps) of (ticket + 1) (drop 1 advice) t ms,
 )
 
-unless_no_stop : (why : Option Refusal) (v : View) (advice : List (Option ℕ)) (t : ℕ) (ms : List ProducerMessageValues) →
+unless_no_stop : (why : Option CallRefusal) (v : View) (advice : List (Option ℕ)) (t : ℕ) (ms : List ProducerMessageValues) →
     Each NoStop (shares_unless why v advice t ms)
 unless_no_stop (Some r) v advice t ms = tt
 unless_no_stop None v advice t ms = shares_no_stop v.chosen v.producers v.calls.drawn (v.calls.drawn + 1) advice t ms
 
-gathers_no_stop : (who : Who) (b : Bool) (why : Option Refusal) (first count : ℕ) →
+gathers_no_stop : (who : Who) (b : Bool) (why : Option CallRefusal) (first count : ℕ) →
     NoStop (Starts who (unless_refused b (unless why (procedure.Gather first count))))
 gathers_no_stop who false why first count = refl
 gathers_no_stop who true None first count = refl
@@ -126,13 +126,13 @@ pub record IsClear (g : Agenda) : Type 0 where
   pub behind : g.behind ≡ []
 
 -- no part of an event arises at once
-abbrev NoPart : Act → Type 0
+abbrev pub NoPart : Act → Type 0
 NoPart a = (kind a ≡ OfPart) → ⊥
 
 raised_no_part : (a b : Act) → IsRaised a b → NoPart b
 raised_no_part a b h is = (let f : true ≡ false = sym h ∙ ap (λ x. may x a) is in absurd cc)
 
-now_no_part : (o : Options) (log : List Entry) → Each NoPart (agenda o log).now
+pub now_no_part : (o : Options) (log : List Entry) → Each NoPart (agenda o log).now
 now_no_part o [] = tt
 now_no_part o (Begins e ∷ log) = tt
 now_no_part o (Then a ∷ log) =
@@ -140,7 +140,7 @@ now_no_part o (Then a ∷ log) =
     each_append NoPart (at_once (view o log) a) (rest g).now (each_map (IsRaised a) NoPart (at_once (view o log) a) (raised_no_part a) (raises (view o log) a))
     (each_rest NoPart g.now g.here g.behind g.parts (now_no_part o log))
 
-clear_part : (now : List Act) (here : List Notice) (behind : List (List Notice)) (ps : List Part) (p : Part) → kind (Comes p) ≡ OfPart → Each NoPart now →
+pub clear_part : (now : List Act) (here : List Notice) (behind : List (List Notice)) (ps : List Part) (p : Part) → kind (Comes p) ≡ OfPart → Each NoPart now →
     first_of rules now here behind ps ≡ Some (Comes p) → IsClear (rest_of now here behind ps)
 clear_part (a ∷ now) here behind ps p s k h = absurd (k.0 (let e : a ≡ Comes p = cc in ap kind e ∙ s))
 clear_part [] (n ∷ here) behind ps p s k h = absurd cc

@@ -2,7 +2,7 @@
 use Rattle.std.proofs.Common.{◌≡◌, ◌⊎◌, inl, inr, ◌∙◌, sym, ap, subst, ℕ, List, ◌∷◌, ◌++◌, refl, map, Bool, true, false, cond, Option, Some, None, Result, Ok, Err, []}
 use Rattle.std.specs.List.{filter_map, flat_map}
 use Rattle.std.specs.Option.{option_map, option_to_list}
-use Rattle.pulsar_laws.proofs.ActWords.{Act, Action, Alarm, Answers, Arrival, Ask, Batch, CheckIdle, Comes, Consumer, Does, Drains, Draw, End, Ends, FailConsumer, Find, FindConsumer, Flush, Get, Idles, is_same, KeepAlive, Makes, Notice, Number, opens, Outcome, Overdue, Part, PassTurn, Polls, Reads, Recall, RecallConsumer, Remake, Rest, Retry, Revive, Rings, Shut, StopAll, Stops, Store, TakeBatch, TakeFlow, TakeNumber, TakeTurn, Tell, TellAll, ticket_of, Told, ToLink, turn_of, Verdict, Wait, Wake, Who, Word}
+use Rattle.pulsar_laws.proofs.ActWords.{Act, Action, Alarm, Answers, Arrival, Ask, Batch, CheckIdle, Comes, Consumer, Does, Drains, Draw, End, Ends, FailConsumer, Find, FindConsumer, Flush, Get, Hold, Idles, KeepAlive, Makes, Notice, Number, OfTopic, Outcome, Overdue, Part, PassTurn, Polls, Reads, Recall, RecallConsumer, Remake, Rest, Retry, Revive, Rings, Shut, StopAll, Stops, Store, TakeBatch, TakeFlow, TakeNumber, TakeTurn, Tell, TellAll, ToLink, Told, Verdict, Wait, Wake, Who, Word, is_same, opens, ticket_of, turn_of}
 use Rattle.pulsar_laws.proofs.PlanWords.{closed_notice, Command, Drawn}
 use Rattle.pulsar_laws.proofs.RunWords.{Arises, at_once, Begins, Cause, causes, chosen_same, Each, Entry, further, In, InOne, IsRun, joins, lost_on, member_on, notice, Options, over_each, parts, readied, ready_notice, room_of, rules, setup_of, stopped_on, tells, Then, turn_notice, turned_by, view, View}
 use Rattle.pulsar_laws.proofs.LinkWords.{address_key, Addresses, answer_at, arrival_at, closed_by, closed_consumer, closing, ConnectionError, Exhausted, Failure, Fault, is_asked, is_reachable, Nobody, over_links, Pause, Pauses, Place, rings, Runs, Seat, Series, Serves, stop_act, tells_asker, told_at, url_at, Words}
@@ -19,7 +19,7 @@ use Rattle.pulsar_laws.proofs.calls.Causes.{IsToldBy, OutcomesAreCaused}
 use Rattle.pulsar_laws.proofs.links.Late.{lost_same}
 use Rattle.pulsar_laws.specs.Laws.{AttemptEnds, CutsSo, LineEnds, RequestEnds, base_of, GrantsSo, BuiltDue, PolledDue, RevivedDue, SaysSo}
 use Rattle.pulsar_links.specs.Links.{arrival, change_at, change_in, line_places, new_places, times_out}
-use Rattle.pulsar_acts.specs.Rules.{caused, failed_by, failed_on, gets_from, served_on, stopped_with, waiters_of, woken, draw_outcome, draw_said, finds, grants, number_said, recalls, stopped_one, takes_turn}
+use Rattle.pulsar_acts.specs.Rules.{caused, failed_by, failed_on, gets_from, served_on, stopped_with, waiters_of, woken, grants, number_said, stopped_one, says_to}
 use Rattle.pulsar_links.specs.LinkRules.{answered_by, answered_on, dropped, ended_by, ended_on, failed, failed_over, failed_so, fails_so, lost, lost_so, lost_with, moved_on, served_by, stopped_at}
 use Rattle.pulsar_producer_table.specs.Notices.{stopped_call}
 use Rattle.pulsar_acts.specs.View.{pause_for, pause_of}
@@ -51,6 +51,7 @@ use Rattle.pulsar_calls.specs.declared.act.Makes.TheVariants as makes
 use Rattle.pulsar_consumer_table.specs.Consumers as consumer
 use Rattle.pulsar_consumer.specs.Topic as reader
 use Rattle.pulsar_laws.proofs.calls.CausedLists.{IsAsker, in_alone, in_askers, in_flat, in_opened, in_told, step_map}
+use Rattle.pulsar_producer_table.specs.Asks.{draw_outcome, draw_said, grants_it, link_said, recall_said, turn_said}
 
 -- WHO IS TOLD AT ONCE
 
@@ -60,7 +61,7 @@ none_told v a n never h =
     (let told : may OfNotice a ≡ true = in_each (IsRaised a) (Told n) (at_once v a) h (raises v a) in let f : true ≡ false = sym told ∙ never in absurd cc)
 
 -- what comes of a link is no notice
-mute_told : (n : Notice) (ps : List Part) → In (Told n) (map Comes ps) → ⊥
+pub mute_told : (n : Notice) (ps : List Part) → In (Told n) (map Comes ps) → ⊥
 mute_told n [] h = h
 mute_told n (p ∷ ps) (inl e) = absurd cc
 mute_told n (p ∷ ps) (inr h) = mute_told n ps h
@@ -167,41 +168,43 @@ module _ (o : Options) (who : Who) (u : Outcome) (older : List Entry) where
   -- WHAT ONE ASKS OF A TOPIC PRODUCER, or of their numbers
 
   takes_some : (w : Who) (n : ℕ) (t : Topic) (r : Option (Option (List ℕ))) → turn_taken (v.producers.topics n) ≡ r →
-      In (Told it) (flat_map (λ version. grants w (news.HasTurn version)) (option_to_list r)) → Cause o who u (Then (Does w (TakeTurn n))) older
+      In (Told it) (says_to w (option_map (λ version. outcome.Granted (news.HasTurn version)) r)) → Cause o who u (Then (Does w (OfTopic n TakeTurn))) older
   takes_some w n t None e h = absurd h
   takes_some w n t (Some version) e h =
       let k = told_is w (outcome.Granted (news.HasTurn version)) h in
-      named (Then (Does w (TakeTurn n))) (outcome.Granted (news.HasTurn version)) k.1 (inl (TakeTurn n, did w (TakeTurn n) k.0, e))
+      named (Then (Does w (OfTopic n TakeTurn))) (outcome.Granted (news.HasTurn version)) k.1 (inl (OfTopic n TakeTurn, did w (OfTopic n TakeTurn) k.0, e))
 
-  takes_caused : (w : Who) (n : ℕ) (row : Option Topic) → v.producers.topics n ≡ row → In (Told it) (takes_turn w row) →
-      Cause o who u (Then (Does w (TakeTurn n))) older
+  takes_caused : (w : Who) (n : ℕ) (row : Option Topic) → v.producers.topics n ≡ row → In (Told it) (says_to w (turn_said row)) →
+      Cause o who u (Then (Does w (OfTopic n TakeTurn))) older
   takes_caused w n None e h =
       let k = told_is w outcome.Disconnected h in
-      named (Then (Does w (TakeTurn n))) outcome.Disconnected k.1 (inr (inr (TakeTurn n, did w (TakeTurn n) k.0, e)))
+      named (Then (Does w (OfTopic n TakeTurn))) outcome.Disconnected k.1 (inr (inr (OfTopic n TakeTurn, did w (OfTopic n TakeTurn) k.0, e)))
   takes_caused w n (Some t) e h = takes_some w n t (turn_taken (Some t)) (ap turn_taken e) h
 
   draws_caused : (w : Who) (n : ℕ) (room : Option Bool) → room_of v n ≡ room → In (Told it) (tells w (draw_outcome room (v.producers.topics n))) →
-      Cause o who u (Then (Does w (Draw n))) older
+      Cause o who u (Then (Does w (OfTopic n Draw))) older
   draws_caused w n None e h =
       let k = told_is w (outcome.Refused Disconnected) h in
-      named (Then (Does w (Draw n))) (outcome.Refused Disconnected) k.1 (inr (Draw n, did w (Draw n) k.0, e))
+      named (Then (Does w (OfTopic n Draw))) (outcome.Refused Disconnected) k.1 (inr (OfTopic n Draw, did w (OfTopic n Draw) k.0, e))
   draws_caused w n (Some room) e h = by (drawn room (v.producers.topics n)) refl h
     where
-      by : (d : Option Drawn) → drawn room (v.producers.topics n) ≡ d → In (Told it) (tells w (draw_said d)) → Cause o who u (Then (Does w (Draw n))) older
+      by : (d : Option Drawn) → drawn room (v.producers.topics n) ≡ d → In (Told it) (tells w (draw_said d)) →
+          Cause o who u (Then (Does w (OfTopic n Draw))) older
       by None f i =
           let k = told_is w (outcome.Refused Exhausted) i in
-          named (Then (Does w (Draw n))) (outcome.Refused Exhausted) k.1 (inr (Draw n, did w (Draw n) k.0, (room, e, f)))
+          named (Then (Does w (OfTopic n Draw))) (outcome.Refused Exhausted) k.1 (inr (OfTopic n Draw, did w (OfTopic n Draw) k.0, (room, e, f)))
       by (Some d) f i =
           let k = told_is w (outcome.Granted (news.Drew d)) i in
-          named (Then (Does w (Draw n))) (outcome.Granted (news.Drew d)) k.1 (inl (Draw n, did w (Draw n) k.0, (room, e, f)))
+          named (Then (Does w (OfTopic n Draw))) (outcome.Granted (news.Drew d)) k.1 (inl (OfTopic n Draw, did w (OfTopic n Draw) k.0, (room, e, f)))
 
-  recalls_caused : (w : Who) (n : ℕ) (row : Option Command) → recalled v.producers n ≡ row → In (Told it) (recalls w row) →
-      Cause o who u (Then (Does w (Recall n))) older
+  recalls_caused : (w : Who) (n : ℕ) (row : Option Command) → recalled v.producers n ≡ row → In (Told it) (says_to w (recall_said row)) →
+      Cause o who u (Then (Does w (OfTopic n Recall))) older
   recalls_caused w n None e h =
-      let k = told_is w outcome.Disconnected h in named (Then (Does w (Recall n))) outcome.Disconnected k.1 (inr (inr (Recall n, did w (Recall n) k.0, e)))
+      let k = told_is w outcome.Disconnected h in
+      named (Then (Does w (OfTopic n Recall))) outcome.Disconnected k.1 (inr (inr (OfTopic n Recall, did w (OfTopic n Recall) k.0, e)))
   recalls_caused w n (Some c) e h =
       let k = told_is w (outcome.Granted (news.Recalled c)) h in
-      named (Then (Does w (Recall n))) (outcome.Granted (news.Recalled c)) k.1 (inl (Recall n, did w (Recall n) k.0, e))
+      named (Then (Does w (OfTopic n Recall))) (outcome.Granted (news.Recalled c)) k.1 (inl (OfTopic n Recall, did w (OfTopic n Recall) k.0, e))
 
   numbers_caused : (w : Who) (row : Option ℕ) → number_drawn v.producers ≡ row → In (Told it) (tells w (number_said row)) →
       Cause o who u (Then (Does w Number)) older
@@ -211,21 +214,22 @@ module _ (o : Options) (who : Who) (u : Outcome) (older : List Entry) where
       let k = told_is w (outcome.Granted (news.Numbered n)) h in
       named (Then (Does w Number)) (outcome.Granted (news.Numbered n)) k.1 (inl (Number, did w Number k.0, e))
 
-  finds_caused : (w : Who) (n : ℕ) (row : Option Topic) → v.producers.topics n ≡ row → In (Told it) (finds w (link_at row)) →
-      Cause o who u (Then (Does w (Find n))) older
+  finds_caused : (w : Who) (n : ℕ) (row : Option Topic) → v.producers.topics n ≡ row → In (Told it) (says_to w (link_said (link_at row))) →
+      Cause o who u (Then (Does w (OfTopic n Find))) older
   finds_caused w n None e h =
-      let k = told_is w outcome.Disconnected h in named (Then (Does w (Find n))) outcome.Disconnected k.1 (inr (inr (Find n, did w (Find n) k.0, e)))
+      let k = told_is w outcome.Disconnected h in
+      named (Then (Does w (OfTopic n Find))) outcome.Disconnected k.1 (inr (inr (OfTopic n Find, did w (OfTopic n Find) k.0, e)))
   finds_caused w n (Some t) e h =
       let k = told_is w (outcome.GotLink t.seen.link) h in
-      named (Then (Does w (Find n))) (outcome.GotLink t.seen.link) k.1 (inr (inr (Find n, did w (Find n) k.0, ap link_at e)))
+      named (Then (Does w (OfTopic n Find))) (outcome.GotLink t.seen.link) k.1 (inr (inr (OfTopic n Find, did w (OfTopic n Find) k.0, ap link_at e)))
 
   done_caused : (w : Who) (action : Action) → GrantsSo news.Done action v → In (Told it) (grants w news.Done) → Cause o who u (Then (Does w action)) older
   done_caused w action is h =
       let k = told_is w (outcome.Granted news.Done) h in named (Then (Does w action)) (outcome.Granted news.Done) k.1 (inl (action, did w action k.0, is))
 
-  settled_caused : (w : Who) (n : ℕ) (b : Bool) → is_settled_at (v.producers.topics n) ≡ b → In (Told it) (cond b (grants w news.Done) []) →
-      Cause o who u (Then (Does w (Flush n))) older
-  settled_caused w n true e h = done_caused w (Flush n) e h
+  settled_caused : (w : Who) (n : ℕ) (b : Bool) → is_settled_at (v.producers.topics n) ≡ b → In (Told it) (says_to w (cond b (grants_it news.Done) None)) →
+      Cause o who u (Then (Does w (OfTopic n Flush))) older
+  settled_caused w n true e h = done_caused w (OfTopic n Flush) e h
   settled_caused w n false e h = absurd h
 
   -- WHAT ONE ASKS OF CONSUMERS
@@ -291,20 +295,21 @@ module _ (o : Options) (who : Who) (u : Outcome) (older : List Entry) where
   once_caused (Does w (Ask l request)) h =
       let k = told_is w (told_at (answer_at v.now request (v.links.live l))) h in asks_so w l request (answer_at v.now request (v.links.live l)) refl k.0 k.1
   once_caused (Does w StopAll) h = stops_caused w h
-  once_caused (Does w (TakeTurn n)) h = takes_caused w n (v.producers.topics n) refl h
-  once_caused (Does w (PassTurn n)) h = done_caused w (PassTurn n) tt h
-  once_caused (Does w (Draw n)) h = draws_caused w n (room_of v n) refl h
-  once_caused (Does w (Recall n)) h = recalls_caused w n (recalled v.producers n) refl h
-  once_caused (Does w (Remake r)) h = done_caused w (Remake r) tt h
+  once_caused (Does w (OfTopic n TakeTurn)) h = takes_caused w n (v.producers.topics n) refl h
+  once_caused (Does w (OfTopic n PassTurn)) h = done_caused w (OfTopic n PassTurn) tt h
+  once_caused (Does w (OfTopic n Draw)) h = draws_caused w n (room_of v n) refl h
+  once_caused (Does w (OfTopic n Recall)) h = recalls_caused w n (recalled v.producers n) refl h
+  once_caused (Does w (OfTopic m (Remake r))) h = done_caused w (OfTopic m (Remake r)) tt h
   once_caused (Does w Number) h = numbers_caused w (number_drawn v.producers) refl h
-  once_caused (Does w (Find n)) h = finds_caused w n (v.producers.topics n) refl h
+  once_caused (Does w (OfTopic n Find)) h = finds_caused w n (v.producers.topics n) refl h
+  once_caused (Does w (Hold l n)) h = done_caused w (Hold l n) tt h
   once_caused (Does w (Shut t)) h = done_caused w (Shut t) tt h
-  once_caused (Does w (Store n entry)) h = done_caused w (Store n entry) tt h
-  once_caused (Does w (Flush n)) h = settled_caused w n (is_settled_at (v.producers.topics n)) refl h
-  once_caused (Does w (TakeBatch n)) h =
+  once_caused (Does w (OfTopic n (Store entry))) h = done_caused w (OfTopic n (Store entry)) tt h
+  once_caused (Does w (OfTopic n Flush)) h = settled_caused w n (is_settled_at (v.producers.topics n)) refl h
+  once_caused (Does w (OfTopic n TakeBatch)) h =
       let y : Outcome = outcome.Granted (news.HasBatch (next_batch_at (v.producers.topics n))) in
       let k = told_is w y h in
-      named (Then (Does w (TakeBatch n))) y k.1 (inl (TakeBatch n, did w (TakeBatch n) k.0, refl))
+      named (Then (Does w (OfTopic n TakeBatch))) y k.1 (inl (OfTopic n TakeBatch, did w (OfTopic n TakeBatch) k.0, refl))
   once_caused (Does w (Tell n)) h = done_caused w (Tell n) tt h
   once_caused (Does w (TellAll ns)) h = done_caused w (TellAll ns) tt h
   once_caused (Does w (TakeNumber wanted)) h = numbering_caused w wanted (consumer.numbering v.consumers wanted) refl h
@@ -320,13 +325,13 @@ module _ (o : Options) (who : Who) (u : Outcome) (older : List Entry) where
   -- ONE JOINS
 
   passed_caused : (w : Who) (n : ℕ) (row : Option (ℕ × Option (List ℕ))) → turn_passed (v.producers.topics n) ≡ row →
-      In it (option_to_list (option_map (turn_notice n) row)) → Cause o who u (Then (Does w (PassTurn n))) older
+      In it (option_to_list (option_map (turn_notice n) row)) → Cause o who u (Then (Does w (OfTopic n PassTurn))) older
   passed_caused w n None e h = absurd h
   passed_caused w n (Some next) e (inr h) = absurd h
   passed_caused w n (Some next) e (inl is) =
       let a : who ≡ in_turn n next.0 = ap (λ m. m.who) is in
       let b : u ≡ outcome.Granted (news.HasTurn next.1) = ap (λ m. m.outcome) is in
-      named (Then (Does w (PassTurn n))) (outcome.Granted (news.HasTurn next.1)) b
+      named (Then (Does w (OfTopic n PassTurn))) (outcome.Granted (news.HasTurn next.1)) b
       (inr (inl (w, n, next.0, next.1, refl, a, refl, e)))
 
   tells_caused : (w : Who) (n : Notice) → is_said n.outcome ≡ true → In it (n ∷ []) → Cause o who u (Then (Does w (Tell n))) older
@@ -474,10 +479,10 @@ module _ (o : Options) (who : Who) (u : Outcome) (older : List Entry) where
       named (Then (Does w StopAll)) outcome.Stopped (ap (λ n. n.outcome) k.2) (inl (w, refl, inr (inr (inr (inr (r.0, listed))))))
 
   joins_caused : (b : Act) → IsRun o (Then b ∷ older) → In it (joins v b) → Cause o who u (Then b) older
-  joins_caused (Does w (PassTurn n)) run h = passed_caused w n (turn_passed (v.producers.topics n)) refl h
-  joins_caused (Does w (Store n entry)) run h =
-      readied_caused n (topic.Stores (turn_of w) entry) (Then (Does w (Store n entry))) (w, refl, refl) h
-  joins_caused (Does w (Flush n)) run h = readied_caused n (topic.Flushes (turn_of w)) (Then (Does w (Flush n))) (w, refl, refl) h
+  joins_caused (Does w (OfTopic n PassTurn)) run h = passed_caused w n (turn_passed (v.producers.topics n)) refl h
+  joins_caused (Does w (OfTopic n (Store entry))) run h =
+      readied_caused n (topic.Stores (turn_of w) entry) (Then (Does w (OfTopic n (Store entry)))) (w, refl, refl) h
+  joins_caused (Does w (OfTopic n Flush)) run h = readied_caused n (topic.Flushes (turn_of w)) (Then (Does w (OfTopic n Flush))) (w, refl, refl) h
   joins_caused (Does w (Shut t)) run h = shut_caused w t h
   joins_caused (Does w (Tell n)) run h = tells_caused w n (tell_said o older w n run) h
   joins_caused (Does w (TellAll ns)) run h = all_caused w ns (tell_settling o older w ns run) h
@@ -715,7 +720,7 @@ module _ (o : Options) (who : Who) (u : Outcome) (older : List Entry) where
       ]
   cause_caused _ h = absurd h
 
-  is_caused : (e : Entry) → IsRun o (e ∷ older) → Arises rules o (Told it) e older → Cause o who u e older
+  pub is_caused : (e : Entry) → IsRun o (e ∷ older) → Arises rules o (Told it) e older → Cause o who u e older
   is_caused (Begins e) run h = absurd (mute_told it (parts o v e) h)
   is_caused (Then b) run (inl h) = once_caused b h
   is_caused (Then b) run (inr (inl h)) = joins_caused b run (in_told it (joins v b) h)

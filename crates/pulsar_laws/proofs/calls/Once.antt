@@ -4,7 +4,7 @@ use Rattle.std.proofs.Common.{◌≡◌, ℕ, suc, ◌+◌, ◌-◌, ◌^◌, �
 use Rattle.std.proofs.lemmas.Bool.{cases_Bool}
 use Rattle.std.proofs.lemmas.Bool.Decides.{nat_tests}
 use Rattle.std.proofs.lemmas.Grind.{common_steps}
-use Rattle.pulsar_laws.proofs.ActWords.{Act, Action, Answers, Asked, Call, Calls, Comes, Consumer, Does, Heard, is_same, lacks_tickets, Makes, Notice, Outcome, Procedure, Producer, Refusal, Rest, shares, Starts, Told, Verdict, Who}
+use Rattle.pulsar_laws.proofs.ActWords.{Act, Action, Answers, Asked, Call, Calls, Comes, Consumer, Does, Heard, is_same, lacks_tickets, Makes, Notice, Outcome, Procedure, Producer, CallRefusal, Rest, shares, Starts, Told, Verdict, Who}
 use Rattle.pulsar_laws.proofs.PlanWords.{begins, Errand, Gives, Plan, Stays, told, Turn, Ways}
 use Rattle.pulsar_laws.proofs.RunWords.{agenda, at_once, Begins, begun_same, called, Chosen, counted, does, Each, EndsOnce, Entry, first, first_case, follows, follows_some, is_served, IsRun, left_with, Options, parts_of, rest, shares_of, shares_unless, start_of, starts, StartsIn, stays, stays_some, Then, told_some, view, View, ways_of, why_no_sends}
 use Rattle.pulsar_messages.specs.Claims.{is_spent}
@@ -176,7 +176,7 @@ shares_few t o ps of ticket advice u (m ∷ ms) =
     one_more : (t n k d : ℕ) → d ≤ between t (n + 1) (n + 1 + k) → cond (t == n) 1 0 + d ≤ between t n (n + suc k)
     one_more t n k d h = grind (arith, nat_tests, common_steps)
 
-unless_few : (t : ℕ) (r : Option Refusal) (v : View) (advice : List (Option ℕ)) (u : ℕ) (ms : List ProducerMessageValues) →
+unless_few : (t : ℕ) (r : Option CallRefusal) (v : View) (advice : List (Option ℕ)) (u : ℕ) (ms : List ProducerMessageValues) →
     due (start_of t) (shares_unless r v advice u ms) ≤ between t (v.calls.drawn + 1) (v.calls.drawn + 1 + length ms)
 unless_few t None v advice u ms = shares_few t v.chosen v.producers v.calls.drawn (v.calls.drawn + 1) advice u ms
 unless_few t (Some r) v advice u ms = omega arith

@@ -6,7 +6,7 @@ use Rattle.std.specs.BTreeMap.{is_at}
 use Rattle.std.specs.Map.{lookup}
 use Rattle.std.specs.Option.{is_some}
 use Rattle.std.specs.Ordering.{nat_cmp}
-use Rattle.pulsar_laws.proofs.ActWords.{Act, Action, Answers, Call, Consumer, Does, is_same, Notice, numbers_from, Outcome, Procedure, Producer, Share, Starts, Store, Tell, TellAll, Told, Verdict, Who}
+use Rattle.pulsar_laws.proofs.ActWords.{Act, Action, Answers, Call, Consumer, Does, is_same, Notice, numbers_from, OfTopic, Outcome, Procedure, Producer, Share, Starts, Store, Tell, TellAll, Told, Verdict, Who}
 use Rattle.pulsar_laws.proofs.PlanWords.{action_of, Batching, begins, Deed, Errand, Gives, Leaving, News, news_of, Plan, Producing, Reporting, Sending as Send, Stays, Stored, Storing, told, Turn, verdict, Ways}
 use Rattle.pulsar_laws.proofs.RunWords.{agenda, Answered, Begins, begun_same, Cause, counted, Entry, first, first_of, follows_some, In, IsRun, notice, Options, rest, rules, start_of, started, stays, stays_some, Then, told_some, view, View}
 use Rattle.pulsar_laws.proofs.LinkWords.{Failure}
@@ -170,13 +170,13 @@ not_queued p u q a e h = elim (cases_Bool (is_queued u && asks_send (Some p))) [
 
 module _ (o : Options) (u : ℕ) where
   -- one that stores something has just begun so
-  storing_at : (log : List Entry) (n : ℕ) (x : EntryValues) → IsRun o (Then (Does (Call u) (Store n x)) ∷ log) →
+  storing_at : (log : List Entry) (n : ℕ) (x : EntryValues) → IsRun o (Then (Does (Call u) (OfTopic n (Store x))) ∷ log) →
       (share : Option Share) × ((view o log).stand (Call u) ≡ Some (Storing share))
   storing_at log n x run =
       let k = stored_at_once_lem o log u n x run in (
         k.0,
         subst (λ l. (view o l).stand (Call u) ≡ Some (Storing k.0)) (sym k.2)
-            (stand_starts o k.1 u (procedure.Store n k.0 x) (Storing k.0) (Store n x) refl),
+            (stand_starts o k.1 u (procedure.Store n k.0 x) (Storing k.0) (OfTopic n (Store x)) refl),
       )
 
   -- another entry gives nothing away, where no message is stored by one that stands so
@@ -187,12 +187,13 @@ module _ (o : Options) (u : ℕ) where
       let z : ◌≡◌ {A = ℕ} (cond (is_same (Call u) n.who && (is_queued n.outcome && asks_send ((view o log).stand (Call u)))) 1 0) 0 =
       ap (λ b. cond (b && (is_queued n.outcome && asks_send ((view o log).stand (Call u)))) 1 0) m in
       omega (arith, z)
-  same_given (Then (Does who (Store n x))) log m run lacks = elim (cases_Bool (is_same (Call u) who)) [
+  same_given (Then (Does who (OfTopic n (Store x)))) log m run lacks = elim (cases_Bool (is_same (Call u) who)) [
     | inl e ↦
-        (let r : IsRun o (Then (Does (Call u) (Store n x)) ∷ log) = subst (λ w. IsRun o (Then (Does w (Store n x)) ∷ log)) (sym (same_is (Call u) who e)) run in
+        (let r : IsRun o (Then (Does (Call u) (OfTopic n (Store x))) ∷ log) =
+        subst (λ w. IsRun o (Then (Does w (OfTopic n (Store x))) ∷ log)) (sym (same_is (Call u) who e)) run in
         let k = storing_at log n x r in
         absurd (lacks k.0 k.1))
-    | inr e ↦ (let z : stores_by u (Does who (Store n x)) ≡ 0 = ap (λ b. cond b 1 0) e in omega (arith, z))
+    | inr e ↦ (let z : stores_by u (Does who (OfTopic n (Store x))) ≡ 0 = ap (λ b. cond b 1 0) e in omega (arith, z))
   ]
   same_given (Then a) log m run lacks = omega arith
 
@@ -200,16 +201,17 @@ module _ (o : Options) (u : ℕ) where
   stores_none : (log : List Entry) → IsRun o log → counted (start_of u) log ≡ 0 → counted (stores_by u) log ≡ 0
   stores_none [] run h = refl
   stores_none (Begins e ∷ log) run h = stores_none log run.0 h
-  stores_none (Then (Does who (Store n x)) ∷ log) run h =
+  stores_none (Then (Does who (OfTopic n (Store x))) ∷ log) run h =
       let h' : counted (start_of u) log + 0 ≡ 0 = h in
       let none : counted (start_of u) log ≡ 0 = omega (arith, h') in
       let k : counted (stores_by u) log ≡ 0 = stores_none log run.0 none in
       elim (cases_Bool (is_same (Call u) who)) [
         | inl e ↦
-            (let r : IsRun o (Then (Does (Call u) (Store n x)) ∷ log) = subst (λ w. IsRun o (Then (Does w (Store n x)) ∷ log)) (sym (same_is (Call u) who e)) run in
-            let begun : 1 ≤ counted (start_of u) log = acts_begun o log u (Store n x) r in
+            (let r : IsRun o (Then (Does (Call u) (OfTopic n (Store x))) ∷ log) =
+            subst (λ w. IsRun o (Then (Does w (OfTopic n (Store x))) ∷ log)) (sym (same_is (Call u) who e)) run in
+            let begun : 1 ≤ counted (start_of u) log = acts_begun o log u (OfTopic n (Store x)) r in
             absurd (let no : ⊥ = omega (arith, begun, none) in no))
-        | inr e ↦ (let z : stores_by u (Does who (Store n x)) ≡ 0 = ap (λ b. cond b 1 0) e in omega (arith, z, k))
+        | inr e ↦ (let z : stores_by u (Does who (OfTopic n (Store x))) ≡ 0 = ap (λ b. cond b 1 0) e in omega (arith, z, k))
       ]
   stores_none (Then a ∷ log) run h =
       let s : ℕ = start_of u a in
@@ -411,14 +413,14 @@ module _ (o : Options) (u : ℕ) where
       kept (Then a) log m k = k
       kept (Begins e) log m k = k
 
-  deed_counted : (n : ℕ) (x : EntryValues) (log : List Entry) → In (Acted (Store n x)) (deeds (Call u) log) → 1 ≤ counted (stores_by u) log
+  deed_counted : (n : ℕ) (x : EntryValues) (log : List Entry) → In (Acted (OfTopic n (Store x))) (deeds (Call u) log) → 1 ≤ counted (stores_by u) log
   deed_counted n x [] i = absurd i
   deed_counted n x (Begins e ∷ log) i = deed_counted n x log i
   deed_counted n x (Then (Starts who p) ∷ log) i = elim (cases_Bool (is_same (Call u) who)) [
-    | inl e ↦ (let none : In (Acted (Store n x)) [] = rw e at i in absurd none)
+    | inl e ↦ (let none : In (Acted (OfTopic n (Store x))) [] = rw e at i in absurd none)
     | inr e ↦ (let k : 1 ≤ counted (stores_by u) log = deed_counted n x log (rw e at i) in omega (arith, k))
   ]
-  deed_counted n x (Then (Does who a) ∷ log) i = elim (in_append (Acted (Store n x)) (deeds (Call u) log) (deed_of (Call u) (Does who a)) i) [
+  deed_counted n x (Then (Does who a) ∷ log) i = elim (in_append (Acted (OfTopic n (Store x))) (deeds (Call u) log) (deed_of (Call u) (Does who a)) i) [
     | inl j ↦
         (let k : 1 ≤ counted (stores_by u) log = deed_counted n x log j in
         let s : ℕ = stores_by u (Does who a) in
@@ -427,23 +429,24 @@ module _ (o : Options) (u : ℕ) where
     | inr j ↦ by (is_same (Call u) who) refl j
   ]
     where
-      by : (b : Bool) → is_same (Call u) who ≡ b → In (Acted (Store n x)) (cond b (Acted a ∷ []) []) → 1 ≤ counted (stores_by u) log + stores_by u (Does who a)
+      by : (b : Bool) → is_same (Call u) who ≡ b → In (Acted (OfTopic n (Store x))) (cond b (Acted a ∷ []) []) →
+          1 ≤ counted (stores_by u) log + stores_by u (Does who a)
       by true e (inl same) =
-          let d : Store n x ≡ a = cc in
+          let d : OfTopic n (Store x) ≡ a = cc in
           let one : stores_by u (Does who a) ≡ 1 = ap (λ y. stores_by u (Does who y)) (sym d) ∙ ap (λ b. cond b 1 0) e in
           omega (arith, one)
       by true e (inr none) = absurd none
       by false e none = absurd none
-  deed_counted n x (Then (Answers who v) ∷ log) i = elim (in_append (Acted (Store n x)) (deeds (Call u) log) (deed_of (Call u) (Answers who v)) i) [
+  deed_counted n x (Then (Answers who v) ∷ log) i = elim (in_append (Acted (OfTopic n (Store x))) (deeds (Call u) log) (deed_of (Call u) (Answers who v)) i) [
     | inl j ↦ (let k : 1 ≤ counted (stores_by u) log = deed_counted n x log j in omega (arith, k))
     | inr j ↦ absurd (no_deed (is_same (Call u) who) j)
   ]
     where
-      no_deed : (b : Bool) → In (Acted (Store n x)) (cond b (Answered v ∷ []) []) → ⊥
+      no_deed : (b : Bool) → In (Acted (OfTopic n (Store x))) (cond b (Answered v ∷ []) []) → ⊥
       no_deed true (inl e) = absurd cc
       no_deed true (inr none) = none
       no_deed false none = none
-  deed_counted n x (Then a ∷ log) i = elim (in_append (Acted (Store n x)) (deeds (Call u) log) [] i) [
+  deed_counted n x (Then a ∷ log) i = elim (in_append (Acted (OfTopic n (Store x))) (deeds (Call u) log) [] i) [
     | inl j ↦
         (let k : 1 ≤ counted (stores_by u) log = deed_counted n x log j in
         let s : ℕ = stores_by u a in
@@ -457,11 +460,11 @@ module _ (o : Options) (u : ℕ) where
   stored_is log run rests (n, share, x, h) =
       let d : deeds (Call u) log ≡ course (begins (procedure.Store n share x)) (outcomes (Call u) log) =
       plans_follow_lem o log (Call u) (procedure.Store n share x) run rests h in
-      let i : In (Acted (Store n x)) (deeds (Call u) log) = subst (In (Acted (Store n x))) (sym d) (begins_so (outcomes (Call u) log)) in
+      let i : In (Acted (OfTopic n (Store x))) (deeds (Call u) log) = subst (In (Acted (OfTopic n (Store x)))) (sym d) (begins_so (outcomes (Call u) log)) in
       let k : 1 ≤ counted (stores_by u) log = deed_counted n x log i in
       omega (arith, k)
     where
-      begins_so : (os : List Outcome) → In (Acted (Store n x)) (course (begins (procedure.Store n share x)) os)
+      begins_so : (os : List Outcome) → In (Acted (OfTopic n (Store x))) (course (begins (procedure.Store n share x)) os)
       begins_so [] = inl refl
       begins_so (y ∷ os) = inl refl
 

@@ -1,6 +1,6 @@
 -- A call that stores its message does nothing else, and so it is told only what becomes of its message, or that the client is stopped.
 use Rattle.std.proofs.Common.{◌≡◌, ◌⊎◌, inl, inr, ◌∙◌, sym, ap, subst, ℕ, ◌+◌, ◌≤◌, ◌<◌, arith, List, [], ◌∷◌, refl, Bool, true, false, Option, Some, None, Result, Ok, Err}
-use Rattle.pulsar_laws.proofs.ActWords.{Act, Action, Call, Consumer, Does, is_same, Notice, Outcome, Procedure, Producer, Rest, Share, Starts, Store, Tell, TellAll, Told, Verdict, Who}
+use Rattle.pulsar_laws.proofs.ActWords.{Act, Action, Call, Consumer, Does, Notice, OfTopic, Outcome, Procedure, Producer, Rest, Share, Starts, Store, Tell, TellAll, Told, Verdict, Who, is_same}
 use Rattle.pulsar_laws.proofs.PlanWords.{begins, fails, Gives, News, Plan, Stays, Stored, Storing, told, Turn}
 use Rattle.pulsar_laws.proofs.RunWords.{agenda, Answered, Begins, Cause, counted, Entry, first, InThisStep, IsRun, notice, Options, start_of, started, stays, Then, View, view}
 use Rattle.pulsar_laws.proofs.LinkWords.{Failure}
@@ -39,7 +39,7 @@ use Rattle.pulsar_laws.proofs.calls.Begun.{has_begun}
 -- WHERE IT STANDS: its message is stored next, or it is told so next, or it waits
 
 abbrev Due : (number ticket : ℕ) → EntryValues → List Act → Type 0
-Due n t x now = (xs : List Act) × ((now ≡ Does (Call t) (Store n x) ∷ xs) ⊎ (now ≡ Told (notice (Call t) (outcome.Granted news.Done)) ∷ xs))
+Due n t x now = (xs : List Act) × ((now ≡ Does (Call t) (OfTopic n (Store x)) ∷ xs) ⊎ (now ≡ Told (notice (Call t) (outcome.Granted news.Done)) ∷ xs))
 
 abbrev NextSo : (number ticket : ℕ) → EntryValues → Option Plan → List Act → Type 0
 NextSo n t x None now = Unit {0}
@@ -78,8 +78,8 @@ module _ (o : Options) (t n : ℕ) (share : Option Share) (x : EntryValues) wher
   Stands row log = NextSo n t x row (agenda o log).now
 
   next_so : (log : List Entry) (a : Act) → first (agenda o log) ≡ Some a → Due n t x (agenda o log).now →
-      (a ≡ Does (Call t) (Store n x)) ⊎ (a ≡ Told (notice (Call t) (outcome.Granted news.Done)))
-  next_so log a fits (xs, inl e) = inl (sym (fits_first o log (Does (Call t) (Store n x)) a xs e fits))
+      (a ≡ Does (Call t) (OfTopic n (Store x))) ⊎ (a ≡ Told (notice (Call t) (outcome.Granted news.Done)))
+  next_so log a fits (xs, inl e) = inl (sym (fits_first o log (Does (Call t) (OfTopic n (Store x))) a xs e fits))
   next_so log a fits (xs, inr e) = inr (sym (fits_first o log (Told (notice (Call t) (outcome.Granted news.Done))) a xs e fits))
 
   -- nothing else comes between
@@ -99,7 +99,7 @@ module _ (o : Options) (t n : ℕ) (share : Option Share) (x : EntryValues) wher
 
   begun_row : (log : List Entry) (e : _) → first (agenda o log) ≡ None → (row : Option Plan) → Stands row log → Stands row (Begins e ∷ log)
   begun_row log e rests None k = tt
-  begun_row log e rests (Some (Storing s)) (xs, inl f) = absurd (none_first o log (Does (Call t) (Store n x)) xs f rests)
+  begun_row log e rests (Some (Storing s)) (xs, inl f) = absurd (none_first o log (Does (Call t) (OfTopic n (Store x))) xs f rests)
   begun_row log e rests (Some (Storing s)) (xs, inr f) = absurd (none_first o log (Told (notice (Call t) (outcome.Granted news.Done))) xs f rests)
   begun_row log e rests (Some Stored) k = tt
   begun_row log e rests (Some _) k = absurd k
@@ -172,7 +172,7 @@ module _ (o : Options) (t n : ℕ) (share : Option Share) (x : EntryValues) wher
 idle_done : (y : News) (a : Action) (v : View) → is_idle a ≡ true → GrantsSo y a v → y ≡ news.Done
 idle_done news.Done a v k h = refl
 idle_done y Rest v k h = absurd h
-idle_done y (Store n x) v k h = absurd h
+idle_done y (OfTopic n (Store x)) v k h = absurd h
 idle_done y (Tell m) v k h = absurd h
 idle_done y _ v k h = absurd cc
 

@@ -6,10 +6,10 @@ use Rattle.std.proofs.lemmas.Bool.{cases_Bool, eqb-true}
 use Rattle.std.proofs.lemmas.Bool.Decides.{nat_tests}
 use Rattle.std.specs.List.{filter_map, flat_map}
 use Rattle.std.specs.Option.{option_map, is_some}
-use Rattle.pulsar_laws.proofs.ActWords.{Act, Alarm, Answers, Ask, Asked, Batch, below, Bytes, Call, Calls, CheckIdle, Comes, Dials, Does, Drains, Ends, Get, Heard, is_same, KeepAlive, lacks_tickets, LinkAct, Makes, next_advice, Nothing, Notice, numbers_from, opens, Opens, Outcome, Part, Pings, Polls, Procedure, Reads, Refusal, Retry, Rings, shares, Starts, StopAll, Stops, TakeBatch, Tell, TellAll, Told, ToLink, Wake, Who}
-use Rattle.pulsar_laws.proofs.PlanWords.{fails, Plan, verdict, Ways}
-use Rattle.pulsar_laws.proofs.RunWords.{after, agenda, Agenda, arranged, asks_raw, asks_topics, at_once, Begins, begun, begun_live, begun_same, builds_with, called, causes, checks, Chosen, closes, consumers_after, consumers_made, Each, each_append, each_either, each_flat, each_map, Entry, first, first_case, first_of, flushes, follows_some, from_base, gathers, In, is_live, IsRun, joins, left_with, link_got, live_begun, lost_on, may_call, none_now, notice, Options, over_each, parts_of, procedure_for, producers_made, producers_rung, produces, rest, rest_of, rules, searches, sends, shares_unless, starts, stays_some, stopped_on, tells, Then, Tickets, told_some, turned_by, unless_refused, view, View, ways_of, why_no_sends}
-use Rattle.pulsar_laws.proofs.LinkWords.{address_key, Addresses, arrival_at, Base, closing, Exhausted, got_at, Nobody, over_links, Pause, Pauses, Place, rings, Runs, Seat, Series, Serves, stop_act, tells_asker, took_some}
+use Rattle.pulsar_laws.proofs.ActWords.{Act, Action, Alarm, Answers, Ask, Asked, Batch, below, Bytes, Call, CallRefusal, Calls, CheckIdle, Comes, Dials, Does, Drains, Ends, FindConsumer, Get, Heard, is_same, KeepAlive, lacks_tickets, LinkAct, Makes, next_advice, Nothing, Notice, numbers_from, OfTopic, Opens, opens, Outcome, Part, Pings, Polls, Procedure, Reads, Retry, Rings, shares, Starts, StopAll, Stops, TakeBatch, Tell, TellAll, Told, ToLink, Wait, Wake, Who}
+use Rattle.pulsar_laws.proofs.PlanWords.{Batching, fails, Plan, verdict, Ways}
+use Rattle.pulsar_laws.proofs.RunWords.{after, agenda, Agenda, arranged, asks_raw, asks_topics, at_once, Begins, begun, begun_live, begun_same, builds_with, called, causes, checks, Chosen, closes, consumers_after, consumers_made, Each, each_append, each_either, each_flat, each_map, Entry, first, first_case, first_of, flushes, follows_some, from_base, gathers, In, is_live, IsRun, joins, left_with, link_got, live_begun, lost_on, may_call, none_now, notice, Options, over_each, parts_of, procedure_for, produces, rest, rest_of, rules, searches, sends, shares_unless, starts, stays_some, stopped_on, tells, Then, Tickets, told_some, turned_by, unless_refused, view, View, ways_of, why_no_sends}
+use Rattle.pulsar_laws.proofs.LinkWords.{address_key, Addresses, arrival_at, Base, closing, Exhausted, got_at, Nobody, over_links, Pause, Pauses, Place, Reply, rings, Runs, Seat, Series, Serves, stop_act, tells_asker, took_some}
 use Rattle.pulsar_session.specs.Link.{ends}
 use Rattle.pulsar_calls.specs.declared.act.Makes.TheVariants.{Client, Consumer, Producer, RawConsumer}
 use Rattle.pulsar_links.specs.Alarms.{clear}
@@ -20,23 +20,25 @@ use Rattle.pulsar_links.specs.Links.{line_places}
 use Rattle.pulsar_acts.specs.Rules.{failed_on, stopped_with, waiters_of, stopped_one}
 use Rattle.pulsar_links.specs.LinkRules.{dropped, ended_on, failed_at, failed_over, lost, on_link, stopped_at}
 use Rattle.pulsar_producer_table.specs.Notices.{stopped_all, stopped_call}
-use Rattle.pulsar_acts.specs.View.{alarms_after, alarms_built, alarms_on, alarms_over, builds, calls_after, live_after, pause_after, pause_of, pause_on, pause_rung, producers_after, stand_after}
+use Rattle.pulsar_acts.specs.View.{alarms_after, alarms_built, alarms_on, alarms_over, builds, calls_after, live_after, pause_after, pause_of, pause_on, pause_rung, producers_after, stand_after, topic_of, building_of}
 use Rattle.pulsar_links.specs.Seats.{Links, pause_put}
 use Rattle.pulsar_producer_table.specs.declared.table.Topic.{Topic}
 use Rattle.pulsar_outgoing.specs.Storage.{Item}
-use Rattle.pulsar_producer.specs.Topic.{Halts, Seen, TakesBatch, left_of, next_of}
+use Rattle.pulsar_producer.specs.Topic.{Act as Act', Halts, Seen, TakesBatch, left_of, next_of}
 use Rattle.pulsar_outgoing.specs.declared.news.News.TheVariants as news
 use Rattle.pulsar_messages.specs.Content.{ProducerMessageValues}
-use Rattle.pulsar_producer_table.specs.Producers.{Producers, called_on, changed, next_batch_at, topic_after, unsent, waiting, why_not}
-use Rattle.pulsar_calls.specs.declared.act.Refusal.TheVariants as refusal
+use Rattle.pulsar_producer_table.specs.Producers.{Producers, next_batch_at, topic_after, unsent, waiting, why_not}
+use Rattle.pulsar_calls.specs.declared.act.CallRefusal.TheVariants as refusal
+use Rattle.pulsar_producer.specs.declared.batching.Batching.TheVariants as batching
 use Rattle.pulsar_calls.specs.declared.act.Outcome.TheVariants as outcome
 use Rattle.pulsar_calls.specs.declared.act.Procedure.TheVariants as procedure
-use Rattle.pulsar_searches.specs.declared.plan.Procedure.TheVariants as sought
+use Rattle.pulsar_searches.specs.declared.plan.Sought.TheVariants as sought
 use Rattle.pulsar_calls.specs.Content as content
 use Rattle.pulsar_laws.proofs.calls.Asked.{stop_clear}
 use Rattle.pulsar_laws.proofs.links.Attempts.{is_dial}
 use Rattle.pulsar_laws.proofs.producers.Keepers.{Keeps, RowSo, batch_keeps, ends_settled, settled_some}
 use Rattle.pulsar_laws.proofs.plans.Spots.{calm_stop, same_self, same_who, spot_of}
+use Rattle.pulsar_laws.proofs.calls.Whereabouts.{goes_nowhere}
 use Rattle.pulsar_laws.proofs.plans.LastWords.{AreLast, batch_fine, batch_some, batch_told, calm_fine, each_last, ends_fine, ends_some, is_fine, is_last_word, is_leaving, IsLast, IsLastNotice, IsLate, IsParting, last_append, last_rest, last_some, left_fine, left_some, makes_nothing, settling_told, some_fine, taking_told}
 use Rattle.pulsar_consumer_table.specs.Notices.{heard_at, lost_at}
 use Rattle.pulsar_acts.specs.Reading.{acknowledges, leaves, made_due, subscribes}
@@ -47,6 +49,8 @@ use Rattle.pulsar_consumer_table.specs.Consumers as consumer
 use Rattle.pulsar_consumer.specs.Topic as reader
 use Rattle.pulsar_calls.specs.declared.act.Arrival.TheVariants as arrivals
 use Rattle.pulsar_messages.specs.Words as words
+use Rattle.pulsar_run.specs.Things.{row_by, row_after}
+use Rattle.pulsar_laws.specs.ProducerLaws.{rung_by, topic_acts}
 
 -- LISTS
 
@@ -136,7 +140,7 @@ last_call o c cs ps advice (content.CloseConsumer t) who h = refused_unless who 
 last_call o c cs ps advice (content.Raw l request) who h = refused_unless who (may_call c) (asks_raw cs ps l request) (not_open c h)
 
 -- and has no parts
-last_shares : (why : Option Refusal) (v : View) (advice : List (Option ℕ)) (t : ℕ) (ms : List ProducerMessageValues) → is_some why ≡ true →
+last_shares : (why : Option CallRefusal) (v : View) (advice : List (Option ℕ)) (t : ℕ) (ms : List ProducerMessageValues) → is_some why ≡ true →
     Each IsLast (shares_unless why v advice t ms)
 last_shares (Some r) v advice t ms h = tt
 last_shares None v advice t ms h = absurd cc
@@ -237,7 +241,7 @@ none_built b (Producer building) is = absurd cc
 
 -- WHERE THE CLIENT IS STOPPED
 
-record Over (o : Options) (log : List Entry) : Type 0 where
+pub record Over (o : Options) (log : List Entry) : Type 0 where
   now : AreLast (view o log).stand (agenda o log).now
   here : Each (IsLate (view o log).stand) (agenda o log).here
   behind : Each (Each (IsLate (view o log).stand)) (agenda o log).behind
@@ -246,7 +250,7 @@ record Over (o : Options) (log : List Entry) : Type 0 where
   is_stopped : (view o log).calls.is_stopped ≡ true
   fine : (w : Who) → is_fine ((view o log).stand w) ≡ true
   bare : (m : ℕ) → next_batch_at ((view o log).producers.topics m) ≡ None
-  gone : (t : ℕ) → Gone ((view o log).consumers.rows t)
+  pub gone : (t : ℕ) → Gone ((view o log).consumers.rows t)
   links : (l : ℕ) → ((view o log).links.live l ≡ None) ⊎ In (Comes (ToLink l (Ends Stops))) (agenda o log).now
 
 -- a part that comes, where nothing else is left at once
@@ -293,9 +297,9 @@ bare_taken : (row : Option Topic) → next_batch_at row ≡ None → next_batch_
 bare_taken None h = refl
 bare_taken (Some t) h = bare_left t.seen.cut t.seen h h
 
-bare_changed : (n m : ℕ) (ps : Producers) → next_batch_at (ps.topics m) ≡ None → next_batch_at ((changed n TakesBatch ps).topics m) ≡ None
-bare_changed n m ps h = elim (m == n) as (λ b. next_batch_at (cond b (option_map (topic_after TakesBatch) (ps.topics m)) (ps.topics m)) ≡ None) [
-  | true ↦ bare_taken (ps.topics m) h
+bare_changed : (n m : ℕ) (row : Option Topic) → next_batch_at row ≡ None → next_batch_at (row_by topic_after (cond (m == n) (TakesBatch ∷ []) []) row) ≡ None
+bare_changed n m row h = elim (m == n) as (λ b. next_batch_at (row_by topic_after (cond b (TakesBatch ∷ []) []) row) ≡ None) [
+  | true ↦ bare_taken row h
   | false ↦ h
 ]
 
@@ -303,9 +307,9 @@ bare_halted : (row : Option Topic) → next_batch_at (option_map (topic_after Ha
 bare_halted None = refl
 bare_halted (Some t) = refl
 
-made_none : (o : Chosen) (who : Who) (m : Makes) (ps : Producers) → makes_nothing m ≡ true → producers_made o who m ps ≡ ps
-made_none o who Nothing ps h = refl
-made_none o who m ps h = absurd cc
+made_none : (o : Chosen) (who : Who) (m : Makes) (n : ℕ) → makes_nothing m ≡ true → topic_of (building_of m) who o n ≡ None
+made_none o who Nothing n h = refl
+made_none o who m n h = absurd cc
 
 none_made : (live : ℕ → Option Seat) (who : Who) (m : Makes) (cs : Consumers) → makes_nothing m ≡ true → consumers_made live who m cs ≡ cs
 none_made live who Nothing cs h = refl
@@ -315,9 +319,13 @@ none_due_made : (live : ℕ → Option Seat) (who : Who) (m : Makes) → makes_n
 none_due_made live who Nothing h = refl
 none_due_made live who m h = absurd cc
 
-none_rung : (a : Alarm) (ps : Producers) → producers_rung false a ps ≡ ps
-none_rung (Batch n) ps = refl
-none_rung _ ps = refl
+none_rung : (v : View) (m : ℕ) (a : Alarm) → rings v.now a v.alarms ≡ false → topic_acts v m (Comes (Rings a)) ≡ []
+none_rung v m (Batch n) e = ap (λ b. cond (m == n) (rung_by b) []) e ∙ none_either (m == n)
+  where
+    none_either : (b : Bool) → ◌≡◌ {A = List Act'} (cond b [] []) []
+    none_either true = refl
+    none_either false = refl
+none_rung v m _ e = refl
 
 module _ (o : Options) (log : List Entry) (run : IsRun o log) (k : Over o log) where
   abbrev v : View
@@ -409,10 +417,10 @@ module _ (o : Options) (log : List Entry) (run : IsRun o log) (k : Over o log) w
   of_told : (n : Notice) (w : Who) (test : Option Plan → Bool) → test (v.stand n.who) ≡ true → w ≡ n.who → test (v.stand w) ≡ true
   of_told n w test h e = ap (λ x. test (v.stand x)) e ∙ h
 
-  refused_fine : (who w : Who) (r : Refusal) → is_fine (stand_after (Starts who (procedure.Refuse r)) w (v.stand w)) ≡ true
+  refused_fine : (who w : Who) (r : CallRefusal) → is_fine (stand_after (Starts who (procedure.Refuse r)) w (v.stand w)) ≡ true
   refused_fine who w r = elim (is_same w who) as (λ b. is_fine (cond b None (v.stand w)) ≡ true) [ true ↦ refl | false ↦ k.fine w ]
 
-  refused_ends : (who : Who) (r : Refusal) → StaysEnding (Starts who (procedure.Refuse r))
+  refused_ends : (who : Who) (r : CallRefusal) → StaysEnding (Starts who (procedure.Refuse r))
   refused_ends who r w h = elim (is_same w who) as (λ b. ends_settled (cond b None (v.stand w)) ≡ true) [ true ↦ refl | false ↦ h ]
 
   -- how each who waits for a batch stands
@@ -442,7 +450,7 @@ module _ (o : Options) (log : List Entry) (run : IsRun o log) (k : Over o log) w
       (each_last v.stand (left_with (ways_of v.chosen) who verdict.makes) (none_left (ways_of v.chosen) who verdict.makes is))
       (rw (none_due_made v.links.live who verdict.makes is) tt) tt (λ l. refl)
       (ap (λ b. alarms_built v.now b v.alarms) (none_built (not v.calls.is_built) verdict.makes is) ∙ k.alarms) k.fine
-      (λ m. ap (λ ps. next_batch_at (ps.topics m)) (made_none v.chosen who verdict.makes v.producers is) ∙ k.bare m)
+      (λ m. ap (λ r. next_batch_at (row_after topic_after r false [] (v.producers.topics m))) (made_none v.chosen who verdict.makes m is) ∙ k.bare m)
       (λ t. subst Gone
       (sym (ap (λ f. f t) (left_rows who (consumers_made v.links.live who verdict.makes v.consumers))
       ∙ ap (λ cs. cs.rows t) (none_made v.links.live who verdict.makes v.consumers is))) (k.gone t))
@@ -476,11 +484,11 @@ module _ (o : Options) (log : List Entry) (run : IsRun o log) (k : Over o log) w
   parts_on (Does who (TellAll ns)) fits is =
       goes_over (Does who (TellAll ns)) fits refl (λ w h. h) (inr (inr (inl (settling_told (v.stand who) is.1))), tt) is.0 tt (λ l. refl) k.alarms k.fine
       k.bare k.gone (λ l e. absurd cc)
-  parts_on (Does who (TakeBatch m)) fits is =
+  parts_on (Does who (OfTopic m TakeBatch)) fits is =
       let none : batch_told (v.stand who) (outcome.Granted (news.HasBatch (next_batch_at (v.producers.topics m)))) ≡ true =
       ap (λ r. batch_told (v.stand who) (outcome.Granted (news.HasBatch r))) (k.bare m) ∙ taking_told (v.stand who) is in
-      goes_over (Does who (TakeBatch m)) fits refl (λ w h. h) (inr (inr (inl none)), tt) tt tt (λ l. refl) k.alarms k.fine
-      (λ n. bare_changed m n v.producers (k.bare n)) k.gone (λ l e. absurd cc)
+      goes_over (Does who (OfTopic m TakeBatch)) fits refl (λ w h. h) (inr (inr (inl none)), tt) tt tt (λ l. refl) k.alarms k.fine
+      (λ n. bare_changed m n (v.producers.topics n) (k.bare n)) k.gone (λ l e. absurd cc)
   parts_on (Told n) fits is = parts_told n fits is
   parts_on a fits is = absurd is
 
@@ -521,17 +529,11 @@ module _ (o : Options) (log : List Entry) (run : IsRun o log) (k : Over o log) w
   rung_pause b (Retry j) l = same_either (b && (l == j)) None
   rung_pause b _ l = refl
 
-  none_called : (asked : Asked) →
-      cond (lacks_tickets v.calls.drawn (shares asked)) v.producers (called_on (may_call v.calls) asked v.producers) ≡ v.producers
-  none_called asked =
-      ap (λ b. cond (lacks_tickets v.calls.drawn (shares asked)) v.producers (called_on b asked v.producers)) (not_open v.calls k.is_stopped)
-      ∙ same_either (lacks_tickets v.calls.drawn (shares asked)) v.producers
-
   part_on : (p : Part) → first g ≡ Some (Comes p) → g.now ≡ [] → Over o (Then (Comes p) ∷ log)
   part_on (Calls asked advice) fits none =
       goes_over (Comes (Calls asked advice)) fits refl (λ w h. h)
       (each_last v.stand (called v advice asked) (last_called v advice asked k.is_stopped)) tt tt (λ l. refl) k.alarms k.fine
-      (λ m. ap (λ ps. next_batch_at (ps.topics m)) (none_called asked) ∙ k.bare m)
+      k.bare
       (λ t. subst Gone
       (sym (ap (λ f. f t) (called_rows (lacks_tickets v.calls.drawn (shares asked)) (may_call v.calls) asked v.consumers))) (k.gone t))
       (λ l e. absurd cc)
@@ -543,9 +545,7 @@ module _ (o : Options) (log : List Entry) (run : IsRun o log) (k : Over o log) w
   part_on (Rings a) fits none =
       let e = no_alarm a in
       goes_over (Comes (Rings a)) fits refl (λ w h. h) (rw e tt) tt (rw e tt) (λ l. rung_pause (rings v.now a v.alarms) a l) (rw e k.alarms) k.fine
-      (λ m. ap (λ b. next_batch_at ((producers_rung b a v.producers).topics m)) e
-      ∙ ap (λ ps. next_batch_at (ps.topics m)) (none_rung a v.producers)
-      ∙ k.bare m)
+      (λ m. ap (λ es. next_batch_at (row_by topic_after es (v.producers.topics m))) (none_rung v m a e) ∙ k.bare m)
       k.gone (λ l e. absurd cc)
   part_on (Polls t) fits none =
       let clock : ℕ = v.now in
@@ -648,7 +648,7 @@ over_starts o log who run fits =
         inr (in_left (Comes (ToLink l (Ends Stops))) (over_links stop_act ls ++ tells who outcome.Stopped) (rest (agenda o log)).now
         (in_left (Comes (ToLink l (Ends Stops))) (over_links stop_act ls) (tells who outcome.Stopped) (in_over ls l seat e (is_started o log l seat e))))
 
-over_run : (o : Options) (log : List Entry) → IsRun o log → stopped log ≡ true → Over o log
+pub over_run : (o : Options) (log : List Entry) → IsRun o log → stopped log ≡ true → Over o log
 over_run o [] run h = absurd cc
 over_run o (Begins e ∷ log) run h = over_begins o log run.0 (over_run o log run.0 h) e run.1
 over_run o (Then (Does who StopAll) ∷ log) run h = over_starts o log who run.0 run.1
@@ -668,3 +668,42 @@ none_after_stop_lem o log p starter n run = elim (cases_Bool (stopped log)) [
       ])
   | inr e ↦ e
 ]
+
+-- then a plan is told a reply only where it leaves
+pub never_replied : (o : Options) (log : List Entry) (w : Who) (r : Reply) → IsRun o (Then (Told (notice w (outcome.Replied r))) ∷ log) →
+    stopped log ≡ true → is_leaving (spot_of ((view o log).stand w)) ≡ true
+never_replied o log w r run h =
+    let k = over_run o log run.0 h in
+    let g = agenda o log in
+    elim (last_first (view o log).stand g.now g.here g.behind g.parts (Told (notice w (outcome.Replied r))) k.now k.here k.behind run.1) [
+      | inl is ↦ (let f : false ≡ true = is in absurd cc)
+      | inr q ↦ elim q [
+        | inl p ↦ elim p [
+          | inl leaves ↦ leaves
+          | inr x ↦ elim x [ inl b ↦ absurd (none ((view o log).stand w) b) | inr s ↦ (let f : false ≡ true = s.0 in absurd cc) ]
+        ]
+        | inr c ↦ (let f : Told (notice w (outcome.Replied r)) ≡ Comes c.part = c.is_it in absurd cc)
+      ]
+    ]
+  where
+    none : (row : Option Plan) → batch_told row (outcome.Replied r) ≡ true → ⊥
+    none (Some (Batching ways e batching.Settling)) b = absurd cc
+    none (Some (Batching ways e batching.Taking)) b = absurd cc
+    none row b = absurd cc
+
+-- and none asks for anything
+pub never_asks : (o : Options) (log : List Entry) (w : Who) (a : Action) → IsRun o (Then (Does w a) ∷ log) → stopped log ≡ true → goes_nowhere a ≡ true
+never_asks o log w a run h =
+    let k = over_run o log run.0 h in
+    let g = agenda o log in
+    elim (last_first (view o log).stand g.now g.here g.behind g.parts (Does w a) k.now k.here k.behind run.1) [
+      | inl is ↦ (let f : false ≡ true = is in absurd cc)
+      | inr q ↦ elim q [ inl p ↦ by a p | inr c ↦ (let f : Does w a ≡ Comes c.part = c.is_it in absurd cc) ]
+    ]
+  where
+    by : (a : Action) → IsParting (view o log).stand (Does w a) → goes_nowhere a ≡ true
+    by (Get p) left = absurd left
+    by (Ask l request) left = absurd left
+    by (Wait delay) left = absurd left
+    by (FindConsumer t) left = absurd left
+    by _ left = refl

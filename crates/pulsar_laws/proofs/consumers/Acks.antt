@@ -17,7 +17,7 @@ use Rattle.pulsar_calls.specs.declared.act.Arrival.TheVariants as arrival
 use Rattle.pulsar_calls.specs.declared.act.Outcome.TheVariants as outcome
 use Rattle.pulsar_calls.specs.declared.act.Place.TheVariants as place
 use Rattle.pulsar_calls.specs.declared.act.Procedure.TheVariants as procedure
-use Rattle.pulsar_calls.specs.declared.act.Refusal.TheVariants as refusal
+use Rattle.pulsar_calls.specs.declared.act.CallRefusal.TheVariants as refusal
 use Rattle.pulsar_calls.specs.declared.act.Word.TheVariants as word
 use Rattle.pulsar_calls.specs.Content as content
 use Rattle.pulsar_consumer_table.specs.Consumers as consumer
@@ -43,7 +43,7 @@ use Rattle.pulsar_calls.specs.declared.act.Says.{Says}
 use Rattle.pulsar_calls.specs.declared.act.Says.TheVariants as says
 use Rattle.std.specs.Prelude.{not}
 use Rattle.std.specs.Option.{is_some}
-use Rattle.pulsar_laws.proofs.ActWords.{Act, Action, Answers, Arrival, Ask, Asked, Call, Calls, Checks, Comes, Consumer, Does, Flushes, is_same, lacks_tickets, next_advice, Notice, Outcome, Procedure, Producer, Recall, RecallConsumer, Refusal, Share, shares, Starts, ticket_of, Told, Who, Word}
+use Rattle.pulsar_laws.proofs.ActWords.{Act, Action, Answers, Arrival, Ask, Asked, Call, Calls, Checks, Comes, Consumer, Does, Flushes, Notice, OfTopic, Outcome, Procedure, Producer, Recall, RecallConsumer, CallRefusal, Share, Starts, Told, Who, Word, is_same, lacks_tickets, next_advice, shares, ticket_of}
 use Rattle.pulsar_laws.proofs.PlanWords.{begins, Command, Errand, Plan, Sought, Stays, told, Ways}
 use Rattle.pulsar_laws.proofs.RunWords.{agenda, asks_topics, at_once, Begins, builds_with, Cause, Chosen, counted, Each, each_append, each_either, each_first, each_map, each_rest, EndsOnce, Entry, fails_as, flushes_all, from_base, In, InThisStep, is_served, IsRun, may_call, notice, Options, parts_of, procedure_for, produces_from, rest, searches, sends_as, sends_by, share, shares_of, shares_unless, start_of, starts, stores_as, Then, Tickets, unless_refused, view, View, ways_of, why_no_raw, why_no_sends}
 use Rattle.pulsar_laws.proofs.LinkWords.{Fault, is_body, Place, Reply, Words}
@@ -54,7 +54,7 @@ may_begun : (b : Bool) (p : Procedure) → MildBegun p → MildBegun (unless_ref
 may_begun true p h = h
 may_begun false p h = tt
 
-unless_begun : (r : Option Refusal) (p : Procedure) → MildBegun p → MildBegun (unless r p)
+unless_begun : (r : Option CallRefusal) (p : Procedure) → MildBegun p → MildBegun (unless r p)
 unless_begun None p h = h
 unless_begun (Some r) p h = tt
 
@@ -71,7 +71,7 @@ produces_begun w None x = tt
 produces_begun None (Some topic) x = tt
 produces_begun (Some w) (Some topic) x = tt
 
-fails_begun : (s : Option Share) (r : Refusal) → MildBegun (fails_as s r)
+fails_begun : (s : Option Share) (r : CallRefusal) → MildBegun (fails_as s r)
 fails_begun None r = tt
 fails_begun (Some s) r = tt
 
@@ -134,7 +134,7 @@ shares_begun o ps of ticket advised t [] = tt
 shares_begun o ps of ticket advised t (m ∷ ms) =
     (sends_begun (batches_in (ps.built t)) (share of ticket) m (ways_of o) _, shares_begun o (routed t m ps) of (ticket + 1) _ t ms)
 
-unless_shares : (r : Option Refusal) (v : View) (advised : List (Option ℕ)) (t : ℕ) (ms : List ProducerMessageValues) →
+unless_shares : (r : Option CallRefusal) (v : View) (advised : List (Option ℕ)) (t : ℕ) (ms : List ProducerMessageValues) →
     Each IsMildStart (shares_unless r v advised t ms)
 unless_shares None v advised t ms = shares_begun v.chosen v.producers v.calls.drawn (v.calls.drawn + 1) advised t ms
 unless_shares (Some r) v advised t ms = tt
@@ -160,7 +160,7 @@ may_licensed : (v : View) (asked : Asked) (b : Bool) (p : Procedure) → License
 may_licensed v asked true p h = h
 may_licensed v asked false p h = mild_licensed v asked (unless_refused false p) tt
 
-unless_licensed : (v : View) (asked : Asked) (r : Option Refusal) (p : Procedure) → LicensedStart v asked p → LicensedStart v asked (unless r p)
+unless_licensed : (v : View) (asked : Asked) (r : Option CallRefusal) (p : Procedure) → LicensedStart v asked p → LicensedStart v asked (unless r p)
 unless_licensed v asked None p h = h
 unless_licensed v asked (Some r) p h = mild_licensed v asked (procedure.Refuse r) tt
 
@@ -193,7 +193,7 @@ call_licensed v advised (content.Ack t name id cumulative) =
 call_licensed v advised (content.Raw k request) =
     let it : Asked = content.Raw k request in
     let p : Procedure = procedure.Ask (place.Link k) request says.Bodies in
-    let why : Option Refusal = why_no_raw v.consumers v.producers request in
+    let why : Option CallRefusal = why_no_raw v.consumers v.producers request in
     may_licensed v it (may_call v.calls) (unless why p) (unless_licensed v it why p (raw_licensed v k request says.Bodies))
 call_licensed v advised asked =
     mild_licensed v asked (procedure_for v.chosen v.calls v.consumers v.producers advised asked)
@@ -231,7 +231,7 @@ may_direct : (b : Bool) (p : Procedure) → is_direct p ≡ true → MildBegun (
 may_direct true p h = inr h
 may_direct false p h = inl tt
 
-unless_direct : (b : Bool) (r : Option Refusal) (p : Procedure) → is_direct p ≡ true →
+unless_direct : (b : Bool) (r : Option CallRefusal) (p : Procedure) → is_direct p ≡ true →
     MildBegun (unless_refused b (unless r p)) ⊎ (is_direct (unless_refused b (unless r p)) ≡ true)
 unless_direct b None p h = may_direct b p h
 unless_direct b (Some r) p h = inl (may_begun b (procedure.Refuse r) tt)
@@ -273,7 +273,7 @@ once_so v a = each_map (IsRaised a) IsBegun (at_once v a) (λ b. raised_so a b r
 
 -- of commands one is told such
 command_mild : (v : View) (action : Action) (c : Command) → GivenBy v action (news.Recalled c) → IsMildCommand c
-command_mild v (Recall n) c h = at_row (v.producers.topics n) h
+command_mild v (OfTopic n Recall) c h = at_row (v.producers.topics n) h
   where
     by : (t : _) (r : Option producer.Seen) → recalled_by t r ≡ Some c → IsMildCommand c
     by t None h = absurd (none_some h)

@@ -3,9 +3,9 @@ use Rattle.std.proofs.Common.{◌≡◌, ◌∙◌, sym, ap, ℕ, ◌-◌, ◌^�
 use Rattle.std.proofs.lemmas.Bool.Decides.{nat_tests}
 use Rattle.std.specs.List.{filter_map, flat_map}
 use Rattle.std.specs.Option.{option_map, option_to_list}
-use Rattle.pulsar_laws.proofs.ActWords.{Act, Action, Alarm, Answers, Ask, Asked, Call, Calls, CheckIdle, Comes, Dials, Does, Drains, Draw, End, Ends, Get, KeepAlive, LinkAct, Makes, Notice, Opens, Overdue, Part, Pings, Reads, Refusal, Revive, Rings, Shown, Starts, StopAll, ToLink, Who, lacks_tickets, numbers_from, opens, shares, ticket_of}
+use Rattle.pulsar_laws.proofs.ActWords.{Act, Action, Alarm, Answers, Ask, Asked, Call, Calls, CheckIdle, Comes, Dials, Does, Drains, Draw, End, Ends, Get, KeepAlive, LinkAct, Makes, Notice, OfTopic, Opens, Overdue, Part, Pings, Reads, CallRefusal, Revive, Rings, Shown, Starts, StopAll, ToLink, Who, lacks_tickets, numbers_from, opens, shares, ticket_of}
 use Rattle.pulsar_laws.proofs.PlanWords.{fails}
-use Rattle.pulsar_laws.proofs.RunWords.{after, at_once, causes, dialed, draws_on, further, joins, link_got, parts_of, procedure_for, room_of, setup_of, shares_unless, Turned, turned, turned_by, View, why_no_sends}
+use Rattle.pulsar_laws.proofs.RunWords.{after, at_once, causes, dialed, further, joins, link_got, parts_of, procedure_for, room_of, setup_of, shares_unless, Turned, turned, turned_by, View, why_no_sends}
 use Rattle.pulsar_laws.proofs.LinkWords.{address_key, answer_at, arrival_at, closed_by, closed_consumer, closing, ConnectionError, Exhausted, Fault, got_at, is_asked, is_numbered, over_links, place_of, rings, Seat, seat_asked, seat_got, SendPing, stop_act, tells_asker, told_at, took, took_end, took_some, url_at, Words}
 use Rattle.pulsar_messages.specs.Content.{ProducerMessageValues}
 use Rattle.pulsar_wire.specs.declared.error.IoKind.TheVariants as io_kind
@@ -29,10 +29,12 @@ use Rattle.pulsar_links.specs.Links as links
 use Rattle.pulsar_links.specs.Links.{arrives, change_at, change_in, close, is_own_end, line_places, new_places, queues, settled_in, settles, times_out, write}
 use Rattle.pulsar_links.specs.LinkRules.{answered_by, dropped, ended_by, lost_with}
 use Rattle.pulsar_links.specs.Seats.{asker_at, askers_left, got_since, ping_left, room_at, seat_read}
-use Rattle.pulsar_producer_table.specs.Producers.{link_at}
+use Rattle.pulsar_producer_table.specs.Asks.{draw_outcome, drawn_by}
+use Rattle.pulsar_producer_table.specs.Producers.{link_at, topic_after}
+use Rattle.pulsar_run.specs.Things.{row_by}
 use Rattle.pulsar_acts.specs.Effects.{effects, retries_on}
 use Rattle.pulsar_acts.specs.Reading.{made_due, tells}
-use Rattle.pulsar_acts.specs.Rules.{breaks_at, draw_outcome, failed_on, idle_act, keeps_alive, reads_on, served_on, waiters_of}
+use Rattle.pulsar_acts.specs.Rules.{breaks_at, failed_on, idle_act, keeps_alive, reads_on, served_on, waiters_of}
 use Rattle.pulsar_acts.specs.View.{addresses_after, alarms_after, alarms_on, base_on, calls_after, consumers_after, consumers_left, consumers_made, joins_as, live_after, pause_for, pause_on, producers_after, room_on, stand_after, started_after}
 use Rattle.pulsar_consumer.specs.Topic.{of_raw}
 use Rattle.pulsar_consumer_table.specs.Consumers as consumer
@@ -291,7 +293,7 @@ module _ (l : ℕ) (bytes : List ℕ) (v : View) where
   over_same f same = λ i. flat_map
       (λ k. of_row (λ r. flat_map (f k) (option_to_list r)) (λ seat. ap (λ xs. xs ++ []) (same k seat)) k i) (numbers_from 0 v.links.started)
 
-  shares_same : (r : Option Refusal) (advice : List (Option ℕ)) (t : ℕ) (ms : List ProducerMessageValues) →
+  shares_same : (r : Option CallRefusal) (advice : List (Option ℕ)) (t : ℕ) (ms : List ProducerMessageValues) →
       shares_unless r other advice t ms ≡ shares_unless r v advice t ms
   shares_same None advice t ms = refl
   shares_same (Some r) advice t ms = refl
@@ -335,7 +337,7 @@ module _ (l : ℕ) (bytes : List ℕ) (v : View) where
         more = [];
         shown = queues k seat.seen (asks_same bytes v.now request seat.seen i);
       }) k
-  does_ruled who (Draw n) =
+  does_ruled who (OfTopic n Draw) =
       λ i. record { once = tells who (draw_outcome (room_same n i) (v.producers.topics n)); joined = []; caused = []; more = []; shown = [] }
   does_ruled who (Revive k) =
       λ i. record {
@@ -508,8 +510,9 @@ module _ (l : ℕ) (bytes : List ℕ) (v : View) where
       (ap (λ a. consumer.all_changed (consumer.closes (closed_consumer request) k (is_asked a)) v.consumers) (answer_same l bytes v k request)) refl
   after_same (Does who (Get p)) h =
       after_by l bytes bytes v (Does who (Get p)) (got_rows (link_got v.addresses (Does who (Get p)))) refl refl refl refl
-  after_same (Does who (Draw n)) h =
-      after_by l bytes bytes v (Does who (Draw n)) (λ k. refl) refl refl refl (ap (λ r. draws_on r n v.producers) (room_same l bytes v n))
+  after_same (Does who (OfTopic n Draw)) h =
+      after_by l bytes bytes v (Does who (OfTopic n Draw)) (λ k. refl) refl refl refl
+      (λ i. record v.producers { topics = λ m. row_by topic_after (cond (m == n) (drawn_by (room_same l bytes v n i)) []) (v.producers.topics m) })
   after_same (Does who (Revive k)) h =
       after_by l bytes bytes v (Does who (Revive k)) (λ j. refl) refl refl
       (ap (λ url. consumer.changed (ticket_of who) (consumer.revived k url) v.consumers) (url_same l bytes v k)) refl

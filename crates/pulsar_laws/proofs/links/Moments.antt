@@ -7,7 +7,7 @@ use Rattle.std.specs.List.{list_any}
 use Rattle.std.specs.Ordering.{is_eq, match_ordering}
 use Rattle.std.specs.declared.cmp.Ordering.{Ordering}
 use Rattle.std.specs.declared.cmp.Ordering.TheVariants.{Less, Equal, Greater}
-use Rattle.pulsar_laws.proofs.ActWords.{Act, Alarm, Answers, Batch, CheckIdle, Comes, Does, Flush, KeepAlive, Retry, Rings, Shut, StopAll, Store, ToLink, turn_of, Wait, Wake}
+use Rattle.pulsar_laws.proofs.ActWords.{Act, Alarm, Answers, Batch, CheckIdle, Comes, Does, Flush, KeepAlive, OfTopic, Retry, Rings, Shut, StopAll, Store, ToLink, turn_of, Wait, Wake}
 use Rattle.pulsar_laws.proofs.RunWords.{Begins, begun_same, Chosen, Then, Turned, turned, view, View}
 use Rattle.pulsar_laws.proofs.LinkWords.{Becomes, Change, IsOver, Pause, Remains, rings}
 use Rattle.pulsar_producer.specs.Topic as topic
@@ -132,10 +132,10 @@ after_moment : (v : View) (act : Act) (a : Alarm) → moment_of a (alarms_after 
 after_moment v (Comes (ToLink l x)) a = on_moment v.now a v.alarms v.chosen (turned v (Comes (ToLink l x)))
 after_moment v (Comes (Rings b)) a = rung_moment v.now a v.alarms v.chosen b (rings v.now b v.alarms)
 after_moment v (Does who (Wait delay)) a = set_moment a (Wake who) (later v.now delay) v.alarms
-after_moment v (Does who (Store n x)) a =
+after_moment v (Does who (OfTopic n (Store x))) a =
     let row : Option Topic = v.producers.topics n in
     waiting_moment v.now a v.alarms (timeout_at v.producers row) n (is_bare row) (is_bare (row_with (topic.Stores (turn_of who) x) row))
-after_moment v (Does who (Flush n)) a =
+after_moment v (Does who (OfTopic n Flush)) a =
     let row : Option Topic = v.producers.topics n in
     waiting_moment v.now a v.alarms (timeout_at v.producers row) n (is_bare row) (is_bare (row_with (topic.Flushes (turn_of who)) row))
 after_moment v (Does who (Shut t)) a = clear_all_moment a (numbers_at (v.producers.built t)) v.alarms

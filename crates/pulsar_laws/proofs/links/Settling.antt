@@ -18,7 +18,7 @@ use Rattle.pulsar_requests.specs.Waits.{Pending, places}
 use Rattle.pulsar_session.specs.Answers.{answers, is}
 use Rattle.pulsar_session.specs.declared.states.Stage.{Stage}
 use Rattle.pulsar_session.specs.declared.states.Stage.TheVariants.{Dialing, Handshaking, Ready, Over}
-use Rattle.pulsar_session.specs.Laws.{Outcome as Fate, Replied, Ended, is_named, told_by, told_in, told_of as told_ever}
+use Rattle.pulsar_session.specs.Laws.{RequestOutcome as Fate, Replied, Ended, is_named, told_by, told_in, told_of as told_ever}
 use Rattle.pulsar_session.specs.Link as session
 use Rattle.pulsar_session.specs.Link.{Act as Act', Asks, Came, Closes, Feeds, Seen, Setup, came, came_by, came_in, ends, for_consumer, frame_at, greeted_by, is_over, settled_by}
 use Rattle.pulsar_session.proofs.Settled.{rising}
@@ -249,7 +249,7 @@ module _ (l place : ℕ) where
       more zs (steps_done rules o log) ∙ ap (λ xs. and_then xs (settled_at l place (steps_done rules o log))) q
       ∙ no_more (settled_at l place (steps_done rules o log)) ∙ so
 
-  live_rises : (o : Options) (log : List Entry) (k : ℕ) (seat : Seat) → (view o log).links.live k ≡ Some seat →
+  pub live_rises : (o : Options) (log : List Entry) (k : ℕ) (seat : Seat) → (view o log).links.live k ≡ Some seat →
       Rises 0 seat.seen.waits.waiting seat.seen.waits.queued
   live_rises o log k seat h =
       let m : Made (dialed_with o k log) (calls_of o k log) seat.seen = alone o log k seat h in

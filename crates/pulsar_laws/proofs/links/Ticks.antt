@@ -8,7 +8,7 @@ use Rattle.std.specs.Option.{option_map, option_to_list}
 use Rattle.std.specs.Ordering.{is_lt, match_ordering, nat_cmp, ordering_then}
 use Rattle.std.specs.declared.cmp.Ordering.{Ordering}
 use Rattle.std.specs.declared.cmp.Ordering.TheVariants.{Less, Equal, Greater}
-use Rattle.pulsar_laws.proofs.ActWords.{Act, Alarm, Answers, Batch, Call, CheckIdle, Comes, Consumer, Does, Ends, Flush, KeepAlive, numbers_from, Overdue, Part, Producer, Retry, Rings, Shut, StopAll, Store, ToLink, turn_of, Wait, Wake}
+use Rattle.pulsar_laws.proofs.ActWords.{Act, Alarm, Answers, Batch, Call, CheckIdle, Comes, Consumer, Does, Ends, Flush, KeepAlive, OfTopic, Overdue, Part, Producer, Retry, Rings, Shut, StopAll, Store, ToLink, Wait, Wake, numbers_from, turn_of}
 use Rattle.pulsar_laws.proofs.RunWords.{Begins, begun_same, Chosen, Each, each_append, each_map, Entry, Options, Then, Turned, turned, view, View}
 use Rattle.pulsar_laws.proofs.LinkWords.{Becomes, Change, IsOver, over_links, Pause, Remains, rings, Seat}
 use Rattle.pulsar_run.specs.Order.{InOrder, NoneBelow}
@@ -257,8 +257,8 @@ sorted_after v (Comes (ToLink l x)) k = sorted_on v.chosen v.now (turned v (Come
 sorted_after v (Comes (Rings a)) k =
     cond_so Sorted (rings v.now a v.alarms) (alarms_rung v.chosen v.now a v.alarms) v.alarms (sorted_rung v.chosen v.now a v.alarms k) k
 sorted_after v (Does who (Wait delay)) k = sorted_set (Wake who) (later v.now delay) v.alarms k
-sorted_after v (Does who (Store n e)) k = sorted_topic v n (topic.Stores (turn_of who) e) k
-sorted_after v (Does who (Flush n)) k = sorted_topic v n (topic.Flushes (turn_of who)) k
+sorted_after v (Does who (OfTopic n (Store e))) k = sorted_topic v n (topic.Stores (turn_of who) e) k
+sorted_after v (Does who (OfTopic n Flush)) k = sorted_topic v n (topic.Flushes (turn_of who)) k
 sorted_after v (Does who (Shut t)) k = sorted_all (numbers_at (v.producers.built t)) v.alarms k
 sorted_after v (Does who StopAll) k = tt
 sorted_after v (Answers who verdict) k =

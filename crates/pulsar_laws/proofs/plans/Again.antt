@@ -19,16 +19,16 @@ use Rattle.pulsar_searches.specs.declared.look.Search.{Search as Question}
 use Rattle.pulsar_searches.specs.declared.making.Making.TheVariants as make
 use Rattle.pulsar_searches.specs.declared.plan.Answer.{Answer}
 use Rattle.pulsar_searches.specs.declared.plan.Answer.TheVariants as answer
-use Rattle.pulsar_searches.specs.declared.plan.Plan.{Plan as Search}
-use Rattle.pulsar_searches.specs.declared.plan.Plan.TheVariants as searching
-use Rattle.pulsar_searches.specs.declared.plan.Procedure.TheVariants as sought
+use Rattle.pulsar_searches.specs.declared.plan.SearchPlan.{SearchPlan as Search}
+use Rattle.pulsar_searches.specs.declared.plan.SearchPlan.TheVariants as searching
+use Rattle.pulsar_searches.specs.declared.plan.Sought.TheVariants as sought
 use Rattle.pulsar_searches.specs.declared.replies.Heard.{Heard}
 use Rattle.pulsar_searches.specs.declared.replies.Pointed.{Pointed}
 use Rattle.pulsar_searches.specs.declared.replies.Pointed.TheVariants.{Redirects, Serves}
 use Rattle.pulsar_searches.specs.declared.retry.Retrying.{Retrying}
 use Rattle.pulsar_searches.specs.declared.retry.Retrying.TheVariants as retry
 use Rattle.pulsar_searches.specs.declared.turn.Action.TheVariants.{Ask, Get, Wait}
-use Rattle.pulsar_searches.specs.declared.turn.Outcome.TheVariants as news
+use Rattle.pulsar_searches.specs.declared.turn.SearchOutcome.TheVariants as news
 use Rattle.pulsar_searches.specs.declared.turn.Turn.TheVariants.{Stays, Gives}
 use Rattle.pulsar_calls.specs.declared.act.Outcome.TheVariants as outcome
 use Rattle.pulsar_calls.specs.declared.act.Procedure.TheVariants as procedure

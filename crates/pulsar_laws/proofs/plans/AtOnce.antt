@@ -1,8 +1,7 @@
 -- What an action gives at once: nothing, or that one is told what came of it, or a dial; and the Stop ends all links. `performs` is walked once, here.
 use Rattle.std.proofs.Common.{◌≡◌, ap, ℕ, List, [], ◌∷◌, ◌++◌, refl, Bool, true, false, cond, Option, Some, None, Result, Ok, Err}
-use Rattle.std.specs.List.{flat_map}
-use Rattle.std.specs.Option.{option_to_list}
-use Rattle.pulsar_laws.proofs.ActWords.{Act, Action, Answers, Ask, Comes, Dials, Does, Draw, Ends, FailConsumer, Find, FindConsumer, Flush, Get, Number, Outcome, PassTurn, Recall, RecallConsumer, Remake, Rest, Revive, Shut, Starts, StopAll, Stops, Store, TakeBatch, TakeFlow, TakeNumber, TakeTurn, Tell, TellAll, ticket_of, Told, ToLink, Wait, Who}
+use Rattle.std.specs.Option.{option_map}
+use Rattle.pulsar_laws.proofs.ActWords.{Act, Action, Answers, Ask, Comes, Dials, Does, Draw, Ends, FailConsumer, Find, FindConsumer, Flush, Get, Hold, Number, OfTopic, Outcome, PassTurn, Recall, RecallConsumer, Remake, Rest, Revive, Shut, Starts, StopAll, Stops, Store, TakeBatch, TakeFlow, TakeNumber, TakeTurn, Tell, TellAll, ToLink, Told, TopicAsk, Wait, Who, ticket_of}
 use Rattle.pulsar_laws.proofs.PlanWords.{Command, Drawn, News}
 use Rattle.pulsar_laws.proofs.RunWords.{Each, each_append, notice, over_each, performs, room_of, tells, View}
 use Rattle.pulsar_laws.proofs.LinkWords.{address_key, answer_at, ConnectionError, is_reachable, Nobody, over_links, Pauses, Place, Runs, Series, Serves, stop_act, told_at, Words}
@@ -12,7 +11,8 @@ use Rattle.pulsar_outgoing.specs.declared.news.News.TheVariants as news
 use Rattle.pulsar_calls.specs.declared.act.Outcome.TheVariants as outcome
 use Rattle.pulsar_producer_table.specs.declared.table.Topic.{Topic}
 use Rattle.pulsar_producer_table.specs.Producers.{drawn, is_settled_at, link_at, next_batch_at, number_drawn, recalled, turn_taken}
-use Rattle.pulsar_acts.specs.Rules.{draw_outcome, draw_said, finds, gets_from, grants, number_said, recalls, takes_turn}
+use Rattle.pulsar_producer_table.specs.Asks.{draw_outcome, draw_said, grants_it, link_said, recall_said, turn_said}
+use Rattle.pulsar_acts.specs.Rules.{gets_from, number_said, says_to}
 use Rattle.pulsar_acts.specs.Reading.{recalled_said, sought_said, numbering_said}
 use Rattle.pulsar_consumer_table.specs.Consumers as consumer
 use Rattle.pulsar_consumer_table.specs.declared.row.Sought.{Sought}
@@ -21,19 +21,26 @@ use Rattle.pulsar_consumer_table.specs.declared.numbers.Numbering.{Numbering}
 use Rattle.pulsar_consumer_table.specs.declared.numbers.Numbering.TheVariants.{Has, InUse, Spent}
 use Rattle.pulsar_client.proofs.Raising.{IsRaised}
 use Rattle.pulsar_laws.proofs.Cases.{cond_so}
+use Rattle.pulsar_acts.specs.View.{asked_of}
+
+-- what a topic producer grants, by what is granted
+abbrev pub TopicGives : View → (number : ℕ) → News → TopicAsk → Type 0
+TopicGives v n (news.HasTurn version) TakeTurn = turn_taken (v.producers.topics n) ≡ Some version
+TopicGives v n (news.Drew d) Draw = (room : Bool) × (room_of v n ≡ Some room) × (drawn room (v.producers.topics n) ≡ Some d)
+TopicGives v n (news.Recalled c) Recall = recalled v.producers n ≡ Some c
+TopicGives v n (news.HasBatch items) TakeBatch = next_batch_at (v.producers.topics n) ≡ items
+TopicGives v n news.Done PassTurn = Unit {0}
+TopicGives v n news.Done (Remake r) = Unit {0}
+TopicGives v n news.Done (Store entry) = Unit {0}
+TopicGives v n news.Done Flush = is_settled_at (v.producers.topics n) ≡ true
+TopicGives v n y ask = ⊥
 
 -- an action grants just this
 abbrev pub GivenBy : View → Action → News → Type 0
-GivenBy v (TakeTurn n) (news.HasTurn version) = turn_taken (v.producers.topics n) ≡ Some version
-GivenBy v (PassTurn n) news.Done = Unit {0}
-GivenBy v (Draw n) (news.Drew d) = (room : Bool) × (room_of v n ≡ Some room) × (drawn room (v.producers.topics n) ≡ Some d)
-GivenBy v (Recall n) (news.Recalled c) = recalled v.producers n ≡ Some c
-GivenBy v (Remake r) news.Done = Unit {0}
+GivenBy v (OfTopic n ask) y = TopicGives v n y ask
 GivenBy v Number (news.Numbered n) = number_drawn v.producers ≡ Some n
+GivenBy v (Hold l n) news.Done = Unit {0}
 GivenBy v (Shut t) news.Done = Unit {0}
-GivenBy v (Store n entry) news.Done = Unit {0}
-GivenBy v (Flush n) news.Done = is_settled_at (v.producers.topics n) ≡ true
-GivenBy v (TakeBatch n) (news.HasBatch items) = next_batch_at (v.producers.topics n) ≡ items
 GivenBy v (Tell n) news.Done = Unit {0}
 GivenBy v (TellAll ns) news.Done = Unit {0}
 GivenBy v action n = ⊥
@@ -69,24 +76,24 @@ module _ (v : View) (who : Who) where
   asks_once l request (Ok (asked.Waiting place)) = says tt refl
   asks_once l request (Err e) = says tt refl
 
-  turns_once : (n : ℕ) (row : Option Topic) → v.producers.topics n ≡ row → AtOnce v who (TakeTurn n) (takes_turn who row)
+  turns_once : (n : ℕ) (row : Option Topic) → v.producers.topics n ≡ row → AtOnce v who (OfTopic n TakeTurn) (says_to who (turn_said row))
   turns_once n None e = says tt refl
   turns_once n (Some t) e = taken_once (turn_taken (Some t)) (ap turn_taken e)
     where
       taken_once : (r : Option (Option (List ℕ))) → turn_taken (v.producers.topics n) ≡ r →
-          AtOnce v who (TakeTurn n) (flat_map (λ version. grants who (news.HasTurn version)) (option_to_list r))
+          AtOnce v who (OfTopic n TakeTurn) (says_to who (option_map (λ version. outcome.Granted (news.HasTurn version)) r))
       taken_once None f = nothing
       taken_once (Some version) f = says f refl
 
-  draws_once : (n : ℕ) (r : Option Bool) → room_of v n ≡ r → AtOnce v who (Draw n) (tells who (draw_outcome r (v.producers.topics n)))
+  draws_once : (n : ℕ) (r : Option Bool) → room_of v n ≡ r → AtOnce v who (OfTopic n Draw) (tells who (draw_outcome r (v.producers.topics n)))
   draws_once n None e = says tt refl
   draws_once n (Some room) e = drawn_once (drawn room (v.producers.topics n)) refl
     where
-      drawn_once : (d : Option Drawn) → drawn room (v.producers.topics n) ≡ d → AtOnce v who (Draw n) (tells who (draw_said d))
+      drawn_once : (d : Option Drawn) → drawn room (v.producers.topics n) ≡ d → AtOnce v who (OfTopic n Draw) (tells who (draw_said d))
       drawn_once None f = says tt refl
       drawn_once (Some d) f = says (room, e, f) refl
 
-  recalls_once : (n : ℕ) (r : Option Command) → recalled v.producers n ≡ r → AtOnce v who (Recall n) (recalls who r)
+  recalls_once : (n : ℕ) (r : Option Command) → recalled v.producers n ≡ r → AtOnce v who (OfTopic n Recall) (says_to who (recall_said r))
   recalls_once n None e = says tt refl
   recalls_once n (Some c) e = says e refl
 
@@ -94,11 +101,11 @@ module _ (v : View) (who : Who) where
   numbers_once None e = says tt refl
   numbers_once (Some n) e = says e refl
 
-  finds_once : (n : ℕ) (r : Option ℕ) → AtOnce v who (Find n) (finds who r)
+  finds_once : (n : ℕ) (r : Option ℕ) → AtOnce v who (OfTopic n Find) (says_to who (link_said r))
   finds_once n None = says tt refl
   finds_once n (Some l) = says tt refl
 
-  flushes_once : (n : ℕ) (b : Bool) → is_settled_at (v.producers.topics n) ≡ b → AtOnce v who (Flush n) (cond b (grants who news.Done) [])
+  flushes_once : (n : ℕ) (b : Bool) → is_settled_at (v.producers.topics n) ≡ b → AtOnce v who (OfTopic n Flush) (says_to who (cond b (grants_it news.Done) None))
   flushes_once n true e = says e refl
   flushes_once n false e = nothing
 
@@ -116,23 +123,27 @@ module _ (v : View) (who : Who) where
   command_once None = says tt refl
   command_once (Some c) = says tt refl
 
+  ask_once : (n : ℕ) (ask : TopicAsk) → AtOnce v who (OfTopic n ask) (says_to who (asked_of v who n ask).says)
+  ask_once n TakeTurn = turns_once n (v.producers.topics n) refl
+  ask_once n PassTurn = says tt refl
+  ask_once n Draw = draws_once n (room_of v n) refl
+  ask_once n Recall = recalls_once n (recalled v.producers n) refl
+  ask_once n (Remake r) = says tt refl
+  ask_once n Find = finds_once n (link_at (v.producers.topics n))
+  ask_once n (Store entry) = says tt refl
+  ask_once n Flush = flushes_once n (is_settled_at (v.producers.topics n)) refl
+  ask_once n TakeBatch = says refl refl
+
   pub performs_once : (action : Action) → AtOnce v who action (performs v who action)
   performs_once (Get p) =
       cond_so (AtOnce v who (Get p)) (is_reachable p) _ _ (gets_once p (v.addresses.base (address_key p)).series) (says tt refl)
   performs_once (Ask l request) = asks_once l request (answer_at v.now request (v.links.live l))
   performs_once StopAll = stops_all
   performs_once (Wait delay) = nothing
-  performs_once (TakeTurn n) = turns_once n (v.producers.topics n) refl
-  performs_once (PassTurn n) = says tt refl
-  performs_once (Draw n) = draws_once n (room_of v n) refl
-  performs_once (Recall n) = recalls_once n (recalled v.producers n) refl
-  performs_once (Remake r) = says tt refl
+  performs_once (OfTopic n ask) = ask_once n ask
   performs_once Number = numbers_once (number_drawn v.producers) refl
-  performs_once (Find n) = finds_once n (link_at (v.producers.topics n))
+  performs_once (Hold l n) = says tt refl
   performs_once (Shut t) = says tt refl
-  performs_once (Store n entry) = says tt refl
-  performs_once (Flush n) = flushes_once n (is_settled_at (v.producers.topics n)) refl
-  performs_once (TakeBatch n) = says refl refl
   performs_once (TakeNumber wanted) = numbering_once wanted (consumer.numbering v.consumers wanted)
   performs_once (FindConsumer t) = sought_once t (consumer.sought (v.consumers.rows t))
   performs_once TakeFlow = says tt refl

@@ -1,6 +1,6 @@
 -- What one step makes of the plan that sends the batches of a topic producer.
 use Rattle.std.proofs.Common.{◌≡◌, ◌⊎◌, inl, inr, sym, ap, subst, ℕ, List, [], ◌∷◌, refl, length, map, Bool, true, false, Some, None, Result, Ok, Err}
-use Rattle.pulsar_laws.proofs.ActWords.{Action, Notice, Outcome, Rest, TakeBatch, TakeTurn, TellAll}
+use Rattle.pulsar_laws.proofs.ActWords.{Action, Notice, OfTopic, Outcome, Rest, TakeBatch, TakeTurn, TellAll}
 use Rattle.pulsar_laws.proofs.PlanWords.{action_of, Batches, batches_on, Batching, Deed, Errand, Fate, Member, News, news_of, overrides, Plan, Sending as Send, told_to, Ways}
 use Rattle.pulsar_laws.proofs.LinkWords.{Failure}
 use Rattle.pulsar_frame.specs.Batch.{EntryValues}
@@ -48,7 +48,7 @@ IsTaking batching.Settling u = Unit {0}
 abbrev pub Writes : Errand → List Member → ℕ → Send → Action → Outcome → Type 0
 Writes e ms c s a u =
     (items : List Item) × (m : ProducerMessageValues) × (u ≡ outcome.Granted (news.HasBatch (Some items))) × (ms ≡ map member_of items)
-    × (c ≡ length (entries_in items)) × (batch_of (entries_in items) ≡ Ok m) × (s ≡ send.Waiting m) × (a ≡ TakeTurn e.producer)
+    × (c ≡ length (entries_in items)) × (batch_of (entries_in items) ≡ Ok m) × (s ≡ send.Waiting m) × (a ≡ OfTopic e.producer TakeTurn)
 
 abbrev pub GoesOn : Ways → Errand → Send → Send → Action → Outcome → Type 0
 GoesOn w e old s a u = (d : Deed) × (produce.send_told w e old (news_of u) ≡ step.Stays s d) × (a ≡ action_of d)
@@ -81,7 +81,7 @@ IsSettling w e a batching.Settling u = ⊥
 
 abbrev pub StepTo : Ways → Errand → Batches → Outcome → Batches → Action → Type 0
 StepTo w e b u batching.Resting a = (a ≡ Rest) × IsRested b u
-StepTo w e b u batching.Taking a = (a ≡ TakeBatch e.producer) × IsTaking b u
+StepTo w e b u batching.Taking a = (a ≡ OfTopic e.producer TakeBatch) × IsTaking b u
 StepTo w e b u (batching.Sending ms c s) a = IsSending w e ms c s a b u
 StepTo w e b u batching.Settling a = IsSettling w e a b u
 
@@ -162,7 +162,7 @@ module _ (w : Ways) (e : Errand) where
 
 -- only where it takes one it takes a batch, and only where it settles one it tells others
 abbrev is_take : Action → Bool
-is_take (TakeBatch n) = true
+is_take (OfTopic n TakeBatch) = true
 is_take _ = false
 
 abbrev is_tell : Action → Bool
@@ -178,24 +178,24 @@ goes_plain : (w : Ways) (e : Errand) (old s : Send) (a : Action) (u : Outcome) �
 goes_plain w e old s a u k =
     subst (λ x. (is_take x ≡ false) × (is_tell x ≡ false)) (sym k.2) (send_plain {w = w} {e = e} {s = old} {y = news_of u} (send_arc k.1))
 
-pub takes_where : (w : Ways) (e : Errand) (b : Batches) (u : Outcome) (q : Batches) (m : ℕ) → StepTo w e b u q (TakeBatch m) →
+pub takes_where : (w : Ways) (e : Errand) (b : Batches) (u : Outcome) (q : Batches) (m : ℕ) → StepTo w e b u q (OfTopic m TakeBatch) →
     (m ≡ e.producer) × (q ≡ batching.Taking) × IsTaking b u
-takes_where w e b u batching.Resting m k = (let f : is_take (TakeBatch m) ≡ false = ap is_take k.0 in absurd cc)
-takes_where w e b u batching.Taking m k = ((let f : TakeBatch m ≡ TakeBatch e.producer = k.0 in cc), refl, k.1)
+takes_where w e b u batching.Resting m k = (let f : is_take (OfTopic m TakeBatch) ≡ false = ap is_take k.0 in absurd cc)
+takes_where w e b u batching.Taking m k = ((let f : OfTopic m TakeBatch ≡ OfTopic e.producer TakeBatch = k.0 in cc), refl, k.1)
 takes_where w e b u (batching.Sending ms c s) m k = absurd (sending b k)
   where
-    sending : (b : Batches) → IsSending w e ms c s (TakeBatch m) b u → ⊥
+    sending : (b : Batches) → IsSending w e ms c s (OfTopic m TakeBatch) b u → ⊥
     sending batching.Resting k = k
-    sending batching.Taking k = (let f : is_take (TakeBatch m) ≡ false = ap is_take k.7 in absurd cc)
-    sending (batching.Sending ns d old) k = (let f : true ≡ false = (goes_plain w e old s (TakeBatch m) u k.2).0 in absurd cc)
+    sending batching.Taking k = (let f : is_take (OfTopic m TakeBatch) ≡ false = ap is_take k.7 in absurd cc)
+    sending (batching.Sending ns d old) k = (let f : true ≡ false = (goes_plain w e old s (OfTopic m TakeBatch) u k.2).0 in absurd cc)
     sending batching.Settling k = k
 takes_where w e b u batching.Settling m k = absurd (settling b k)
   where
-    settling : (b : Batches) → IsSettling w e (TakeBatch m) b u → ⊥
+    settling : (b : Batches) → IsSettling w e (OfTopic m TakeBatch) b u → ⊥
     settling batching.Resting k = k
-    settling batching.Taking k = (let f : is_take (TakeBatch m) ≡ false = ap is_take k.4 in absurd cc)
-    settling (batching.Sending ms c s) (inl k) = (let f : is_take (TakeBatch m) ≡ false = ap is_take k.1 in absurd cc)
-    settling (batching.Sending ms c s) (inr k) = (let f : is_take (TakeBatch m) ≡ false = ap is_take k.2 in absurd cc)
+    settling batching.Taking k = (let f : is_take (OfTopic m TakeBatch) ≡ false = ap is_take k.4 in absurd cc)
+    settling (batching.Sending ms c s) (inl k) = (let f : is_take (OfTopic m TakeBatch) ≡ false = ap is_take k.1 in absurd cc)
+    settling (batching.Sending ms c s) (inr k) = (let f : is_take (OfTopic m TakeBatch) ≡ false = ap is_take k.2 in absurd cc)
     settling batching.Settling k = k
 
 pub tells_where : (w : Ways) (e : Errand) (b : Batches) (u : Outcome) (q : Batches) (ns : List Notice) → StepTo w e b u q (TellAll ns) →

@@ -1,6 +1,6 @@
 -- What the plans of consumers do: it touches no producer, sends no message, tells nobody, and stops nothing. And what calls on consumers begin.
 use Rattle.std.proofs.Common.{◌≡◌, ℕ, List, [], ◌∷◌, refl, Bool, true, false, Option, Some, None}
-use Rattle.pulsar_laws.proofs.ActWords.{Action, Ask, Asked, FailConsumer, FindConsumer, Get, Procedure, RecallConsumer, Refusal, Rest, Revive, TakeFlow, TakeNumber, Wait}
+use Rattle.pulsar_laws.proofs.ActWords.{Action, Ask, Asked, FailConsumer, FindConsumer, Get, Procedure, RecallConsumer, CallRefusal, Rest, Revive, TakeFlow, TakeNumber, Wait}
 use Rattle.pulsar_laws.proofs.PlanWords.{Ways}
 use Rattle.pulsar_laws.proofs.RunWords.{Chosen, may_call, procedure_for, Tickets, unless_refused, ways_of}
 use Rattle.pulsar_messages.specs.Words as words
@@ -46,7 +46,7 @@ may_humble : (b : Bool) (p : Procedure) → is_humble p ≡ true → is_humble (
 may_humble true p h = h
 may_humble false p h = refl
 
-unless_humble : (r : Option Refusal) (p : Procedure) → is_humble p ≡ true → is_humble (unless r p) ≡ true
+unless_humble : (r : Option CallRefusal) (p : Procedure) → is_humble p ≡ true → is_humble (unless r p) ≡ true
 unless_humble None p h = h
 unless_humble (Some r) p h = refl
 

@@ -14,7 +14,7 @@ use Rattle.pulsar_searches.specs.declared.count.Counting.{Counting}
 use Rattle.pulsar_searches.specs.declared.count.Counting.TheVariants as count
 use Rattle.pulsar_searches.specs.declared.names.Naming.TheVariants as name
 use Rattle.pulsar_searches.specs.declared.replies.Heard.{Heard}
-use Rattle.pulsar_searches.specs.declared.turn.Outcome.TheVariants as news
+use Rattle.pulsar_searches.specs.declared.turn.SearchOutcome.TheVariants as news
 use Rattle.pulsar_searches.specs.declared.turn.Turn.TheVariants as search_turn
 use Rattle.pulsar_consumer.specs.Plans as consume
 use Rattle.pulsar_calls.specs.declared.act.Outcome.TheVariants as outcome

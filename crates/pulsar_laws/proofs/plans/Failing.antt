@@ -3,7 +3,7 @@ use Rattle.std.proofs.Common.{◌≡◌, ◌⊎◌, inl, inr, ◌∙◌, sym, ap
 use Rattle.std.specs.List.{list_any}
 use Rattle.std.specs.Option.{is_some}
 use Rattle.pulsar_laws.proofs.ActWords.{Action, Checks, Flushes, Link, Makes, Nothing, numbers_from, Outcome, Procedure, Rest, Said, Share, Verdict}
-use Rattle.pulsar_laws.proofs.PlanWords.{Asking, Awaiting, Batches, Batching, begins, Building as Build, Built, Command, Says as CountIs, Errand, fails, Gives, is_answer, Leaving, Making, Naming, Heard as News, news_in, news_of, Order, overrides, Plan, Producing, Reporting, SearchTurn, Sending as Send, Served, Serving, Stays, Stored, Storing, Subscribing, told, Turn, verdict, Visiting, Ways, Deed as Wish}
+use Rattle.pulsar_laws.proofs.PlanWords.{Asking, Awaiting, Batches, Batching, begins, BuildingProducer as Build, Built, Command, Says as CountIs, Errand, fails, Gives, is_answer, Leaving, Making, Naming, Heard as News, news_in, news_of, ProducerOrder, overrides, Plan, Producing, Reporting, SearchTurn, Sending as Send, Served, Serving, Stays, Stored, Storing, Subscribing, told, Turn, verdict, Visiting, Ways, Deed as Wish}
 use Rattle.pulsar_laws.proofs.RunWords.{Answered, In, stays}
 use Rattle.pulsar_laws.proofs.plans.Follow.{along}
 use Rattle.pulsar_laws.proofs.LinkWords.{Failure, Named, OfConnection, Reply}
@@ -19,8 +19,8 @@ use Rattle.pulsar_searches.specs.Replies.{unexpected, count_in}
 use Rattle.pulsar_addresses.specs.Address.{in_discovery}
 use Rattle.pulsar_searches.specs.declared.plan.Answer.{Answer}
 use Rattle.pulsar_searches.specs.declared.plan.Answer.TheVariants as answer
-use Rattle.pulsar_searches.specs.declared.plan.Plan.{Plan as Search}
-use Rattle.pulsar_searches.specs.declared.turn.Outcome.TheVariants as news
+use Rattle.pulsar_searches.specs.declared.plan.SearchPlan.{SearchPlan as Search}
+use Rattle.pulsar_searches.specs.declared.turn.SearchOutcome.TheVariants as news
 use Rattle.pulsar_searches.specs.declared.turn.Turn.TheVariants as search_turn
 use Rattle.pulsar_outgoing.specs.Errors.{in_producer}
 use Rattle.pulsar_producer.specs.Plans as produce
@@ -46,13 +46,13 @@ use Rattle.pulsar_plans.specs.Plan.{asks_of, builds, fails_in, fails_with, failu
 use Rattle.pulsar_producer.specs.Batching.{is_sent_send}
 use Rattle.pulsar_laws.proofs.plans.Productions.{AllowsBreaks, AllowsReply, BuildKeeps, Ends, SendKeeps, building_begins, building_ends, sending_ends}
 use Rattle.pulsar_laws.proofs.plans.Searches.{Breaks, ByFault, BySearch, ByReply, Keeps, Turns, is_search, is_sought, keeps_begins, keeps_told, FailsBy, made_fails, names_begin, naming_fails}
-use Rattle.pulsar_consumer.specs.declared.building.Building.{Building as ConsumerBuild}
+use Rattle.pulsar_consumer.specs.declared.building.BuildingConsumer.{BuildingConsumer as ConsumerBuild}
 use Rattle.pulsar_consumer.specs.declared.building.News.{News as ConsumerNews}
-use Rattle.pulsar_incoming.specs.declared.orders.Order.{Order as ConsumerOrder}
+use Rattle.pulsar_incoming.specs.declared.orders.ConsumerOrder.{ConsumerOrder}
 use Rattle.pulsar_calls.specs.declared.act.Word.TheVariants as word
 use Rattle.pulsar_consumer.specs.Plans as consume
 use Rattle.pulsar_searches.specs.declared.closing.Step.TheVariants as building_step
-use Rattle.pulsar_consumer.specs.declared.building.Building.TheVariants as consumer_build
+use Rattle.pulsar_consumer.specs.declared.building.BuildingConsumer.TheVariants as consumer_build
 use Rattle.pulsar_consumer.specs.declared.building.News.TheVariants as consumer_news
 use Rattle.pulsar_laws.proofs.plans.Counted.{Heeds, IsCounted, NamedIn, NamesKept, Several, names_begin_kept, names_kept}
 
@@ -297,7 +297,7 @@ module _ (p : Procedure) (all : List Outcome) where
       replied_so outcome.Woken i e = absurd cc
       replied_so u i e = absurd cc
 
-  builds_hold : (w : Ways) (o : Order) (x : Step Build (Result (List Built) Failure)) → ways_in p ≡ Some w → Ends (BuildKeeps Fails') Fails' x →
+  builds_hold : (w : Ways) (o : ProducerOrder) (x : Step Build (Result (List Built) Failure)) → ways_in p ≡ Some w → Ends (BuildKeeps Fails') Fails' x →
       TurnHolds (builds w o x)
   builds_hold w o (step.Stays b d) is k = (is, k)
   builds_hold w o (step.Gives (Ok parts)) is k = says_done

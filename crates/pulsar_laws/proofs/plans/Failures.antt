@@ -2,7 +2,7 @@
 use Rattle.std.proofs.Common.{◌≡◌, ◌⊎◌, inl, inr, ◌∙◌, sym, ap, subst, ℕ, ◌+◌, List, [], ◌∷◌, ◌++◌, refl, Bool, true, false, not, drop, length, Option, Some, None, ◌==◌}
 use Rattle.std.proofs.lemmas.Bool.{cases_Bool}
 use Rattle.std.specs.Option.{is_some}
-use Rattle.pulsar_laws.proofs.ActWords.{Act, Action, Answers, Asked, Calls, Checks, Comes, Does, Flushes, is_same, lacks_tickets, Link, next_advice, Outcome, Procedure, Refusal, Rest, Share, shares, Starts, Tell, TellAll, Told, Verdict, Who}
+use Rattle.pulsar_laws.proofs.ActWords.{Act, Action, Answers, Asked, Calls, Checks, Comes, Does, Flushes, is_same, lacks_tickets, Link, next_advice, Outcome, Procedure, CallRefusal, Rest, Share, shares, Starts, Tell, TellAll, Told, Verdict, Who}
 use Rattle.pulsar_laws.proofs.PlanWords.{begins, Errand, Gives, Heard as News, Plan, Sought, Stays, Turn, Ways}
 use Rattle.pulsar_laws.proofs.RunWords.{agenda, asks_raw, asks_topics, at_once, Begins, builds_with, Cause, checks, Chosen, chosen_same, closes, does, Each, each_append, each_either, each_first, each_map, each_rest, Entry, fails_as, flushes, flushes_all, follows, follows_some, from_base, gathers, In, InThisStep, is_served, IsRun, may_call, notice, Options, parts_of, performs, procedure_for, produces, produces_from, rest, searches, sends, sends_as, sends_by, share, shares_of, shares_unless, started, starts, stores_as, Then, Tickets, told_some, unless, unless_refused, view, View, ways_of, why_no_raw, why_no_sends}
 use Rattle.pulsar_laws.proofs.LinkWords.{Place}
@@ -12,12 +12,12 @@ use Rattle.pulsar_messages.specs.Words as words
 use Rattle.pulsar_incoming.specs.Naming.{order_of}
 use Rattle.pulsar_incoming.specs.declared.naming.Ordered.{Ordered}
 use Rattle.pulsar_incoming.specs.declared.naming.Ordered.TheVariants as ordered
-use Rattle.pulsar_searches.specs.declared.plan.Procedure.TheVariants as sought
+use Rattle.pulsar_searches.specs.declared.plan.Sought.TheVariants as sought
 use Rattle.pulsar_outgoing.specs.Wanted.{ProducerWanted}
 use Rattle.pulsar_outgoing.specs.declared.news.News.TheVariants as granting
 use Rattle.pulsar_calls.specs.declared.act.Outcome.TheVariants.{Granted}
 use Rattle.pulsar_calls.specs.declared.act.Procedure.TheVariants as procedure
-use Rattle.pulsar_calls.specs.declared.act.Refusal.TheVariants as refusal
+use Rattle.pulsar_calls.specs.declared.act.CallRefusal.TheVariants as refusal
 use Rattle.pulsar_calls.specs.declared.act.Says.TheVariants as says
 use Rattle.pulsar_calls.specs.Content as content
 use Rattle.pulsar_laws.proofs.Lists.{in_append, in_each}
@@ -59,7 +59,7 @@ subscribes_made ws ordered.Several = (tt, inl refl)
 subscribes_made None (ordered.One order) = (tt, inl refl)
 subscribes_made (Some w) (ordered.One order) = (tt, inr refl)
 
-fails_made : (ws : Option Ways) (s : Option Share) (r : Refusal) → MadeBy ws (fails_as s r)
+fails_made : (ws : Option Ways) (s : Option Share) (r : CallRefusal) → MadeBy ws (fails_as s r)
 fails_made ws None r = (tt, inl refl)
 fails_made ws (Some s) r = (tt, inl refl)
 
@@ -88,7 +88,7 @@ module _ (o : Chosen) (c : Tickets) (cs : Consumers) (ps : Producers) (advised :
   base_made None f k = (tt, inl refl)
   base_made (Some place) f k = k place
 
-  unless_made : (r : Option Refusal) (p : Procedure) → Made p → Made (unless r p)
+  unless_made : (r : Option CallRefusal) (p : Procedure) → Made p → Made (unless r p)
   unless_made None p k = k
   unless_made (Some r) p k = (tt, inl refl)
 
@@ -141,7 +141,7 @@ shares_made o ps of ticket advised t [] = tt
 shares_made o ps of ticket advised t (m ∷ ms) =
     (errand_made o ps (share of ticket) (next_advice advised) t m, shares_made o (routed t m ps) of (ticket + 1) (drop 1 advised) t ms)
 
-unless_shares : (r : Option Refusal) (v : View) (advised : List (Option ℕ)) (t : ℕ) (ms : List ProducerMessageValues) →
+unless_shares : (r : Option CallRefusal) (v : View) (advised : List (Option ℕ)) (t : ℕ) (ms : List ProducerMessageValues) →
     Each (StartsMade (ways_of v.chosen)) (shares_unless r v advised t ms)
 unless_shares None v advised t ms = shares_made v.chosen v.producers v.calls.drawn (v.calls.drawn + 1) advised t ms
 unless_shares (Some r) v advised t ms = tt
@@ -240,7 +240,7 @@ module _ (o : Options) (caused : OutcomesAreCaused) where
       IsToldBy who (Granted (granting.Told x)) e older → X
   not_told who x e older run (other, inl is) =
       let n = notice who (Granted (granting.Told x)) in
-      let k : true ≡ false = tells_so o older other (Tell n) (subst (λ y. IsRun o (y ∷ older)) is run) in
+      let k : true ≡ false = (tells_so o older other (Tell n) (subst (λ y. IsRun o (y ∷ older)) is run)).1 in
       absurd cc
   not_told who x e older run (other, inr (ns, is, i)) =
       let k : Each IsOfBatch ns = tells_so o older other (TellAll ns) (subst (λ y. IsRun o (y ∷ older)) is run) in

@@ -2,8 +2,8 @@
 -- call says, and others together only what becomes of a batch; none but a Stop ends every link; and a send that is a part of another call has
 -- reported once it is queued.
 use Rattle.std.proofs.Common.{◌≡◌, ℕ, List, ◌∷◌, map, refl, Bool, true, false, ◌&&◌, Option, Some, None, []}
-use Rattle.pulsar_laws.proofs.ActWords.{Action, Ask, Find, Notice, Outcome, PassTurn, Procedure, Share, Shut, StopAll, Store, TakeBatch, Tell, TellAll, Verdict}
-use Rattle.pulsar_laws.proofs.PlanWords.{action_of, Batches, Batching, begins, Building as Build, Deed, Errand, Fate, Gives, Leaving, News, Order, Plan, Reporting, Sending as Send, Stays, Stored, Storing, told, told_to, Turn, verdict, Visiting, Ways}
+use Rattle.pulsar_laws.proofs.ActWords.{Action, Ask, Find, Notice, OfTopic, Outcome, PassTurn, Procedure, Share, Shut, StopAll, Store, TakeBatch, Tell, TellAll, Verdict}
+use Rattle.pulsar_laws.proofs.PlanWords.{action_of, Batches, Batching, begins, BuildingProducer as Build, Deed, Errand, Fate, Gives, Leaving, News, ProducerOrder, Plan, Reporting, Sending as Send, Stays, Stored, Storing, told, told_to, Turn, verdict, Visiting, Ways}
 use Rattle.pulsar_producer.specs.Batching.{is_sent_send}
 use Rattle.pulsar_frame.specs.Batch.{EntryValues}
 use Rattle.pulsar_outgoing.specs.Batch.{member_of, reports}
@@ -65,7 +65,7 @@ all_settling (n ∷ ns) = is_settling n.outcome && all_settling ns
 abbrev pub is_own : Action → Bool
 is_own (Tell n) = false
 is_own (TellAll ns) = all_settling ns
-is_own (Store n entry) = false
+is_own (OfTopic n (Store entry)) = false
 is_own StopAll = false
 is_own _ = true
 
@@ -73,12 +73,12 @@ is_own _ = true
 abbrev pub is_quick : Action → Bool
 is_quick (Tell n) = true
 is_quick (TellAll ns) = true
-is_quick (TakeBatch n) = true
-is_quick (Store n entry) = true
+is_quick (OfTopic n TakeBatch) = true
+is_quick (OfTopic n (Store entry)) = true
 is_quick (Shut t) = true
-is_quick (Find n) = true
+is_quick (OfTopic n Find) = true
 is_quick (Ask l request) = true
-is_quick (PassTurn n) = true
+is_quick (OfTopic n PassTurn) = true
 is_quick _ = false
 
 abbrev pub fits : Spot → Action → Bool
@@ -90,7 +90,7 @@ fits Leaves action = is_own action
 fits Keeps (Tell n) = is_said n.outcome
 fits Keeps action = is_own action
 fits Holds action = is_quick action && is_own action
-fits Stores (Store n entry) = true
+fits Stores (OfTopic n (Store entry)) = true
 fits Stores action = false
 fits Nowhere action = false
 
@@ -118,7 +118,7 @@ settles_so Stores ns h = absurd cc
 settles_so Nowhere ns h = absurd cc
 
 -- one that stores stands so
-stores_at : (s : Spot) (n : ℕ) (entry : EntryValues) → fits s (Store n entry) ≡ true → s ≡ Stores
+stores_at : (s : Spot) (n : ℕ) (entry : EntryValues) → fits s (OfTopic n (Store entry)) ≡ true → s ≡ Stores
 stores_at Stores n entry h = refl
 stores_at Usual n entry h = absurd cc
 stores_at Reports n entry h = absurd cc
@@ -144,7 +144,7 @@ spot_stores (Visiting r n left at.Passing) h = absurd cc
 spot_stores (Visiting r n left at.Awaiting) h = absurd cc
 spot_stores plan h = absurd cc
 
-pub stores_so : (plan : Plan) (n : ℕ) (entry : EntryValues) → fits (spot plan) (Store n entry) ≡ true → (share : Option Share) × (plan ≡ Storing share)
+pub stores_so : (plan : Plan) (n : ℕ) (entry : EntryValues) → fits (spot plan) (OfTopic n (Store entry)) ≡ true → (share : Option Share) × (plan ≡ Storing share)
 stores_so plan n entry h = spot_stores plan (stores_at (spot plan) n entry h)
 
 fate_settles : (f : Fate) → is_settling (told_of f) ≡ true
@@ -167,7 +167,7 @@ part_fits h queued b = absurd cc
 part_fits h sent_rests b = absurd cc
 part_fits h _ b = refl
 
-build_own : {w : Ways} {o : Order} {b q : Build} {y : News} {d : Deed} → BuildArc w o b y q d → is_own (action_of d) ≡ true
+build_own : {w : Ways} {o : ProducerOrder} {b q : Build} {y : News} {d : Deed} → BuildArc w o b y q d → is_own (action_of d) ≡ true
 build_own naming_rests = refl
 build_own _ = refl
 

@@ -1,7 +1,7 @@
 -- What a send asks for: one step of its plan.
 use Rattle.std.proofs.Common.{◌≡◌, sym, ap, subst, ℕ, List, refl, Bool, true, false, ◌&&◌, cond, Option, Some, None, Result, Ok, Err}
 use Rattle.std.specs.Prelude.{not}
-use Rattle.pulsar_laws.proofs.ActWords.{Action, Ask, Draw, Outcome, Share}
+use Rattle.pulsar_laws.proofs.ActWords.{Action, Ask, Draw, OfTopic, Outcome, Share}
 use Rattle.pulsar_laws.proofs.PlanWords.{action_of, Command, Deed, Denies, Drawn, Errand, Heard as Heard', Later, Leaving, Looking, Making, News, news_of, Plan, Reporting, Says, SearchTurn, Sending as Send, told, Ways, Wish}
 use Rattle.pulsar_laws.proofs.LinkWords.{Failure, Fault, OfConnection, Words}
 use Rattle.pulsar_messages.specs.Content.{ProducerMessageValues}
@@ -20,7 +20,7 @@ use Rattle.pulsar_searches.specs.declared.replies.Pointed.TheVariants.{Redirects
 use Rattle.pulsar_searches.specs.declared.retry.Retrying.{Retrying}
 use Rattle.pulsar_searches.specs.declared.retry.Retrying.TheVariants as retry
 use Rattle.pulsar_searches.specs.declared.turn.Action.TheVariants as wish
-use Rattle.pulsar_searches.specs.declared.turn.Outcome.TheVariants as told_in
+use Rattle.pulsar_searches.specs.declared.turn.SearchOutcome.TheVariants as told_in
 use Rattle.pulsar_searches.specs.declared.turn.Turn.TheVariants as search_turn
 use Rattle.pulsar_messages.specs.Message.{with_version}
 use Rattle.pulsar_producer.specs.Plans as produce
@@ -188,7 +188,7 @@ module _ (e : Errand) (given : ProducerMessageValues) (V : Option (List ℕ) →
   AsksSo u q (Ask l (words.Send n name s m block)) =
       (d : Drawn) × (u ≡ outcome.Granted (news.Drew d)) × (l ≡ d.link) × (n ≡ e.producer) × (name ≡ d.name) × (s ≡ d.number) × (block ≡ e.block) × Versioned m
       × (w : Ways) × (share : Option Share) × (k : Option ProducerMessageValues) × (q ≡ Sending w e share (send.Asked k))
-  AsksSo u q (Draw n) = n ≡ e.producer
+  AsksSo u q (OfTopic n Draw) = n ≡ e.producer
   AsksSo u q _ = Unit {0}
 
   abbrev pub TurnSo : Outcome → Plan → Action → Type 0

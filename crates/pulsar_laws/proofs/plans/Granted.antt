@@ -1,7 +1,7 @@
 -- What plans do comes right behind what leads to it, and numbers, commands and batches that they are granted right behind what they do.
 use Rattle.std.proofs.Common.{◌≡◌, ◌⊎◌, inl, inr, ◌∙◌, sym, ap, subst, ℕ, List, [], ◌∷◌, ◌++◌, refl, map, drop, Bool, true, false, ◌&&◌, cond, Option, Some, None}
 use Rattle.std.specs.Option.{option_map, option_to_list}
-use Rattle.pulsar_laws.proofs.ActWords.{Act, Action, Alarm, Answers, Ask, Batch, below, Comes, Does, Drains, End, Ends, FailConsumer, Flush, Idles, Notice, opens, Outcome, Overdue, Part, PassTurn, Polls, Procedure, Reads, Retry, Revive, Rings, Shut, Starts, StopAll, Stops, Store, Tell, TellAll, Told, ToLink, turn_of, Wake, Who}
+use Rattle.pulsar_laws.proofs.ActWords.{Act, Action, Alarm, Answers, Ask, Batch, Comes, Does, Drains, End, Ends, FailConsumer, Flush, Idles, Notice, OfTopic, Outcome, Overdue, Part, PassTurn, Polls, Procedure, Reads, Retry, Revive, Rings, Shut, Starts, StopAll, Stops, Store, Tell, TellAll, ToLink, Told, Wake, Who, below, opens, turn_of}
 use Rattle.pulsar_laws.proofs.PlanWords.{begins, closed_notice, News, Plan, Stays, told}
 use Rattle.pulsar_laws.proofs.RunWords.{after, agenda, Answered, arranged, at_once, Begins, causes, Each, each_append, each_either, each_flat, each_map, Entry, first_of, In, IsRun, joins, lost_on, notice, Options, over_each, performs, readied, ready_notice, rest, rest_of, rules, stays, stays_some, stopped_on, tells, Then, told_some, turn_notice, Turned, turned_by, view, View}
 use Rattle.pulsar_laws.proofs.LinkWords.{Addresses, Base, Becomes, Change, Fault, IsOver, over_links, Pause, rings, Runs, Seat, Series, stop_act}
@@ -362,7 +362,7 @@ abbrev IsPassed : Notice → Type 0
 IsPassed m = IsTurn m × (is_part m.outcome ≡ false)
 
 abbrev pub JoinSo : Act → Notice → Type 0
-JoinSo (Does who (PassTurn n)) m = IsPassed m
+JoinSo (Does who (OfTopic n PassTurn)) m = IsPassed m
 JoinSo (Does who (Tell n)) m = is_said m.outcome ≡ true
 JoinSo (Does who (TellAll ns)) m = is_settling m.outcome ≡ true
 JoinSo _ m = IsCaused m
@@ -378,9 +378,9 @@ worded : (v : View) (a : Act) → is_worded a ≡ true → Each IsCaused (joins 
 worded v a h = words_free (joins v a) (joins_words v a h)
 
 pub joins_so : (o : Options) (log : List Entry) (a : Act) → IsRun o (Then a ∷ log) → Each (JoinSo a) (joins (view o log) a)
-joins_so o log (Does who (PassTurn n)) run = passed_so n (turn_passed ((view o log).producers.topics n))
-joins_so o log (Does who (Store n entry)) run = readied_so n (topic.Stores (turn_of who) entry) ((view o log).producers.topics n)
-joins_so o log (Does who (Flush n)) run = readied_so n (topic.Flushes (turn_of who)) ((view o log).producers.topics n)
+joins_so o log (Does who (OfTopic n PassTurn)) run = passed_so n (turn_passed ((view o log).producers.topics n))
+joins_so o log (Does who (OfTopic n (Store entry))) run = readied_so n (topic.Stores (turn_of who) entry) ((view o log).producers.topics n)
+joins_so o log (Does who (OfTopic n Flush)) run = readied_so n (topic.Flushes (turn_of who)) ((view o log).producers.topics n)
 joins_so o log (Does who (Shut t)) run =
     each_made IsCaused closed_notice (λ u. refl) (stored_by (view o log).producers (numbers_at ((view o log).producers.built t)))
 joins_so o log (Does who (Tell n)) run = (tell_said o log who n run, tt)
@@ -393,17 +393,17 @@ joins_so o log (Answers who verdict) run = worded (view o log) (Answers who verd
 joins_so o log _ run = tt
 
 abbrev pub passes_it : Act → Bool
-passes_it (Does who (PassTurn n)) = true
+passes_it (Does who (OfTopic n PassTurn)) = true
 passes_it _ = false
 
 pub join_free : (a : Act) (m : Notice) → passes_it a ≡ false → JoinSo a m → IsFree m
-join_free (Does who (PassTurn n)) m p k = absurd cc
+join_free (Does who (OfTopic n PassTurn)) m p k = absurd cc
 join_free (Does who (Tell n)) m p k = said_free m.outcome k
 join_free (Does who (TellAll ns)) m p k = settling_free m.outcome k
 join_free a m p k = inner_free m.outcome k
 
 join_turn : (a : Act) (m : Notice) → JoinSo a m → IsTurn m
-join_turn (Does who (PassTurn n)) m k = k.0
+join_turn (Does who (OfTopic n PassTurn)) m k = k.0
 join_turn a m k = free_turn m.outcome (join_free a m refl k)
 
 abbrev pub IsCleanAt : Options → List Entry → Type 0

@@ -1,7 +1,7 @@
 -- What a plan has the turn of, and how it comes to it and leaves it: one step of a plan.
 use Rattle.std.proofs.Common.{◌≡◌, ◌⊎◌, inl, inr, ◌∙◌, sym, ℕ, refl, Bool, true, false, Option, Some, None, subst}
-use Rattle.pulsar_laws.proofs.ActWords.{Action, Outcome, PassTurn, Procedure, Share, TakeTurn}
-use Rattle.pulsar_laws.proofs.PlanWords.{action_of, Batches, Batching, begins, Building as Build, Deed, Errand, Leaving, News, news_of, Order, Plan, Producing, Reporting, Sending as Send, told, Visiting, Ways}
+use Rattle.pulsar_laws.proofs.ActWords.{Action, OfTopic, Outcome, PassTurn, Procedure, Share, TakeTurn}
+use Rattle.pulsar_laws.proofs.PlanWords.{action_of, Batches, Batching, begins, BuildingProducer as Build, Deed, Errand, Leaving, News, news_of, ProducerOrder, Plan, Producing, Reporting, Sending as Send, told, Visiting, Ways}
 use Rattle.pulsar_laws.proofs.LinkWords.{Failure}
 use Rattle.pulsar_searches.specs.declared.turn.Action.TheVariants as wish
 use Rattle.pulsar_producer.specs.declared.batching.Batching.TheVariants as batching
@@ -68,8 +68,8 @@ is_past _ = false
 
 -- one comes to a turn where it is told so, passes on what it has, and takes one where it waits for none and has none
 abbrev PassesSo : Plan → Plan → Action → Type 0
-PassesSo p q (PassTurn n) = (holds p ≡ Some n) × (holds q ≡ None)
-PassesSo p q (TakeTurn n) = (turn_of q ≡ Some n) × (turn_of p ≡ None) × (is_leaving p ≡ false) × (holds q ≡ None)
+PassesSo p q (OfTopic n PassTurn) = (holds p ≡ Some n) × (holds q ≡ None)
+PassesSo p q (OfTopic n TakeTurn) = (turn_of q ≡ Some n) × (turn_of p ≡ None) × (is_leaving p ≡ false) × (holds q ≡ None)
 PassesSo p q _ = Unit {0}
 
 pub record GoesSo (p : Plan) (u : Outcome) (q : Plan) (a : Action) : Type 0 where
@@ -143,7 +143,7 @@ goes_as p q u e s r d hp hq tp k = record {
 
 -- A BUILDING AND BATCHES
 
-build_idle : {w : Ways} {o : Order} {b q : Build} {y : News} {d : Deed} (p x : Plan) → BuildArc w o b y q d → PassesSo p x (action_of d)
+build_idle : {w : Ways} {o : ProducerOrder} {b q : Build} {y : News} {d : Deed} (p x : Plan) → BuildArc w o b y q d → PassesSo p x (action_of d)
 build_idle p x naming_rests = tt
 build_idle p x _ = tt
 
@@ -189,8 +189,8 @@ told_holds p u = stays_by (GoesSo p u) p u (λ q a k. arc_goes k)
 
 -- one begins with no turn, and passes none on
 abbrev TakesSo : Plan → Action → Type 0
-TakesSo q (PassTurn n) = ⊥
-TakesSo q (TakeTurn n) = turn_of q ≡ Some n
+TakesSo q (OfTopic n PassTurn) = ⊥
+TakesSo q (OfTopic n TakeTurn) = turn_of q ≡ Some n
 TakesSo q _ = Unit {0}
 
 abbrev pub BeginsSo : Plan → Action → Type 0

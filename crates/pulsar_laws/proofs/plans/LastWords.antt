@@ -1,6 +1,6 @@
 -- What one is told last: that the client is stopped, or what became of a batch; and what a plan does then.
 use Rattle.std.proofs.Common.{◌≡◌, ◌⊎◌, inl, inr, ◌∙◌, sym, ap, subst, ℕ, ◌+◌, List, ◌∷◌, ◌++◌, refl, map, Bool, true, false, Option, Some, None, [], Ok, Err}
-use Rattle.pulsar_laws.proofs.ActWords.{Act, Answers, Call, Comes, Does, Ends, Makes, Nothing, Notice, Outcome, Part, Procedure, Rest, Share, Starts, Stops, TakeBatch, Tell, TellAll, Told, ToLink, Verdict, Who}
+use Rattle.pulsar_laws.proofs.ActWords.{Act, Answers, Call, Comes, Does, Ends, Makes, Nothing, Notice, OfTopic, Outcome, Part, Procedure, Rest, Share, Starts, Stops, TakeBatch, Tell, TellAll, ToLink, Told, Verdict, Who}
 use Rattle.pulsar_laws.proofs.PlanWords.{Batches, batches_on, Batching, Errand, Gives, Leaving, Member, Plan, Reporting, Sending as Send, Stays, Stored, Storing, told, told_to, Turn, verdict, Visiting, Ways}
 use Rattle.pulsar_laws.proofs.RunWords.{Each, each_append, each_map, each_rest, follows, follows_some, rest_of, stays, stays_some, told_some}
 use Rattle.pulsar_laws.proofs.LinkWords.{Failure, OfConnection}
@@ -88,7 +88,7 @@ taking_told row h = absurd cc
 abbrev pub IsParting : (Who → Option Plan) → Act → Type 0
 IsParting stand (Does who (Tell n)) = (is_last_word n.outcome ≡ true) × (is_leaving (spot_of (stand who)) ≡ true)
 IsParting stand (Does who (TellAll ns)) = Each (IsLate stand) ns × (is_settling (stand who) ≡ true)
-IsParting stand (Does who (TakeBatch m)) = is_taking (stand who) ≡ true
+IsParting stand (Does who (OfTopic m TakeBatch)) = is_taking (stand who) ≡ true
 IsParting stand (Told n) =
     (is_leaving (spot_of (stand n.who)) ≡ true) ⊎ ((batch_told (stand n.who) n.outcome ≡ true) ⊎ IsSettledFor stand n)
 IsParting stand a = ⊥

@@ -7,7 +7,7 @@ use Rattle.pulsar_outgoing.specs.Storage.{is_batching}
 use Rattle.pulsar_calls.specs.declared.act.Makes.TheVariants.{Consumer, Producer}
 use Rattle.pulsar_calls.specs.declared.act.Procedure.TheVariants as procedure
 use Rattle.pulsar_calls.specs.declared.act.Who.TheVariants as who
-use Rattle.pulsar_calls.specs.declared.content.Building.{Building}
+use Rattle.pulsar_calls.specs.declared.content.BuiltProducer.{BuiltProducer}
 use Rattle.pulsar_calls.specs.declared.content.Joining.{Joining}
 use Rattle.pulsar_acts.specs.Reading.{serves_by}
 use Rattle.pulsar_acts.specs.Rules.{batches_by, batches_from}
@@ -17,7 +17,7 @@ parts_each : (P : Act → Type 0) (w : Ways) (block : Bool) (bs : List Built) �
 parts_each P w block [] h = tt
 parts_each P w block (b ∷ bs) h = (h (record { producer = b.number; block = block }), parts_each P w block bs h)
 
-pub from_each : (P : Act → Type 0) (ways : Option Ways) (b : Building) →
+pub from_each : (P : Act → Type 0) (ways : Option Ways) (b : BuiltProducer) →
     ((w : Ways) (e : Errand) → ways ≡ Some w → P (Starts (who.Producer e.producer) (procedure.Batch w e))) → Each P (batches_from ways b)
 from_each P None b h = tt
 from_each P (Some w) b h = parts_each P w b.settings.block_queue_if_full b.parts (λ e. h w e refl)

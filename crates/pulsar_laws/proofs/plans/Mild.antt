@@ -1,24 +1,24 @@
 -- No plan asks to acknowledge: only a procedure that begins so does.
 use Rattle.std.proofs.Common.{◌≡◌, subst, ℕ, List, refl, Bool, true, false, Option, Some, None, Result, Ok, Err}
 use Rattle.pulsar_laws.proofs.ActWords.{Action, Ask, Checks, Flushes, Link, Outcome, Procedure}
-use Rattle.pulsar_laws.proofs.PlanWords.{action_of, Batches, Batching, begins, Building as Build, Command, Deed, Errand, Heard as Heard', Looking, Making, Naming, News, news_in, news_of, Order, Plan, Producing, SearchTurn, Sending as Send, Served, Serving, Subscribing, told, Ways}
+use Rattle.pulsar_laws.proofs.PlanWords.{action_of, Batches, Batching, begins, BuildingProducer as Build, Command, Deed, Errand, Heard as Heard', Looking, Making, Naming, News, news_in, news_of, ProducerOrder, Plan, Producing, SearchTurn, Sending as Send, Served, Serving, Subscribing, told, Ways}
 use Rattle.pulsar_laws.proofs.LinkWords.{Failure, Named, Place, Words}
 use Rattle.pulsar_searches.specs.Plans as search
 use Rattle.pulsar_searches.specs.declared.closing.Step.TheVariants as building_step
 use Rattle.pulsar_searches.specs.declared.turn.Action.TheVariants as wish
 use Rattle.pulsar_searches.specs.declared.turn.Turn.TheVariants as search_turn
 use Rattle.pulsar_producer.specs.declared.batching.Batching.TheVariants as batching
-use Rattle.pulsar_producer.specs.declared.building.Building.TheVariants as build
+use Rattle.pulsar_producer.specs.declared.building.BuildingProducer.TheVariants as build
 use Rattle.pulsar_outgoing.specs.declared.news.News.TheVariants as news
 use Rattle.pulsar_producer.specs.declared.sending.Sending.TheVariants as send
 use Rattle.pulsar_consumer.specs.Plans as consume
-use Rattle.pulsar_consumer.specs.declared.building.Building.{Building as ConsumerBuild}
-use Rattle.pulsar_consumer.specs.declared.building.Building.TheVariants as consumer_build
+use Rattle.pulsar_consumer.specs.declared.building.BuildingConsumer.{BuildingConsumer as ConsumerBuild}
+use Rattle.pulsar_consumer.specs.declared.building.BuildingConsumer.TheVariants as consumer_build
 use Rattle.pulsar_consumer.specs.declared.building.Deed.{Deed as ConsumerDeed}
 use Rattle.pulsar_consumer.specs.declared.building.Deed.TheVariants as consumer_deed
 use Rattle.pulsar_consumer.specs.declared.building.News.{News as ConsumerNews}
 use Rattle.pulsar_consumer.specs.declared.building.News.TheVariants as consumer_news
-use Rattle.pulsar_incoming.specs.declared.orders.Order.{Order as ConsumerOrder}
+use Rattle.pulsar_incoming.specs.declared.orders.ConsumerOrder.{ConsumerOrder}
 use Rattle.pulsar_consumer.specs.declared.resuming.Resuming.{Resuming}
 use Rattle.pulsar_consumer.specs.declared.resuming.Resuming.TheVariants as resume
 use Rattle.pulsar_calls.specs.declared.act.Outcome.TheVariants as outcome
@@ -88,7 +88,7 @@ MildBuild (build.Naming n) = Unit {0}
 MildBuild (build.Numbering p) = Unit {0}
 MildBuild (build.Closing left f) = Unit {0}
 
-build_mild : {w : Ways} {o : Order} {b q : Build} {y : News} {d : Deed} → BuildArc w o b y q d → MildBuild b → MildBuild q × IsMild (action_of d)
+build_mild : {w : Ways} {o : ProducerOrder} {b q : Build} {y : News} {d : Deed} → BuildArc w o b y q d → MildBuild b → MildBuild q × IsMild (action_of d)
 build_mild {w} {o} (names_on_asks {n} {x} i) h = (tt, asks_so Any (search.names_told w o.topic n x) (names_mild w o.topic n x) i)
 build_mild numbered_makes h = (refl, tt)
 build_mild (numbered_closes b e) h = (tt, refl)

@@ -15,16 +15,16 @@ use Rattle.pulsar_searches.specs.declared.look.Looking.TheVariants as look
 use Rattle.pulsar_searches.specs.declared.look.Search.{Search as Place'}
 use Rattle.pulsar_searches.specs.declared.making.Making.TheVariants as make
 use Rattle.pulsar_searches.specs.declared.names.Naming.TheVariants as name
-use Rattle.pulsar_searches.specs.declared.plan.Plan.{Plan as Search}
-use Rattle.pulsar_searches.specs.declared.plan.Plan.TheVariants as searching
-use Rattle.pulsar_searches.specs.declared.plan.Procedure.TheVariants as sought
+use Rattle.pulsar_searches.specs.declared.plan.SearchPlan.{SearchPlan as Search}
+use Rattle.pulsar_searches.specs.declared.plan.SearchPlan.TheVariants as searching
+use Rattle.pulsar_searches.specs.declared.plan.Sought.TheVariants as sought
 use Rattle.pulsar_searches.specs.declared.replies.Heard.{Heard}
 use Rattle.pulsar_searches.specs.declared.replies.Pointed.{Pointed}
 use Rattle.pulsar_searches.specs.declared.replies.Pointed.TheVariants.{Redirects, Serves}
 use Rattle.pulsar_searches.specs.declared.retry.Retrying.{Retrying}
 use Rattle.pulsar_searches.specs.declared.retry.Retrying.TheVariants as retry
 use Rattle.pulsar_searches.specs.declared.turn.Action.TheVariants as wish
-use Rattle.pulsar_searches.specs.declared.turn.Outcome.TheVariants as told_in
+use Rattle.pulsar_searches.specs.declared.turn.SearchOutcome.TheVariants as told_in
 use Rattle.pulsar_searches.specs.declared.turn.Turn.TheVariants as search_turn
 use Rattle.pulsar_laws.specs.ConsumerLaws.{is_ack}
 

@@ -4,17 +4,17 @@ use Rattle.std.proofs.lemmas.Bool.{cases_Bool, eqb-true}
 use Rattle.std.proofs.lemmas.Bool.Decides.{nat_tests}
 use Rattle.std.specs.Option.{is_some}
 use Rattle.std.specs.Prelude.{not}
-use Rattle.pulsar_laws.proofs.ActWords.{Act, Asked, Call, Calls, Checks, Comes, Flushes, is_same, lacks_tickets, Link, next_advice, Procedure, Refusal, Share, shares, Starts, Who}
+use Rattle.pulsar_laws.proofs.ActWords.{Act, Asked, Call, Calls, Checks, Comes, Flushes, is_same, lacks_tickets, Link, next_advice, Procedure, CallRefusal, Share, shares, Starts, Who}
 use Rattle.pulsar_laws.proofs.PlanWords.{Errand, Sought, Ways}
 use Rattle.pulsar_laws.proofs.RunWords.{asks_raw, asks_topics, Begins, begun_same, builds_with, checks, Chosen, closes, Each, Entry, flushes, flushes_all, from_base, gathers, In, InThisStep, IsRun, may_call, Options, parts_of, procedure_for, produces, produces_from, searches, sends, sends_as, sends_by, shares_of, shares_unless, started, starts, stores_as, Then, unless, unless_refused, view, View, ways_of, why_no_raw, why_no_sends}
 use Rattle.pulsar_laws.proofs.LinkWords.{Place}
 use Rattle.pulsar_messages.specs.Content.{ProducerMessageValues}
-use Rattle.pulsar_searches.specs.declared.plan.Procedure.TheVariants as sought
+use Rattle.pulsar_searches.specs.declared.plan.Sought.TheVariants as sought
 use Rattle.pulsar_frame.specs.Batch.{EntryValues}
 use Rattle.pulsar_outgoing.specs.Batch.{entry_of}
 use Rattle.pulsar_outgoing.specs.Wanted.{ProducerWanted}
 use Rattle.pulsar_calls.specs.declared.act.Procedure.TheVariants as procedure
-use Rattle.pulsar_calls.specs.declared.act.Refusal.TheVariants as refusal
+use Rattle.pulsar_calls.specs.declared.act.CallRefusal.TheVariants as refusal
 use Rattle.pulsar_calls.specs.declared.act.Says.TheVariants as says
 use Rattle.pulsar_calls.specs.Content as content
 use Rattle.pulsar_laws.proofs.Cases.{none_some}
@@ -91,7 +91,7 @@ either_of : (d c u : ℕ) (b : Bool) (p q : Procedure) → IsOf d c u p → IsOf
 either_of d c u true p q x y = x
 either_of d c u false p q x y = y
 
-unless_of : (d c u : ℕ) (r : Option Refusal) (p : Procedure) → IsOf d c u p → IsOf d c u (unless r p)
+unless_of : (d c u : ℕ) (r : Option CallRefusal) (p : Procedure) → IsOf d c u p → IsOf d c u (unless r p)
 unless_of d c u None p x = x
 unless_of d c u (Some r) p x = plain_of d c u (procedure.Refuse r) refl
 
@@ -172,7 +172,7 @@ parts_so d c o ps k advised t (m ∷ ms) x y = (
   parts_so d c o (routed t m ps) (k + 1) (drop 1 advised) t ms (omega (arith, x)) (omega (arith, y)),
 )
 
-unless_so : (v : View) (advised : List (Option ℕ)) (t : ℕ) (ms : List ProducerMessageValues) (r : Option Refusal) →
+unless_so : (v : View) (advised : List (Option ℕ)) (t : ℕ) (ms : List ProducerMessageValues) (r : Option CallRefusal) →
     Each (StartSo v.calls.drawn (length ms)) (shares_unless r v advised t ms)
 unless_so v advised t ms (Some r) = tt
 unless_so v advised t ms None = parts_so v.calls.drawn (length ms) v.chosen v.producers (v.calls.drawn + 1) advised t ms (omega arith) (omega arith)

@@ -1,18 +1,19 @@
 -- Where the making of a producer fails, and a send: with the fault of the news that it was told, by what a reply says, or with what it
 -- kept to tell later.
 use Rattle.std.proofs.Common.{◌≡◌, List, [], ◌∷◌, refl, Bool, true, false, cond, Option, Some, None, Result, Ok, Err}
-use Rattle.pulsar_laws.proofs.PlanWords.{Building, Built, Command, Errand, News as Granting, Making, Heard as News, Order, SearchTurn, Sending, Served, Ways}
+use Rattle.pulsar_laws.proofs.PlanWords.{BuildingProducer, Built, Command, Deed, Errand, News as Granting, Making, Heard as News, ProducerOrder, SearchTurn, Sending, Served, Ways}
 use Rattle.pulsar_laws.proofs.LinkWords.{Failure, Fault, Named, OfConnection}
 use Rattle.pulsar_messages.specs.Content.{ProducerMessageValues}
 use Rattle.pulsar_frame.specs.Reply.{Reply as Content, is_body}
 use Rattle.pulsar_searches.specs.Plans.{is_lost, look_told, made_gets, made_told, names_begins, names_told, verdict}
 use Rattle.pulsar_searches.specs.Replies.{unexpected}
-use Rattle.pulsar_searches.specs.declared.turn.Outcome.TheVariants as news
+use Rattle.pulsar_searches.specs.declared.turn.SearchOutcome.TheVariants as news
 use Rattle.pulsar_searches.specs.declared.turn.Turn.TheVariants as search_turn
 use Rattle.pulsar_outgoing.specs.Errors.{in_producer}
 use Rattle.pulsar_producer.specs.Plans.{Builds, Sent, build_begins, build_closes, build_made, build_next, build_told, fault_told, not_drawn, not_queued, or_else, receipt, send_ends, send_makes, send_recalls, send_remakes, send_told}
-use Rattle.pulsar_producer.specs.declared.building.Building.TheVariants as build
+use Rattle.pulsar_producer.specs.declared.building.BuildingProducer.TheVariants as build
 use Rattle.pulsar_outgoing.specs.declared.news.News.TheVariants as granting
+use Rattle.pulsar_producer.specs.declared.deed.Deed.TheVariants.{Holds, Numbers}
 use Rattle.pulsar_producer.specs.declared.deed.Step.{Step}
 use Rattle.pulsar_producer.specs.declared.deed.Step.TheVariants as step
 use Rattle.pulsar_producer.specs.declared.sending.Sending.TheVariants as send
@@ -44,41 +45,42 @@ AllowsBreaks P w y = (x : News) → y ≡ granting.Told x → (f : Failure) → 
 -- A BUILDING
 
 -- it keeps why it fails
-abbrev pub BuildKeeps : (Failure → Type 0) → Building → Type 0
+abbrev pub BuildKeeps : (Failure → Type 0) → BuildingProducer → Type 0
 BuildKeeps P (build.Closing left f) = P f
 BuildKeeps P _ = Unit {0}
 
 abbrev BuildEnds : (Failure → Type 0) → Builds → Type 0
 BuildEnds P s = Ends (BuildKeeps P) P s
 
-next_ends : (P : Failure → Type 0) (names : List Named) (made : List Built) → BuildEnds P (build_next names made)
-next_ends P [] made = tt
-next_ends P (n ∷ left) made = tt
+next_ends : (P : Failure → Type 0) (d : Deed) (names : List Named) (made : List Built) → BuildEnds P (build_next d names made)
+next_ends P d [] made = tt
+next_ends P d (n ∷ left) made = tt
 
 closes_end : (P : Failure → Type 0) (left : List Built) (f : Failure) → P f → BuildEnds P (build_closes left f)
 closes_end P [] f k = k
 closes_end P (b ∷ left) f k = k
 
-pub building_begins : (P : Failure → Type 0) (w : Ways) (o : Order) → BuildEnds P (build_begins w o)
+pub building_begins : (P : Failure → Type 0) (w : Ways) (o : ProducerOrder) → BuildEnds P (build_begins w o)
 building_begins P w o =
-    else_ends (BuildKeeps P) P P (names_begins w o.topic) build.Naming (λ names. build_next names []) (λ f. step.Gives (Err f)) (names_begin P w o.topic)
-    (λ n. tt)
-    (λ names. next_ends P names []) (λ f k. k)
+    else_ends (BuildKeeps P) P P (names_begins w o.topic) build.Naming (λ names. build_next Numbers names []) (λ f. step.Gives (Err f))
+    (names_begin P w o.topic) (λ n. tt)
+    (λ names. next_ends P Numbers names []) (λ f k. k)
 
-pub building_ends : (P : Failure → Type 0) (w : Ways) (o : Order) (b : Building) (y : Granting) → P (OfConnection (fault_told y)) → AllowsBreaks P w y →
+pub building_ends : (P : Failure → Type 0) (w : Ways) (o : ProducerOrder) (b : BuildingProducer) (y : Granting) → P (OfConnection (fault_told y)) → AllowsBreaks P w y →
     BuildKeeps P b →
     BuildEnds P (build_told w o b y)
 building_ends P w o (build.Naming n) (granting.Told x) fault breaks k =
-    else_ends (BuildKeeps P) P (Turns w x) (names_told w o.topic n x) build.Naming (λ names. build_next names []) (λ f. step.Gives (Err f))
+    else_ends (BuildKeeps P) P (Turns w x) (names_told w o.topic n x) build.Naming (λ names. build_next Numbers names []) (λ f. step.Gives (Err f))
     (naming_fails w o.topic n x) (λ n. tt)
-    (λ names. next_ends P names []) (λ f t. breaks x refl f (BySearch t))
+    (λ names. next_ends P Numbers names []) (λ f t. breaks x refl f (BySearch t))
 building_ends P w o (build.Naming n) y fault breaks k = tt
 building_ends P w o (build.Numbering p) (granting.Numbered number) fault breaks k = tt
+building_ends P w o (build.Numbering p) granting.Done fault breaks k = tt
 building_ends P w o (build.Numbering p) y fault breaks k = closes_end P p.made (OfConnection (fault_told y)) fault
 building_ends P w o (build.Making c m number left made) (granting.Told x) fault breaks k =
     else_ends (BuildKeeps P) P (Breaks w x) (made_told w c m x) (λ m. build.Making c m number left made) (build_made c.topic number left made)
     (build_closes made) (made_fails w c m x)
-    (λ m. tt) (λ s. next_ends P left _) (λ f t. closes_end P made f (breaks x refl f t))
+    (λ m. tt) (λ s. next_ends P (Holds s.link number) left _) (λ f t. closes_end P made f (breaks x refl f t))
 building_ends P w o (build.Making c m number left made) y fault breaks k = tt
 building_ends P w o (build.Closing left f) (granting.Told x) fault breaks k = closes_end P left f k
 building_ends P w o (build.Closing left f) y fault breaks k = k

@@ -1,7 +1,7 @@
 -- Parts of calls: which call a send is a part of, and what it tells that. One step of a plan.
 use Rattle.std.proofs.Common.{◌≡◌, refl, Bool, true, false, Option, Some, None}
 use Rattle.pulsar_laws.proofs.ActWords.{Action, Call, Outcome, Procedure, Share, Tell}
-use Rattle.pulsar_laws.proofs.PlanWords.{action_of, Batches, Batching, begins, Building as Build, Deed, Errand, News, Order, Plan, Producing, Sending as Send, Storing, told, Ways}
+use Rattle.pulsar_laws.proofs.PlanWords.{action_of, Batches, Batching, begins, BuildingProducer as Build, Deed, Errand, News, ProducerOrder, Plan, Producing, Sending as Send, Storing, told, Ways}
 use Rattle.pulsar_calls.specs.declared.act.Outcome.TheVariants as outcome
 use Rattle.pulsar_plans.specs.declared.plan.Plan.TheVariants.{Sending}
 use Rattle.pulsar_laws.proofs.Cases.{none_some}
@@ -41,7 +41,7 @@ pub send_mute : {w : Ways} {e : Errand} {s q : Send} {y : News} {d : Deed} → S
 send_mute draws = refl
 send_mute _ = refl
 
-pub build_mute : {w : Ways} {o : Order} {b q : Build} {y : News} {d : Deed} → BuildArc w o b y q d → is_tell (action_of d) ≡ false
+pub build_mute : {w : Ways} {o : ProducerOrder} {b q : Build} {y : News} {d : Deed} → BuildArc w o b y q d → is_tell (action_of d) ≡ false
 build_mute naming_rests = refl
 build_mute _ = refl
 

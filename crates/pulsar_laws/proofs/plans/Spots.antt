@@ -1,16 +1,17 @@
 -- Along a run, one whose plan reports does so next, and no plan stands where a queued part of a call has not reported.
 use Rattle.std.proofs.Common.{◌≡◌, ◌∙◌, sym, ap, subst, ℕ, List, ◌∷◌, ◌++◌, refl, Bool, true, false, ◌&&◌, cond, Option, Some, None, []}
-use Rattle.pulsar_laws.proofs.ActWords.{Act, Action, Ask, Does, Find, is_same, Notice, Outcome, Part, PassTurn, Procedure, Rest, Shut, Starts, StopAll, Store, TakeBatch, Tell, TellAll, Told, Verdict, Who}
+use Rattle.pulsar_laws.proofs.ActWords.{Act, Action, Ask, Does, Find, Hold, Notice, OfTopic, Outcome, Part, PassTurn, Procedure, Rest, Shut, Starts, StopAll, Store, TakeBatch, Tell, TellAll, Told, Verdict, Who, is_same}
 use Rattle.pulsar_laws.proofs.PlanWords.{begins, Gives, Plan, Stays, told, Turn}
 use Rattle.pulsar_laws.proofs.RunWords.{agenda, Agenda, at_once, Begins, begun_same, does, Entry, first, first_of, follows, follows_some, IsRun, none_now, Options, rest, rules, stays, stays_some, tells, Then, told_some, view, View}
 use Rattle.pulsar_laws.proofs.LinkWords.{answer_at, told_at}
 use Rattle.pulsar_calls.specs.declared.act.Outcome.TheVariants as outcome
 use Rattle.pulsar_producer_table.specs.Producers.{link_at, next_batch_at}
-use Rattle.pulsar_acts.specs.Rules.{finds}
+use Rattle.pulsar_acts.specs.Rules.{says_to}
 use Rattle.pulsar_acts.specs.View.{stand_after}
 use Rattle.pulsar_outgoing.specs.declared.news.News.TheVariants as news
 use Rattle.pulsar_calls.specs.declared.act.Procedure.TheVariants as procedure
 use Rattle.pulsar_laws.proofs.plans.Fitting.{Fits, Holds, Keeps, Leaves, Nowhere, Reports, Spot, Stores, Usual, begins_fits, fits, is_own, is_quick, is_stop, spot, told_fits}
+use Rattle.pulsar_producer_table.specs.Asks.{link_said}
 pub use Rattle.pulsar_laws.proofs.calls.Same.{same_self, same_who}
 
 -- THE FIRST OF WHAT IS LEFT
@@ -60,7 +61,7 @@ at_spot w who Reports (Tell n) left is h = (is, refl)
 at_spot w who Reports action left is h = absurd cc
 at_spot w who Leaves action left is h = tt
 at_spot w who Keeps action left is h = tt
-at_spot w who Stores (Store n entry) left is h = (is, refl)
+at_spot w who Stores (OfTopic n (Store entry)) left is h = (is, refl)
 at_spot w who Stores action left is h = absurd cc
 at_spot w who Holds action left is h = holds_on w who action left is (both (is_quick action) (is_own action) h).0
 at_spot w who Nowhere action left is h = absurd cc
@@ -133,16 +134,17 @@ module _ (o : Options) (w : Who) (log : List Entry) (k : SoundAt (spot_of ((view
   told_next : (who : Who) (action : Action) → is_quick action ≡ true → (u : Outcome) × (at_once v (Does who action) ≡ tells who u)
   told_next who (Tell n) q = (outcome.Granted news.Done, refl)
   told_next who (TellAll ns) q = (outcome.Granted news.Done, refl)
-  told_next who (TakeBatch n) q = (outcome.Granted (news.HasBatch (next_batch_at (v.producers.topics n))), refl)
-  told_next who (Store n entry) q = (outcome.Granted news.Done, refl)
+  told_next who (OfTopic n TakeBatch) q = (outcome.Granted (news.HasBatch (next_batch_at (v.producers.topics n))), refl)
+  told_next who (OfTopic n (Store entry)) q = (outcome.Granted news.Done, refl)
+  told_next who (Hold l n) q = (outcome.Granted news.Done, refl)
   told_next who (Shut t) q = (outcome.Granted news.Done, refl)
-  told_next who (Find n) q = found (link_at (v.producers.topics n))
+  told_next who (OfTopic n Find) q = found (link_at (v.producers.topics n))
     where
-      found : (r : Option ℕ) → (u : Outcome) × (finds who r ≡ tells who u)
+      found : (r : Option ℕ) → (u : Outcome) × (says_to who (link_said r) ≡ tells who u)
       found None = (outcome.Disconnected, refl)
       found (Some l) = (outcome.GotLink l, refl)
   told_next who (Ask l request) q = (told_at (answer_at v.now request (v.links.live l)), refl)
-  told_next who (PassTurn n) q = (outcome.Granted news.Done, refl)
+  told_next who (OfTopic n PassTurn) q = (outcome.Granted news.Done, refl)
   told_next who action q = absurd cc
 
   quick_on : (who : Who) (action : Action) → is_quick action ≡ true → first g ≡ Some (Does who action) →

@@ -3,18 +3,18 @@ use Rattle.std.proofs.Common.{◌≡◌, ℕ, List, [], ◌∷◌, refl, Bool, t
 use Rattle.std.specs.Prelude.{not}
 use Rattle.pulsar_calls.specs.declared.act.Procedure.TheVariants as procedure
 use Rattle.std.specs.Option.{is_some}
-use Rattle.pulsar_laws.proofs.ActWords.{Act, Action, Asked, Call, Checks, Comes, Flushes, lacks_tickets, Link, next_advice, Outcome, Procedure, Refusal, Share, shares, Starts, Store, Verdict}
-use Rattle.pulsar_laws.proofs.PlanWords.{action_of, Batches, begins, Building as Build, Deed, Errand, Gives, News, Order, Plan, Sending as Send, Sought, Stays, told, Turn, Ways}
+use Rattle.pulsar_laws.proofs.ActWords.{Act, Action, Asked, Call, Checks, Comes, Flushes, Link, OfTopic, Outcome, Procedure, CallRefusal, Share, Starts, Store, Verdict, lacks_tickets, next_advice, shares}
+use Rattle.pulsar_laws.proofs.PlanWords.{action_of, Batches, begins, BuildingProducer as Build, Deed, Errand, Gives, News, ProducerOrder, Plan, Sending as Send, Sought, Stays, told, Turn, Ways}
 use Rattle.pulsar_laws.proofs.RunWords.{asks_raw, asks_topics, Begins, builds_with, checks, Chosen, closes, Each, Entry, fails_as, flushes, flushes_all, from_base, gathers as gathers_by, In, InThisStep, IsRun, may_call, parts_of, procedure_for, produces, produces_from, searches, sends, sends_as, sends_by, share, shares_of, shares_unless, starts, stores_as, Then, unless, unless_refused, view, View, ways_of, why_no_raw, why_no_sends}
 use Rattle.pulsar_laws.proofs.LinkWords.{Place}
 use Rattle.pulsar_frame.specs.Batch.{EntryValues}
 use Rattle.pulsar_messages.specs.Content.{ProducerMessageValues}
-use Rattle.pulsar_searches.specs.declared.plan.Procedure.TheVariants as sought
+use Rattle.pulsar_searches.specs.declared.plan.Sought.TheVariants as sought
 use Rattle.pulsar_outgoing.specs.Batch.{entry_of}
 use Rattle.pulsar_outgoing.specs.Wanted.{ProducerWanted}
 use Rattle.pulsar_laws.proofs.Cases.{cond_so}
 use Rattle.pulsar_laws.specs.BatchLaws.{BringsEntry, StoredAtOnce}
-use Rattle.pulsar_calls.specs.declared.act.Refusal.TheVariants as refusal
+use Rattle.pulsar_calls.specs.declared.act.CallRefusal.TheVariants as refusal
 use Rattle.pulsar_calls.specs.declared.act.Says.TheVariants as says
 use Rattle.pulsar_calls.specs.Content as content
 use Rattle.pulsar_calls.specs.Content.{sent_by}
@@ -27,7 +27,7 @@ use Rattle.pulsar_producer.proofs.Arcs.{BuildArc, SendArc, draws, naming_rests}
 use Rattle.pulsar_laws.proofs.plans.Consuming.{humble_call, is_humble}
 
 abbrev is_store : Action → Bool
-is_store (Store n e) = true
+is_store (OfTopic n (Store e)) = true
 is_store _ = false
 
 abbrev NoStore : Plan → Action → Type 0
@@ -37,7 +37,7 @@ send_none : {w : Ways} {e : Errand} {s q : Send} {y : News} {d : Deed} → SendA
 send_none draws = refl
 send_none _ = refl
 
-build_none : {w : Ways} {o : Order} {b q : Build} {y : News} {d : Deed} → BuildArc w o b y q d → is_store (action_of d) ≡ false
+build_none : {w : Ways} {o : ProducerOrder} {b q : Build} {y : News} {d : Deed} → BuildArc w o b y q d → is_store (action_of d) ≡ false
 build_none naming_rests = refl
 build_none _ = refl
 
@@ -59,20 +59,20 @@ abbrev action_in : Action → Turn Plan Verdict → Action
 action_in a (Stays p b) = b
 action_in a (Gives verdict) = a
 
-none_stores : (t : Turn Plan Verdict) (plan : Plan) (n : ℕ) (x : EntryValues) → StaysSo NoStore t → t ≡ Stays plan (Store n x) → ⊥
+none_stores : (t : Turn Plan Verdict) (plan : Plan) (n : ℕ) (x : EntryValues) → StaysSo NoStore t → t ≡ Stays plan (OfTopic n (Store x)) → ⊥
 none_stores t plan n x k h = let f : true ≡ false = subst (StaysSo NoStore) h k in cc
 
 -- WHO STORES
 
-begun_store : {p : Procedure} {q : Plan} {a : Action} (n : ℕ) (x : EntryValues) → Begun p q a → a ≡ Store n x →
+begun_store : {p : Procedure} {q : Plan} {a : Action} (n : ℕ) (x : EntryValues) → Begun p q a → a ≡ OfTopic n (Store x) →
     (share : Option Share) × (p ≡ procedure.Store n share x)
 begun_store n x (begins_storing {n = m} {share} {x = y}) e = (share, cc)
 begun_store n x _ e = absurd cc
 
-begins_store : (p : Procedure) (plan : Plan) (n : ℕ) (x : EntryValues) → begins p ≡ Stays plan (Store n x) →
+begins_store : (p : Procedure) (plan : Plan) (n : ℕ) (x : EntryValues) → begins p ≡ Stays plan (OfTopic n (Store x)) →
     (share : Option Share) × (p ≡ procedure.Store n share x)
 begins_store p plan n x h =
-    by_begun (λ t. t ≡ Stays plan (Store n x) → (share : Option Share) × (p ≡ procedure.Store n share x)) p
+    by_begun (λ t. t ≡ Stays plan (OfTopic n (Store x)) → (share : Option Share) × (p ≡ procedure.Store n share x)) p
     (λ q a k e. begun_store n x k (ap (action_in a) e)) (λ v k e. absurd cc) h
 
 -- THE MESSAGES OF A CALL
@@ -91,11 +91,11 @@ StartsOne ms (Starts who p) = IsOne ms p
 StartsOne ms a = Unit {0}
 
 module _ (ms : List ProducerMessageValues) where
-  unless_one : (r : Option Refusal) (p : Procedure) → IsOne ms p → IsOne ms (unless r p)
+  unless_one : (r : Option CallRefusal) (p : Procedure) → IsOne ms p → IsOne ms (unless r p)
   unless_one None p x = x
   unless_one (Some r) p x = tt
 
-  fails_one : (share : Option Share) (r : Refusal) → IsOne ms (fails_as share r)
+  fails_one : (share : Option Share) (r : CallRefusal) → IsOne ms (fails_as share r)
   fails_one None r = tt
   fails_one (Some s) r = tt
 
@@ -118,7 +118,7 @@ module _ (ms : List ProducerMessageValues) where
     parts_one o (routed t m ps) of (k + 1) (drop 1 advised) t left (λ x i. h x (inr i)),
   )
 
-  unless_parts : (v : View) (advised : List (Option ℕ)) (t : ℕ) (r : Option Refusal) → Each (StartsOne ms) (shares_unless r v advised t ms)
+  unless_parts : (v : View) (advised : List (Option ℕ)) (t : ℕ) (r : Option CallRefusal) → Each (StartsOne ms) (shares_unless r v advised t ms)
   unless_parts v advised t (Some r) = tt
   unless_parts v advised t None = parts_one v.chosen v.producers v.calls.drawn (v.calls.drawn + 1) advised t ms (λ m i. i)
 
@@ -215,7 +215,7 @@ step_more P Q (Then a ∷ log) f (inl h) = inl (f (Then a) log h)
 step_more P Q (Then a ∷ log) f (inr h) = inr (step_more P Q log f h)
 
 pub stored_at_once_lem : StoredAtOnce
-stored_at_once_lem o log t n x run = elim (does_from o log (Call t) (Store n x) run) [
+stored_at_once_lem o log t n x run = elim (does_from o log (Call t) (OfTopic n (Store x)) run) [
   | inl b ↦ begun b
   | inr l ↦ absurd (none_stores (told l.before l.outcome) l.plan n x (told_none l.before l.outcome) l.leads)
 ]
@@ -239,7 +239,7 @@ stored_at_once_lem o log t n x run = elim (does_from o log (Call t) (Store n x) 
             let s = sent_in (sent_by k.0) m.0 m.1 in
             (k.0, s.0, m.0, k.1, s.1, s.2, m.2)
 
-    begun : BeginsSo o log (Call t) (Store n x) → (share : Option Share) × (older : List Entry)
+    begun : BeginsSo o log (Call t) (OfTopic n (Store x)) → (share : Option Share) × (older : List Entry)
         × (log ≡ Then (Starts (Call t) (procedure.Store n share x)) ∷ older) × InThisStep (BringsEntry o x) older
     begun b =
         let k = begins_store b.procedure b.plan n x b.leads in

@@ -1,7 +1,7 @@
 -- Only the plan of a topic producer's batches takes batches, which are its own, and tells those who are in one.
 use Rattle.std.proofs.Common.{◌≡◌, ℕ, List, ◌∷◌, refl, Bool, true, false, ◌∙◌, sym, ap, subst, inl, inr}
-use Rattle.pulsar_laws.proofs.ActWords.{Action, Call, Consumer, Does, Notice, Outcome, Procedure, Producer, TakeBatch, TellAll, Told, Who}
-use Rattle.pulsar_laws.proofs.PlanWords.{action_of, begins, Building as Build, Deed, Errand, News, Order, Plan, Sending as Send, told, Ways}
+use Rattle.pulsar_laws.proofs.ActWords.{Action, Call, Consumer, Does, Notice, OfTopic, Outcome, Procedure, Producer, TakeBatch, TellAll, Told, Who}
+use Rattle.pulsar_laws.proofs.PlanWords.{action_of, begins, BuildingProducer as Build, Deed, Errand, News, ProducerOrder, Plan, Sending as Send, told, Ways}
 use Rattle.pulsar_laws.proofs.RunWords.{Entry, IsRun, notice, Options, Then}
 use Rattle.pulsar_laws.proofs.plans.Batched.{takes_where}
 use Rattle.pulsar_laws.proofs.producers.BatchRun.{batched_run, deed_at}
@@ -14,7 +14,7 @@ use Rattle.pulsar_laws.proofs.plans.Consuming.{is_modest}
 use Rattle.pulsar_laws.proofs.plans.Servers.{server_does}
 
 abbrev is_taker : Action → Bool
-is_taker (TakeBatch n) = true
+is_taker (OfTopic n TakeBatch) = true
 is_taker (TellAll ns) = true
 is_taker _ = false
 
@@ -25,7 +25,7 @@ send_takes : {w : Ways} {e : Errand} {s q : Send} {y : News} {d : Deed} → Send
 send_takes draws = refl
 send_takes _ = refl
 
-build_takes : {w : Ways} {o : Order} {b q : Build} {y : News} {d : Deed} → BuildArc w o b y q d → is_taker (action_of d) ≡ false
+build_takes : {w : Ways} {o : ProducerOrder} {b q : Build} {y : News} {d : Deed} → BuildArc w o b y q d → is_taker (action_of d) ≡ false
 build_takes naming_rests = refl
 build_takes _ = refl
 
@@ -61,10 +61,10 @@ call_takes o log t a is run = elim (does_from o log (Call t) a run) [
 ]
 
 -- a batch is taken by its own topic producer
-pub taken_by_own : (o : Options) (log : List Entry) (who : Who) (m : ℕ) → IsRun o (Then (Does who (TakeBatch m)) ∷ log) → who ≡ Producer m
-taken_by_own o log (Call t) m run = absurd (call_takes o log t (TakeBatch m) refl run)
-taken_by_own o log (Consumer n t) m run = (let f : is_modest (TakeBatch m) ≡ true = server_does o log n t (TakeBatch m) run in absurd cc)
-taken_by_own o log (Producer n) m run = elim (deed_at o log n (TakeBatch m) run (batched_run o log run.0)) [
+pub taken_by_own : (o : Options) (log : List Entry) (who : Who) (m : ℕ) → IsRun o (Then (Does who (OfTopic m TakeBatch)) ∷ log) → who ≡ Producer m
+taken_by_own o log (Call t) m run = absurd (call_takes o log t (OfTopic m TakeBatch) refl run)
+taken_by_own o log (Consumer n t) m run = (let f : is_modest (OfTopic m TakeBatch) ≡ true = server_does o log n t (OfTopic m TakeBatch) run in absurd cc)
+taken_by_own o log (Producer n) m run = elim (deed_at o log n (OfTopic m TakeBatch) run (batched_run o log run.0)) [
   | inl d ↦
       (let t = takes_where d.was.ways d.was.errand d.was.state d.outcome d.state m d.step in
       let e : m ≡ n = t.0 ∙ d.was.own in

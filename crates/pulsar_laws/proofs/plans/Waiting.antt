@@ -2,7 +2,7 @@
 use Rattle.std.proofs.Common.{◌≡◌, ◌⊎◌, inl, inr, ◌∙◌, sym, ap, subst, ℕ, ◌==◌, List, [], ◌∷◌, refl, true, false, Option, Some, None, Result, Ok, Err}
 use Rattle.std.specs.Option.{option_map}
 use Rattle.pulsar_laws.proofs.ActWords.{Action, Outcome, Procedure, Starts, Told, Wait, Who}
-use Rattle.pulsar_laws.proofs.PlanWords.{action_of, Batches, Batching, begins, Building as Build, Command, Deed, Errand, Heard as Heard', Later, Denies, Says, Looking, Making, Naming, news_in, News, Order, Plan, Producing, Reporting, SearchTurn, Sending as Send, Serving, Sought, Subscribing, told, Ways}
+use Rattle.pulsar_laws.proofs.PlanWords.{action_of, Batches, Batching, begins, BuildingProducer as Build, Command, Deed, Errand, Heard as Heard', Later, Denies, Says, Looking, Making, Naming, news_in, News, ProducerOrder, Plan, Producing, Reporting, SearchTurn, Sending as Send, Serving, Sought, Subscribing, told, Ways}
 use Rattle.pulsar_laws.proofs.RunWords.{Entry, IsRun, notice, Options, Then, view, ways_of}
 use Rattle.pulsar_laws.proofs.LinkWords.{Failure, Fault, Named, Place}
 use Rattle.pulsar_searches.specs.Plans as search
@@ -14,26 +14,26 @@ use Rattle.pulsar_searches.specs.declared.look.Looking.TheVariants as look
 use Rattle.pulsar_searches.specs.declared.look.Search.{Search as Question}
 use Rattle.pulsar_searches.specs.declared.making.Making.TheVariants as make
 use Rattle.pulsar_searches.specs.declared.names.Naming.TheVariants as name
-use Rattle.pulsar_searches.specs.declared.plan.Plan.{Plan as Search}
-use Rattle.pulsar_searches.specs.declared.plan.Plan.TheVariants as searching
-use Rattle.pulsar_searches.specs.declared.plan.Procedure.TheVariants as sought
+use Rattle.pulsar_searches.specs.declared.plan.SearchPlan.{SearchPlan as Search}
+use Rattle.pulsar_searches.specs.declared.plan.SearchPlan.TheVariants as searching
+use Rattle.pulsar_searches.specs.declared.plan.Sought.TheVariants as sought
 use Rattle.pulsar_searches.specs.declared.replies.Heard.{Heard}
 use Rattle.pulsar_searches.specs.declared.replies.Pointed.{Pointed}
 use Rattle.pulsar_searches.specs.declared.replies.Pointed.TheVariants.{Redirects, Serves}
 use Rattle.pulsar_searches.specs.declared.retry.Retrying.{Retrying}
 use Rattle.pulsar_searches.specs.declared.retry.Retrying.TheVariants as retry
 use Rattle.pulsar_searches.specs.declared.turn.Action.TheVariants as wish
-use Rattle.pulsar_searches.specs.declared.turn.Outcome.TheVariants as news
+use Rattle.pulsar_searches.specs.declared.turn.SearchOutcome.TheVariants as news
 use Rattle.pulsar_searches.specs.declared.turn.Turn.TheVariants as search_turn
 use Rattle.pulsar_consumer.specs.Plans as consume
-use Rattle.pulsar_consumer.specs.declared.building.Building.{Building as ConsumerBuild}
-use Rattle.pulsar_consumer.specs.declared.building.Building.TheVariants as consumer_build
+use Rattle.pulsar_consumer.specs.declared.building.BuildingConsumer.{BuildingConsumer as ConsumerBuild}
+use Rattle.pulsar_consumer.specs.declared.building.BuildingConsumer.TheVariants as consumer_build
 use Rattle.pulsar_consumer.specs.declared.building.Deed.TheVariants as consumer_deed
 use Rattle.pulsar_consumer.specs.declared.building.News.{News as ConsumerNews}
 use Rattle.pulsar_consumer.specs.declared.building.News.TheVariants as consumer_news
 use Rattle.pulsar_consumer.specs.declared.resuming.Resuming.{Resuming}
 use Rattle.pulsar_consumer.specs.declared.resuming.Resuming.TheVariants as resume
-use Rattle.pulsar_incoming.specs.declared.orders.Order.{Order as ConsumerOrder}
+use Rattle.pulsar_incoming.specs.declared.orders.ConsumerOrder.{ConsumerOrder}
 use Rattle.pulsar_plans.specs.declared.plan.Plan.TheVariants.{Searching, Sending}
 use Rattle.pulsar_acts.specs.View.{ways_from}
 use Rattle.pulsar_laws.proofs.Cases.{cond_so, none_some, some_is}
@@ -195,7 +195,7 @@ module _ (w : Ways) where
 
 -- ONE STEP OF A PLAN
 
-abbrev ways_at : Plan → Option Ways
+abbrev pub ways_at : Plan → Option Ways
 ways_at (Searching w s) = Some w
 ways_at (Producing w o b) = Some w
 ways_at (Sending w e share s) = Some w
@@ -220,7 +220,7 @@ send_waits {w} (looks_on_waits {c} {s = l} {o} i) = (w, refl, subst (WaitsBy w) 
 send_waits {w} (makes_on_waits {c} {s = m} {o} i) = (w, refl, subst (WaitsBy w) i (made_waits w c m o))
 send_waits _ = tt
 
-build_arc_waits : {w : Ways} {o : Order} {b q : Build} {y : News} {d : Deed} → BuildArc w o b y q d → WaitSo (Some w) (action_of d)
+build_arc_waits : {w : Ways} {o : ProducerOrder} {b q : Build} {y : News} {d : Deed} → BuildArc w o b y q d → WaitSo (Some w) (action_of d)
 build_arc_waits {w} {o} (names_on_waits {n} {x} i) = (w, refl, subst (WaitsBy w) i (names_waits w o.topic n x))
 build_arc_waits {w} (builds_on_waits {c} {s = m} {x} i) = (w, refl, subst (WaitsBy w) i (made_waits w c m x))
 build_arc_waits _ = tt
@@ -258,7 +258,7 @@ begins_ways p = begins_by (WaysSo (ways_in p)) p (λ q a k. begun_ways k)
 -- ALONG A LOG
 
 module _ (o : Options) where
-  abbrev given : Option Ways
+  abbrev pub given : Option Ways
   given = ways_of o.chosen
 
   -- what begins has no ways, or those of the options: so those that it has are these
@@ -267,7 +267,7 @@ module _ (o : Options) where
   by_given p w (inr same) h = sym same ∙ h
 
   -- a plan stands by them
-  stands_by : (log : List Entry) (who : Who) (q : Plan) (w : Ways) → IsRun o log → (view o log).stand who ≡ Some q → ways_at q ≡ Some w → given ≡ Some w
+  pub stands_by : (log : List Entry) (who : Who) (q : Plan) (w : Ways) → IsRun o log → (view o log).stand who ≡ Some q → ways_at q ≡ Some w → given ≡ Some w
   stands_by log who q w run h is =
       stands_so o who (IsRun o) (run_older o) (λ log q. (w : Ways) → ways_at q ≡ Some w → given ≡ Some w)
       (λ e log q m r s k. k)

@@ -2,7 +2,7 @@
 use Rattle.std.proofs.Common.{◌≡◌, inl, inr, ◌∙◌, sym, ap, subst, ℕ, List, ◌∷◌, refl, Bool, true, false, ◌||◌, cond, Some, None, Err}
 use Rattle.std.proofs.lemmas.Bool.{cases_Bool}
 use Rattle.std.specs.List.{list_any}
-use Rattle.pulsar_laws.proofs.ActWords.{Action, Does, Draw, Flush, is_same, Notice, Number, Outcome, PassTurn, Procedure, Producer, Recall, Remake, Rest, Shut, Starts, Store, TakeBatch, TakeTurn, Tell, TellAll, Told, Who}
+use Rattle.pulsar_laws.proofs.ActWords.{Action, Does, Notice, OfTopic, Outcome, Procedure, Producer, Rest, Starts, TakeBatch, Told, Who, is_same}
 use Rattle.pulsar_laws.proofs.PlanWords.{Batches, Batching, begins, Errand, Heard, Member, news_of, Plan, Sending as Send, Stays, told, Ways}
 use Rattle.pulsar_laws.proofs.RunWords.{Begins, Entry, In, IsRun, notice, Options, Then, View, view}
 use Rattle.pulsar_laws.proofs.LinkWords.{Failure}
@@ -36,18 +36,7 @@ pub never_told : (o : Options) (log : List Entry) (who : Who) (u : Outcome) → 
 never_told o log who u run = by u run
   where
     none : (v : View) (action : Action) (x : Heard) → GivenBy v action (news.Told x) → ⊥
-    none v (TakeTurn n) x h = h
-    none v (PassTurn n) x h = h
-    none v (Draw n) x h = h
-    none v (Recall n) x h = h
-    none v (Remake r) x h = h
-    none v Number x h = h
-    none v (Shut t) x h = h
-    none v (Store n entry) x h = h
-    none v (Flush n) x h = h
-    none v (TakeBatch n) x h = h
-    none v (Tell n) x h = h
-    none v (TellAll ns) x h = h
+    none v (OfTopic n ask) x h = h
     none v _ x h = h
 
     by : (u : Outcome) → IsRun o (Then (Told (notice who u)) ∷ log) → is_told_news u ≡ false
@@ -164,7 +153,7 @@ same_keeps log x n _ same k = tt
 
 since_same : (log : List Entry) (n : ℕ) (who : Who) (a : Action) → (is_same (Producer n) who ≡ true → is_batch_deed a ≡ true → ⊥) →
     told_since n (Then (Does who a) ∷ log) ≡ told_since n log
-since_same log n who (TakeBatch m) other = elim (cases_Bool (is_same (Producer n) who)) [ inl e ↦ absurd (other e refl) | inr e ↦ rw e refl ]
+since_same log n who (OfTopic m TakeBatch) other = elim (cases_Bool (is_same (Producer n) who)) [ inl e ↦ absurd (other e refl) | inr e ↦ rw e refl ]
 since_same log n who _ other = refl
 
 -- ALONG A LOG

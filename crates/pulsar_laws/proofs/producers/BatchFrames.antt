@@ -1,8 +1,8 @@
 -- The frame of a batch, as its topic producer asks for it.
-use Rattle.std.proofs.Common.{◌≡◌, inl, inr, ◌∙◌, sym, ap, subst, ℕ, ◌+◌, List, ◌∷◌, refl, Bool, true, false, cond, Option, Some, None, Ok}
-use Rattle.pulsar_laws.proofs.ActWords.{Action, Ask, Does, Draw, Notice, Outcome, Procedure, Producer, Rest, Starts, Told}
+use Rattle.std.proofs.Common.{◌≡◌, ◌==◌, inl, inr, ◌∙◌, sym, ap, subst, ℕ, ◌+◌, List, ◌∷◌, refl, Bool, true, false, cond, Option, Some, None, Ok, []}
+use Rattle.pulsar_laws.proofs.ActWords.{Action, Ask, Does, Draw, Notice, OfTopic, Outcome, Procedure, Producer, Rest, Starts, Told}
 use Rattle.pulsar_laws.proofs.PlanWords.{action_of, Batches, Batching, begins, Deed, Drawn, Errand, Member, News, news_of, Plan, Sending as Send, Stays, told, Ways}
-use Rattle.pulsar_laws.proofs.RunWords.{Begins, draws_on, Entry, In, IsRun, notice, Options, room_of, Then, view}
+use Rattle.pulsar_laws.proofs.RunWords.{Begins, Entry, In, IsRun, notice, Options, room_of, Then, view}
 use Rattle.pulsar_laws.proofs.LinkWords.{Words}
 use Rattle.pulsar_messages.specs.Content.{ProducerMessageValues}
 use Rattle.pulsar_messages.specs.Words as words
@@ -23,7 +23,7 @@ use Rattle.pulsar_laws.proofs.plans.Standing.{moves, run_older, stands_so}
 use Rattle.pulsar_laws.proofs.producers.BatchRun.{turn_so, AtDeed, Batched, PromptSo, StandsSo, batched_run, calm_at, deed_at, settles_all, some_batch, under_kept, was_done}
 use Rattle.pulsar_laws.specs.BatchLaws.{FramesOfBatches, under_way}
 use Rattle.pulsar_producer_table.specs.Producers.{topic_after}
-use Rattle.pulsar_laws.specs.ProducerLaws.{HasTurn}
+use Rattle.pulsar_laws.specs.ProducerLaws.{HasTurn, drawn_by}
 use Rattle.pulsar_laws.proofs.plans.Batched.{BatchSo, GoesOn, IsSending, StepTo}
 use Rattle.pulsar_laws.proofs.producers.Drawing.{here}
 use Rattle.pulsar_laws.proofs.producers.Frames.{IsDrawn, VersionTold, draw_by, is_drawn, message_more, message_told, recall_plain, version_now, version_same}
@@ -33,6 +33,7 @@ use Rattle.pulsar_laws.proofs.plans.Owned.{starts_own}
 use Rattle.pulsar_laws.proofs.links.Receipts.{Split, run_behind, split_in}
 use Rattle.pulsar_laws.proofs.producers.TurnActs.{changed_at}
 use Rattle.pulsar_laws.proofs.producers.TurnRun.{own_in_turn, own_told_none}
+use Rattle.pulsar_run.specs.Things.{row_by}
 
 -- it was told this version with its newest turn
 abbrev TurnTold : List Entry → ℕ → Option (List ℕ) → Type 0
@@ -170,7 +171,7 @@ record InSend (o : Options) (log : List Entry) (n : ℕ) (a : Action) : Type 0 w
 
 abbrev is_within : Action → Bool
 is_within (Ask l request) = true
-is_within (Draw n) = true
+is_within (OfTopic n Draw) = true
 is_within _ = false
 
 in_send : (o : Options) (log : List Entry) (n : ℕ) (a : Action) → is_within a ≡ true → IsRun o (Then (Does (Producer n) a) ∷ log) → InSend o log n a
@@ -240,7 +241,7 @@ link_of k (Ask l request) = l
 link_of k _ = k
 
 abbrev drawn_at : ℕ → Action → ℕ
-drawn_at k (Draw n) = n
+drawn_at k (OfTopic n Draw) = n
 drawn_at k _ = k
 
 abbrev sent_by : ℕ → Words → ℕ
@@ -315,10 +316,10 @@ asked_own o log n l k s name m block run i =
 
 -- THE DRAW before it
 
-draws_own : (o : Options) (log : List Entry) (n m : ℕ) → IsRun o (Then (Does (Producer n) (Draw m)) ∷ log) → m ≡ n
-draws_own o log n m run = let x = in_send o log n (Draw m) refl run in by x x.deed x.is_it x.so
+draws_own : (o : Options) (log : List Entry) (n m : ℕ) → IsRun o (Then (Does (Producer n) (OfTopic m Draw)) ∷ log) → m ≡ n
+draws_own o log n m run = let x = in_send o log n (OfTopic m Draw) refl run in by x x.deed x.is_it x.so
   where
-    by : (x : InSend o log n (Draw m)) (d : Deed) → Draw m ≡ action_of d → DeedSo x.errand x.whole (TurnTold log n) (news_of x.outcome) x.state d → m ≡ n
+    by : (x : InSend o log n (OfTopic m Draw)) (d : Deed) → OfTopic m Draw ≡ action_of d → DeedSo x.errand x.whole (TurnTold log n) (news_of x.outcome) x.state d → m ≡ n
     by x (deed.Draws j) h so = ap (drawn_at m) h ∙ so ∙ x.own
     by x (deed.Does (wish.Get p)) h so = absurd cc
     by x (deed.Does (wish.Ask l request)) h so = absurd cc
@@ -327,7 +328,7 @@ draws_own o log n m run = let x = in_send o log n (Draw m) refl run in by x x.de
 
 record WasDrawn (o : Options) (older : List Entry) (n : ℕ) (d : Drawn) : Type 0 where
   behind : List Entry
-  there : older ≡ Then (Does (Producer n) (Draw n)) ∷ behind
+  there : older ≡ Then (Does (Producer n) (OfTopic n Draw)) ∷ behind
   room : Bool
   ready : room_of (view o behind) n ≡ Some room
   row : IsDrawn room ((view o behind).producers.topics n) d
@@ -338,11 +339,11 @@ was_drawn o older n d run =
     let note : Notice = notice (Producer n) (outcome.Granted (news.Drew d)) in
     let g = granted_by o older note refl run in
     let b = draw_by (view o g.older) g.action d (grants_given o older note g (news.Drew d) refl) in
-    let there : older ≡ Then (Does (Producer n) (Draw b.0)) ∷ g.older = g.is_there ∙ ap (λ (x : Action). Then (Does (Producer n) x) ∷ g.older) b.1 in
+    let there : older ≡ Then (Does (Producer n) (OfTopic b.0 Draw)) ∷ g.older = g.is_there ∙ ap (λ (x : Action). Then (Does (Producer n) x) ∷ g.older) b.1 in
     let own : b.0 ≡ n = draws_own o g.older n b.0 (subst (IsRun o) there run.0) in
     record {
       behind = g.older;
-      there = there ∙ ap (λ m. Then (Does (Producer n) (Draw m)) ∷ g.older) own;
+      there = there ∙ ap (λ m. Then (Does (Producer n) (OfTopic m Draw)) ∷ g.older) own;
       room = b.2;
       ready = ap (room_of (view o g.older)) (sym own) ∙ b.3;
       row = subst (λ m. IsDrawn b.2 ((view o g.older).producers.topics m) d) own (is_drawn b.2 ((view o g.older).producers.topics b.0) d b.4);
@@ -353,7 +354,7 @@ pub record IsDrawnFor (o : Options) (log : List Entry) (n k s : ℕ) : Type 0 wh
   pub own : k ≡ n
   pub told : Notice
   pub behind : List Entry
-  pub there : log ≡ Then (Told told) ∷ Then (Does (Producer n) (Draw n)) ∷ behind
+  pub there : log ≡ Then (Told told) ∷ Then (Does (Producer n) (OfTopic n Draw)) ∷ behind
   pub before : Topic
   pub was : (view o behind).producers.topics n ≡ Some before
   pub number : s ≡ before.seen.next
@@ -393,7 +394,7 @@ frames_of_batches_lem o log n l k s name m block run =
     let now : (view o log).producers.topics n ≡ Some (topic_after Draws before) =
     ap (λ y. (view o y).producers.topics n) x.there
     ∙ ap (λ y. (view o y).producers.topics n) d.there
-    ∙ ap (λ q. (draws_on q n (view o d.behind).producers).topics n) d.ready
+    ∙ ap (λ q. row_by topic_after (cond (n == n) (drawn_by q) []) ((view o d.behind).producers.topics n)) d.ready
     ∙ changed_at Draws (view o d.behind).producers n before d.row.is_it in
     let stands : (view o log).stand (Producer n) ≡ Some (Batching x.ways x.errand (batching.Sending x.members x.count (send.Asked a.kept))) =
     x.stands ∙ ap (λ q. Some (Batching x.ways x.errand (batching.Sending x.members x.count q))) a.asked in

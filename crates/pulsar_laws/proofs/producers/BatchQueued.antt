@@ -1,7 +1,7 @@
 -- A batch whose frame is queued is settled by what becomes of that; and by a receipt only where it is queued.
 use Rattle.std.proofs.Common.{◌≡◌, ◌⊎◌, inl, inr, ◌∙◌, sym, ap, subst, ℕ, ◌+◌, ◌≤◌, arith, List, ◌∷◌, refl, Bool, true, false, ◌&&◌, cond, Some, Ok, Err}
 use Rattle.std.proofs.lemmas.Bool.{cases_Bool}
-use Rattle.pulsar_laws.proofs.ActWords.{Action, Does, Draw, Flush, is_same, Notice, Number, Outcome, PassTurn, Procedure, Producer, Recall, Remake, Rest, Shut, Starts, Store, TakeBatch, TakeTurn, Tell, TellAll, Told, Who}
+use Rattle.pulsar_laws.proofs.ActWords.{Action, Does, Notice, OfTopic, Outcome, Procedure, Producer, Rest, Starts, TakeBatch, TellAll, Told, Who, is_same}
 use Rattle.pulsar_laws.proofs.PlanWords.{Batches, Batching, begins, Deed, Errand, Member, News, news_of, overrides, Plan, Sending as Send, Stays, told, Ways}
 use Rattle.pulsar_laws.proofs.RunWords.{Begins, Entry, IsRun, notice, Options, Then, View, view}
 use Rattle.pulsar_producer.specs.Batching.{is_sent_send}
@@ -34,18 +34,7 @@ never_queued o log who run =
     none (view o k.older) k.action (grants_given o log n k news.Queued refl)
   where
     none : (v : View) (action : Action) → GivenBy v action news.Queued → ⊥
-    none v (TakeTurn n) h = h
-    none v (PassTurn n) h = h
-    none v (Draw n) h = h
-    none v (Recall n) h = h
-    none v (Remake r) h = h
-    none v Number h = h
-    none v (Shut t) h = h
-    none v (Store n entry) h = h
-    none v (Flush n) h = h
-    none v (TakeBatch n) h = h
-    none v (Tell n) h = h
-    none v (TellAll ns) h = h
+    none v (OfTopic n ask) h = h
     none v _ h = h
 
 told_queued : (o : Options) (log : List Entry) (who : Who) (u : Outcome) → IsRun o (Then (Told (notice who u)) ∷ log) → news_of u ≡ news.Queued →
@@ -78,7 +67,7 @@ sent_more o log x n _ same k = tt
 
 frames_same : (o : Options) (log : List Entry) (n : ℕ) (who : Who) (a : Action) → (is_same (Producer n) who ≡ true → is_batch_deed a ≡ true → ⊥) →
     frames_queued o n (Then (Does who a) ∷ log) ≡ frames_queued o n log
-frames_same o log n who (TakeBatch m) other = elim (cases_Bool (is_same (Producer n) who)) [ inl e ↦ absurd (other e refl) | inr e ↦ rw e refl ]
+frames_same o log n who (OfTopic m TakeBatch) other = elim (cases_Bool (is_same (Producer n) who)) [ inl e ↦ absurd (other e refl) | inr e ↦ rw e refl ]
 frames_same o log n who _ other = refl
 
 more_frames : (b : Bool) (f : ℕ) → 1 ≤ f → 1 ≤ cond b (f + 1) f

@@ -6,7 +6,7 @@ use Rattle.pulsar_plans.proofs.Arcs.{Arc, BatchArc, batch_cuts, batch_sends, bat
 use Rattle.pulsar_laws.proofs.plans.Batchers.{batcher_stands, is_batcher}
 use Rattle.pulsar_laws.proofs.plans.Standing.{moves, run_older, stands_so}
 use Rattle.pulsar_laws.proofs.producers.Drawing.{every_run, Every, here}
-use Rattle.pulsar_laws.proofs.ActWords.{Act, Action, Does, Heard, is_same, Notice, Outcome, Part, Procedure, Producer, Rest, Starts, TakeBatch, TellAll, Told, Verdict, Who}
+use Rattle.pulsar_laws.proofs.ActWords.{Act, Action, Does, Heard, Notice, OfTopic, Outcome, Part, Procedure, Producer, Rest, Starts, TakeBatch, TellAll, Told, Verdict, Who, is_same}
 use Rattle.pulsar_laws.proofs.PlanWords.{action_of, Batches, Batching, begins, Deed, Errand, Gives, Member, News, overrides, Plan, Sending as Send, Stays, told, told_to, Turn, Ways}
 use Rattle.pulsar_laws.proofs.RunWords.{agenda, at_once, Begins, does, Entry, first, follows, follows_some, IsRun, notice, Options, performs, rest, stays, stays_some, Then, told_some, view, View}
 use Rattle.pulsar_messages.specs.Content.{ProducerMessageValues}
@@ -31,12 +31,12 @@ self_same n = same_self (Producer n)
 
 -- what it does in this state, and what it is told of that
 abbrev pub DeedOf : ℕ → Batches → Action → Type 0
-DeedOf n batching.Taking a = a ≡ TakeBatch n
+DeedOf n batching.Taking a = a ≡ OfTopic n TakeBatch
 DeedOf n batching.Settling a = (ns : List Notice) × (a ≡ TellAll ns)
 DeedOf n b a = ⊥
 
 abbrev pub says : View → Action → Outcome
-says v (TakeBatch n) = outcome.Granted (news.HasBatch (next_batch_at (v.producers.topics n)))
+says v (OfTopic n TakeBatch) = outcome.Granted (news.HasBatch (next_batch_at (v.producers.topics n)))
 says v a = outcome.Granted news.Done
 
 performs_so : (v : View) (n : ℕ) (b : Batches) (a : Action) → DeedOf n b a → performs v (Producer n) a ≡ Told (notice (Producer n) (says v a)) ∷ []
@@ -146,9 +146,9 @@ was_done o log n b u (inr d) fits =
 took_now : (o : Options) (log : List Entry) (n : ℕ) (u : Outcome) (k : WasDone o log n batching.Taking u) →
     u ≡ outcome.Granted (news.HasBatch (under_way o n log))
 took_now o log n u k =
-    let a : k.action ≡ TakeBatch n = k.deed in
+    let a : k.action ≡ OfTopic n TakeBatch = k.deed in
     let row = next_batch_at ((view o k.older).producers.topics n) in
-    let l : log ≡ Then (Does (Producer n) (TakeBatch n)) ∷ k.older = k.there ∙ ap (λ x. Then (Does (Producer n) x) ∷ k.older) a in
+    let l : log ≡ Then (Does (Producer n) (OfTopic n TakeBatch)) ∷ k.older = k.there ∙ ap (λ x. Then (Does (Producer n) x) ∷ k.older) a in
     let w : under_way o n log ≡ row = ap (under_way o n) l ∙ ap (λ c. cond c row (under_way o n k.older)) (self_same n) in
     k.said ∙ ap (says (view o k.older)) a ∙ ap (λ r. outcome.Granted (news.HasBatch r)) (sym w)
 
@@ -239,8 +239,8 @@ module _ (o : Options) (log : List Entry) (n : ℕ) (u : Outcome) (run : IsRun o
     prompt_then : (b q : Batches) (a : Action) → (agenda o later).now ≡ does (Producer n) a ++ left → StepTo w e b u q a → PromptSo o later n q
     prompt_then b batching.Resting a h k = tt
     prompt_then b batching.Taking a h k =
-        let i : a ≡ TakeBatch n = k.0 ∙ ap TakeBatch own in
-        inl (TakeBatch n, refl, left, h ∙ ap (λ x. does (Producer n) x ++ left) i)
+        let i : a ≡ OfTopic n TakeBatch = k.0 ∙ ap (λ x. OfTopic x TakeBatch) own in
+        inl (OfTopic n TakeBatch, refl, left, h ∙ ap (λ x. does (Producer n) x ++ left) i)
     prompt_then b (batching.Sending ms c x) a h k = tt
     prompt_then b batching.Settling a h k =
         let x = settles_all w e a b u k in
@@ -336,7 +336,7 @@ deed_at o log n a run k = elim (does_from o log (Producer n) a run) [ inl b ↦ 
 -- OTHER ACTS
 
 abbrev pub is_batch_deed : Action → Bool
-is_batch_deed (TakeBatch m) = true
+is_batch_deed (OfTopic m TakeBatch) = true
 is_batch_deed (TellAll ns) = true
 is_batch_deed _ = false
 
@@ -390,7 +390,7 @@ not_calm o log n a p run h b = elim (does_from o log (Producer n) a run) [ inl k
 
 under_same : (o : Options) (log : List Entry) (n : ℕ) (who : Who) (a : Action) → (is_same (Producer n) who ≡ true → is_batch_deed a ≡ true → ⊥) →
     under_way o n (Then (Does who a) ∷ log) ≡ under_way o n log
-under_same o log n who (TakeBatch m) other = elim (cases_Bool (is_same (Producer n) who)) [ inl e ↦ absurd (other e refl) | inr e ↦ rw e refl ]
+under_same o log n who (OfTopic m TakeBatch) other = elim (cases_Bool (is_same (Producer n) who)) [ inl e ↦ absurd (other e refl) | inr e ↦ rw e refl ]
 under_same o log n who (TellAll ns) other = elim (cases_Bool (is_same (Producer n) who)) [ inl e ↦ absurd (other e refl) | inr e ↦ rw e refl ]
 under_same o log n who _ other = refl
 
@@ -553,7 +553,7 @@ one_by_one o log older n u batching.Settling there run p s t =
     )
 
 pub batches_one_by_one_lem : BatchesOneByOne
-batches_one_by_one_lem o log n m run = elim (deed_at o log n (TakeBatch m) run (batched_run o log run.0)) [
+batches_one_by_one_lem o log n m run = elim (deed_at o log n (OfTopic m TakeBatch) run (batched_run o log run.0)) [
   | inl d ↦
       (let t = takes_where d.was.ways d.was.errand d.was.state d.outcome d.state m d.step in
       let x = one_by_one o log d.older n d.outcome d.was.state d.there d.run d.was.prompt d.was.so t.2 in

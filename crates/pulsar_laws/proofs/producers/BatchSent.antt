@@ -1,7 +1,7 @@
 -- The frame of a batch is queued at most once.
 use Rattle.std.proofs.Common.{◌≡◌, ◌⊎◌, inl, inr, ◌∙◌, sym, ap, subst, ℕ, ◌+◌, ◌≤◌, arith, List, [], ◌∷◌, refl, Bool, true, false, ◌&&◌, cond, Option, Some, None, Result, Ok, Err}
 use Rattle.std.proofs.lemmas.Bool.{cases_Bool}
-use Rattle.pulsar_laws.proofs.ActWords.{Act, Action, Does, is_same, Notice, Outcome, Procedure, Producer, Starts, TakeBatch, Told, Verdict, Who}
+use Rattle.pulsar_laws.proofs.ActWords.{Act, Action, Does, Notice, OfTopic, Outcome, Procedure, Producer, Starts, TakeBatch, Told, Verdict, Who, is_same}
 use Rattle.pulsar_laws.proofs.PlanWords.{Batches, Batching, begins, Deed, Errand, Gives, Member, News, news_of, Plan, Sending as Send, Stays, told, Turn, Ways}
 use Rattle.pulsar_laws.proofs.RunWords.{Begins, begun_same, Entry, IsRun, notice, Options, stays, stays_some, Then, told_some, view}
 use Rattle.pulsar_laws.proofs.LinkWords.{Fault}
@@ -125,7 +125,7 @@ pub none_yet : (o : Options) (log : List Entry) (n : ℕ) (u : Outcome) → Prom
     IsRun o (Then (Told (notice (Producer n) u)) ∷ log) → frames_queued o n log ≡ 0
 none_yet o log n u p run =
     let k = was_done o log n batching.Taking u p run.1 in
-    let a : k.action ≡ TakeBatch n = k.deed in
+    let a : k.action ≡ OfTopic n TakeBatch = k.deed in
     ap (frames_queued o n) (k.there ∙ ap (λ x. Then (Does (Producer n) x) ∷ k.older) a)
     ∙ ap (λ c. cond c 0 (frames_queued o n k.older)) (self_same n)
 
@@ -225,7 +225,7 @@ starts_then o log who q n run few = elim (cases_Bool (is_same (Producer n) who))
 ]
 
 does_then : (o : Options) (log : List Entry) (who : Who) (a : Action) (n : ℕ) → Few o log n → Few o (Then (Does who a) ∷ log) n
-does_then o log who (TakeBatch m) n few = elim (cases_Bool (is_same (Producer n) who)) [
+does_then o log who (OfTopic m TakeBatch) n few = elim (cases_Bool (is_same (Producer n) who)) [
   | inl e ↦ (let l : left_some ((view o log).stand (Producer n)) ≤ 1 = one_left ((view o log).stand (Producer n)) in rw e (omega (arith, l)))
   | inr e ↦ rw e few
 ]

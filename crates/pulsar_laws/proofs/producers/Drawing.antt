@@ -2,29 +2,29 @@
 use Rattle.std.proofs.Common.{◌≡◌, ◌⊎◌, inl, inr, ◌∙◌, sym, ap, subst, ℕ, ◌+◌, ◌-◌, ◌^◌, ◌<◌, ◌≤◌, ◌==◌, arith, List, [], ◌∷◌, refl, map, Bool, true, false, ◌&&◌, nat_lt, cond, Option, Some, None}
 use Rattle.std.proofs.lemmas.Bool.{cases_Bool, eqb-true}
 use Rattle.std.proofs.lemmas.Bool.Decides.{nat_tests}
-use Rattle.std.specs.Option.{is_some, option_map}
-use Rattle.pulsar_laws.proofs.ActWords.{Act, Action, Alarm, Answers, Asked, Batch, Call, Calls, Comes, Does, Draw, Flush, Heard, is_same, lacks_tickets, Makes, Nothing, Notice, Number, Outcome, PassTurn, Procedure, Remake, Rings, shares, Shut, Starts, StopAll, Store, TakeBatch, TakeTurn, Told, turn_of, Verdict, Who}
+use Rattle.std.specs.Option.{is_some}
+use Rattle.pulsar_laws.proofs.ActWords.{Act, Action, Answers, Asked, Call, Calls, Comes, Does, Heard, Makes, Nothing, Notice, Number, Outcome, Procedure, Starts, Told, Verdict, Who, is_same, lacks_tickets, shares}
 use Rattle.pulsar_laws.proofs.PlanWords.{Asking, Awaiting, begins, Built, fails, Gives, Plan, Producing, Stays, told, Turn}
-use Rattle.pulsar_laws.proofs.RunWords.{Answered, Begins, begun_same, counted, draws_on, each_map, Entry, In, IsRun, may_call, notice, Options, producers_made, producers_rung, room_of, started, stays, stays_some, Then, told_some, view, View}
-use Rattle.pulsar_laws.proofs.LinkWords.{Exhausted, rings}
+use Rattle.pulsar_laws.proofs.RunWords.{Answered, Begins, begun_same, counted, each_map, Entry, In, IsRun, may_call, notice, Options, producers_made, started, stays, stays_some, Then, told_some, view, View, rules}
+use Rattle.pulsar_laws.proofs.LinkWords.{Exhausted}
 use Rattle.pulsar_messages.specs.Content.{ProducerMessageValues}
 use Rattle.pulsar_messages.specs.Claims.{is_spent}
 use Rattle.pulsar_exchange.specs.Request.{named_producer}
 use Rattle.pulsar_producer.specs.Producer as producer
-use Rattle.pulsar_producer.specs.Topic as topic
 use Rattle.pulsar_outgoing.specs.Storage.{limits_of}
-use Rattle.pulsar_producer.specs.Topic.{Act as Deed, Closes, Halts, fresh}
+use Rattle.pulsar_producer.specs.Topic.{Act as Deed, fresh}
 use Rattle.pulsar_outgoing.specs.declared.storage.Limits.{Limits}
 use Rattle.pulsar_outgoing.specs.declared.news.News.TheVariants as news
 use Rattle.pulsar_calls.specs.declared.act.Makes.TheVariants.{Producer}
+use Rattle.pulsar_acts.specs.View.{producers_left}
 use Rattle.pulsar_calls.specs.declared.act.Outcome.TheVariants as outcome
 use Rattle.pulsar_calls.specs.declared.act.Who.TheVariants as one
-use Rattle.pulsar_calls.specs.declared.content.Building.{Building}
+use Rattle.pulsar_calls.specs.declared.content.BuiltProducer.{BuiltProducer}
 use Rattle.pulsar_producer_table.specs.declared.table.Topic.{Topic}
 use Rattle.pulsar_calls.specs.Content as content
 pub use Rattle.pulsar_laws.proofs.plans.Standing.{began_on}
 use Rattle.pulsar_laws.specs.Laws.{end_of}
-use Rattle.pulsar_producer_table.specs.Producers.{Producers, all_routed, called_on, changed, free_from, made_of, names_in, next_free, number_drawn, numbered, numbers_at, opened_on, routed, sent_on, shut_all, topic_after, why_not, with_built, with_topic, with_topics}
+use Rattle.pulsar_producer_table.specs.Producers.{Producers, all_routed, called_on, free_from, made_of, names_in, next_free, number_drawn, numbered, opened_on, routed, sent_on, topic_after, why_not, with_built, with_topic, with_topics, topic_in, last_of, fresh_topic}
 use Rattle.pulsar_acts.specs.View as seen
 use Rattle.pulsar_calls.specs.Who.{rank}
 use Rattle.pulsar_laws.proofs.plans.Batchers.{batcher_stands}
@@ -38,6 +38,11 @@ use Rattle.pulsar_laws.proofs.calls.Ticketed.{Began}
 use Rattle.pulsar_laws.proofs.calls.Begun.{has_begun}
 use Rattle.pulsar_laws.proofs.calls.Same.{same_self}
 use Rattle.pulsar_laws.proofs.plans.Servers.{server_gives, server_stands, serve_goes_on}
+use Rattle.pulsar_run.specs.Things.{along, Keeps}
+use Rattle.pulsar_run.proofs.Things.{came, WasIn, IsNewIn}
+use Rattle.pulsar_acts.specs.View.{topic_born, topic_of, building_of}
+use Rattle.pulsar_laws.specs.ProducerLaws.{topic_acts}
+use Rattle.pulsar_acts.specs.Things.{topics}
 
 -- ALL THAT IS SO ALONG A LOG
 
@@ -56,55 +61,52 @@ every_run o P f (Then a ∷ log) run = (f (Then a ∷ log) run, every_run o P f 
 
 -- ROWS
 
--- what comes of a call leaves the topic producers, and what is drawn next
-abbrev Kept : Producers → Producers → Type 0
-Kept ps qs = (qs.topics ≡ ps.topics) × (qs.next ≡ ps.next)
-
-routed_kept : (t : ℕ) (ms : List ProducerMessageValues) (ps : Producers) → Kept ps (all_routed t ms ps)
-routed_kept t [] ps = (refl, refl)
+-- what comes of a call leaves what is drawn next
+routed_kept : (t : ℕ) (ms : List ProducerMessageValues) (ps : Producers) → (all_routed t ms ps).next ≡ ps.next
+routed_kept t [] ps = refl
 routed_kept t (m ∷ ms) ps = routed_kept t ms (routed t m ps)
 
-either_kept : (b : Bool) (ps x y : Producers) → Kept ps x → Kept ps y → Kept ps (cond b x y)
-either_kept true ps x y p q = p
-either_kept false ps x y p q = q
+either_kept : (b : Bool) (n : ℕ) (x y : Producers) → x.next ≡ n → y.next ≡ n → (cond b x y).next ≡ n
+either_kept true n x y p q = p
+either_kept false n x y p q = q
 
-sent_kept : (t : ℕ) (ms : List ProducerMessageValues) (ps : Producers) → Kept ps (sent_on t ms ps)
-sent_kept t ms ps = either_kept (is_some (why_not ps t)) ps ps (all_routed t ms ps) (refl, refl) (routed_kept t ms ps)
+sent_kept : (t : ℕ) (ms : List ProducerMessageValues) (ps : Producers) → (sent_on t ms ps).next ≡ ps.next
+sent_kept t ms ps = either_kept (is_some (why_not ps t)) ps.next ps (all_routed t ms ps) refl (routed_kept t ms ps)
 
-opened_kept : (asked : Asked) (ps : Producers) → Kept ps (opened_on asked ps)
+opened_kept : (asked : Asked) (ps : Producers) → (opened_on asked ps).next ≡ ps.next
 opened_kept (content.Send t m) ps = sent_kept t (m ∷ []) ps
 opened_kept (content.SendAll t ms) ps = sent_kept t ms ps
-opened_kept (content.Raw l words) ps = elim (named_producer words) as (λ r. Kept ps (names_in r ps)) [ None ↦ (refl, refl) | Some n ↦ (refl, refl) ]
-opened_kept _ ps = (refl, refl)
+opened_kept (content.Raw l words) ps = elim (named_producer words) as (λ r. (names_in r ps).next ≡ ps.next) [ None ↦ refl | Some n ↦ refl ]
+opened_kept _ ps = refl
 
-pub called_kept : (v : View) (asked : Asked) (advice : List (Option ℕ)) → Kept v.producers (seen.after (Comes (Calls asked advice)) v).producers
+called_kept : (v : View) (asked : Asked) (advice : List (Option ℕ)) → (seen.after (Comes (Calls asked advice)) v).producers.next ≡ v.producers.next
 called_kept v asked advice =
-    either_kept (lacks_tickets v.calls.drawn (shares asked)) v.producers v.producers (called_on (may_call v.calls) asked v.producers) (refl, refl)
-    (either_kept (may_call v.calls) v.producers (opened_on asked v.producers) v.producers (opened_kept asked v.producers) (refl, refl))
+    either_kept (lacks_tickets v.calls.drawn (shares asked)) v.producers.next v.producers (called_on (may_call v.calls) asked v.producers) refl
+    (either_kept (may_call v.calls) v.producers.next (opened_on asked v.producers) v.producers (opened_kept asked v.producers) refl)
 
 -- several topic producers join: one that is there is new, or was there
 pub record IsNew (owner first_number : ℕ) (limits : Limits) (n : ℕ) (bs : List Built) (t : Topic) : Type 0 where
   pub built : Built
+  pub is_in : In built bs
   pub listed : In n (map number_of bs)
   pub number : built.number ≡ n
   pub is_it : record { owner = owner; seen = fresh (record { built = built; first_number = first_number; limits = limits }) } ≡ t
 
-pub joined_row : (owner f : ℕ) (limits : Limits) (n : ℕ) (bs : List Built) (ps : Producers) (t : Topic) →
-    (with_topics owner f limits bs ps).topics n ≡ Some t → IsNew owner f limits n bs t ⊎ (ps.topics n ≡ Some t)
-joined_row owner f limits n [] ps t h = inr h
-joined_row owner f limits n (b ∷ bs) ps t h = elim (joined_row owner f limits n bs (with_topic owner f limits b ps) t h) [
-  | inl k ↦ inl (record { built = k.built; listed = inr k.listed; number = k.number; is_it = k.is_it })
-  | inr e ↦ elim (cases_Bool (n == b.number)) [
-    | inl q ↦
-        (let is : Some (record { owner = owner; seen = fresh (record { built = b; first_number = f; limits = limits }) }) ≡ Some t = rw q at e in
-        inl (record { built = b; listed = inl (eqb-true n b.number q); number = sym (eqb-true n b.number q); is_it = cc }))
-    | inr q ↦ inr (rw q at e)
-  ]
-]
-
-pub built_topics : (t : ℕ) (r : Option producer.Seen) (ps : Producers) → (with_built t r ps).topics ≡ ps.topics
-built_topics t None ps = refl
-built_topics t (Some p) ps = refl
+new_row : (owner f : ℕ) (limits : Limits) (n : ℕ) (bs : List Built) (t : Topic) → topic_in owner f limits bs n ≡ Some t → IsNew owner f limits n bs t
+new_row owner f limits n [] t h = absurd cc
+new_row owner f limits n (b ∷ bs) t h = by (topic_in owner f limits bs n) refl (λ e. new_row owner f limits n bs t e) h
+  where
+    by : (r : Option Topic) → topic_in owner f limits bs n ≡ r → (topic_in owner f limits bs n ≡ Some t → IsNew owner f limits n bs t) →
+        last_of r (cond (n == b.number) (Some (fresh_topic owner f limits b)) None) ≡ Some t →
+        IsNew owner f limits n (b ∷ bs) t
+    by (Some u) e rest k =
+        let i = rest (e ∙ k) in record { built = i.built; is_in = inr i.is_in; listed = inr i.listed; number = i.number; is_it = i.is_it }
+    by None e rest k = elim (cases_Bool (n == b.number)) [
+      | inl q ↦
+          (let is : Some (fresh_topic owner f limits b) ≡ Some t = rw q at k in
+          record { built = b; is_in = inl refl; listed = inl (eqb-true n b.number q); number = sym (eqb-true n b.number q); is_it = cc })
+      | inr q ↦ (let is : None ≡ Some t = rw q at k in absurd cc)
+    ]
 
 next_joined : (owner f : ℕ) (limits : Limits) (bs : List Built) (ps : Producers) → (with_topics owner f limits bs ps).next ≡ ps.next
 next_joined owner f limits [] ps = refl
@@ -114,87 +116,58 @@ next_built : (t : ℕ) (r : Option producer.Seen) (ps : Producers) → (with_bui
 next_built t None ps = refl
 next_built t (Some p) ps = refl
 
-next_shut : (ns : List ℕ) (ps : Producers) → (shut_all ns ps).next ≡ ps.next
-next_shut [] ps = refl
-next_shut (n ∷ ns) ps = next_shut ns (changed n Closes ps)
-
 -- a row that was there, of the same owner
 pub record WasThere (ps : Producers) (n : ℕ) (t : Topic) : Type 0 where
   pub row : Topic
   pub was : ps.topics n ≡ Some row
   pub owner : row.owner ≡ t.owner
 
-same_row : (ps : Producers) (n : ℕ) (t : Topic) → ps.topics n ≡ Some t → WasThere ps n t
-same_row ps n t h = record { row = t; was = h; owner = refl }
-
-map_row : (act : Deed) (ps : Producers) (n : ℕ) (t : Topic) (r : Option Topic) → ps.topics n ≡ r → option_map (topic_after act) r ≡ Some t → WasThere ps n t
-map_row act ps n t None e h = absurd cc
-map_row act ps n t (Some row) e h = record { row = row; was = e; owner = (let f : topic_after act row ≡ t = cc in ap (λ x. x.owner) f) }
-
-changed_row : (m : ℕ) (act : Deed) (ps : Producers) (n : ℕ) (t : Topic) → (changed m act ps).topics n ≡ Some t → WasThere ps n t
-changed_row m act ps n t h = elim (cases_Bool (n == m)) [
-  | inl e ↦ map_row act ps n t (ps.topics n) refl (rw e at h)
-  | inr e ↦ same_row ps n t (rw e at h)
-]
-
-shut_row : (ns : List ℕ) (ps : Producers) (n : ℕ) (t : Topic) → (shut_all ns ps).topics n ≡ Some t → WasThere ps n t
-shut_row [] ps n t h = same_row ps n t h
-shut_row (m ∷ ns) ps n t h =
-    let k = shut_row ns (changed m Closes ps) n t h in
-    let j = changed_row m Closes ps n k.row k.was in
-    record { row = j.row; was = j.was; owner = j.owner ∙ k.owner }
-
-draws_row : (room : Option Bool) (m : ℕ) (ps : Producers) (n : ℕ) (t : Topic) → (draws_on room m ps).topics n ≡ Some t → WasThere ps n t
-draws_row None m ps n t h = same_row ps n t h
-draws_row (Some room) m ps n t h = changed_row m topic.Draws ps n t h
-
--- what rings cuts what is stored at one of them, and a Stop drops it at all
-rung_row : (b : Bool) (a : Alarm) (ps : Producers) (n : ℕ) (t : Topic) → (producers_rung b a ps).topics n ≡ Some t → WasThere ps n t
-rung_row true (Batch m) ps n t h = changed_row m topic.Cuts ps n t h
-rung_row false (Batch m) ps n t h = same_row ps n t h
-rung_row b _ ps n t h = same_row ps n t h
-
-rung_next : (b : Bool) (a : Alarm) (ps : Producers) → (producers_rung b a ps).next ≡ ps.next
-rung_next true (Batch m) ps = refl
-rung_next false (Batch m) ps = refl
-rung_next b _ ps = refl
+same_owner : (es : List Deed) (t : Topic) → (along topic_after es t).owner ≡ t.owner
+same_owner [] t = refl
+same_owner (e ∷ es) t = same_owner es t
 
 -- it joins with a verdict
 pub record Joins (v : View) (a : Act) (n : ℕ) (t : Topic) : Type 0 where
   pub who : Who
   pub verdict : Verdict
-  pub building : Building
+  pub building : BuiltProducer
   pub is_act : a ≡ Answers who verdict
   pub makes : verdict.makes ≡ Producer building
   pub is_new : IsNew (rank who).1 v.chosen.first_number (limits_of building.settings) n building.parts t
 
-made_row : (v : View) (who : Who) (verdict : Verdict) (m : Makes) → verdict.makes ≡ m → (n : ℕ) (t : Topic) →
-    (producers_made v.chosen who m v.producers).topics n ≡ Some t →
-    WasThere v.producers n t ⊎ Joins v (Answers who verdict) n t
-made_row v who verdict (Producer b) e n t h =
-    let f : ℕ = v.chosen.first_number in
-    let ps : Producers = with_topics (rank who).1 f (limits_of b.settings) b.parts v.producers in
-    let r : Option producer.Seen = made_of v.chosen.seed (rank who).1 b in
-    elim (joined_row (rank who).1 f (limits_of b.settings) n b.parts v.producers t (ap (λ g. g n) (sym (built_topics (rank who).1 r ps)) ∙ h)) [
-      | inl k ↦ inr (record { who = who; verdict = verdict; building = b; is_act = refl; makes = e; is_new = k })
-      | inr k ↦ inl (same_row v.producers n t k)
-    ]
-made_row v who verdict _ e n t h = inl (same_row v.producers n t h)
+building_made : (m : Makes) (b : BuiltProducer) → building_of m ≡ Some b → m ≡ Producer b
+building_made (Producer x) b h = let e : x ≡ b = cc in ap (λ y. Producer y) e
+building_made Nothing b h = absurd cc
+building_made _ b h = absurd cc
+
+pub born_joins : (v : View) (a : Act) (n : ℕ) (t : Topic) → topic_born v n a ≡ Some t → Joins v a n t
+born_joins v (Answers who verdict) n t h = by (building_of verdict.makes) refl h
+  where
+    by : (r : Option BuiltProducer) → building_of verdict.makes ≡ r → topic_of r who v.chosen n ≡ Some t → Joins v (Answers who verdict) n t
+    by (Some b) e k = record {
+      who = who;
+      verdict = verdict;
+      building = b;
+      is_act = refl;
+      makes = building_made verdict.makes b e;
+      is_new = new_row (rank who).1 v.chosen.first_number (limits_of b.settings) n b.parts t k;
+    }
+    by None e k = absurd cc
+born_joins v a n t h = absurd cc
+
+pub topics_keep : Keeps rules topics
+topics_keep = record {
+  none = λ o n. refl;
+  begins = λ e v n. begun_same (λ w. w.producers.topics n) e v refl;
+  then_so = λ a v n. refl;
+}
 
 pub row_from : (v : View) (a : Act) (n : ℕ) (t : Topic) → (seen.after a v).producers.topics n ≡ Some t → WasThere v.producers n t ⊎ Joins v a n t
-row_from v (Comes (Calls asked advice)) n t h = inl (same_row v.producers n t (ap (λ f. f n) (sym (called_kept v asked advice).0) ∙ h))
-row_from v (Comes (Rings a)) n t h = inl (rung_row (rings v.now a v.alarms) a v.producers n t h)
-row_from v (Does who (TakeTurn m)) n t h = inl (changed_row m (topic.Takes (turn_of who)) v.producers n t h)
-row_from v (Does who (Store m e)) n t h = inl (changed_row m (topic.Stores (turn_of who) e) v.producers n t h)
-row_from v (Does who (Flush m)) n t h = inl (changed_row m (topic.Flushes (turn_of who)) v.producers n t h)
-row_from v (Does who (TakeBatch m)) n t h = inl (changed_row m topic.TakesBatch v.producers n t h)
-row_from v (Does who StopAll) n t h = inl (map_row Halts v.producers n t (v.producers.topics n) refl h)
-row_from v (Does who (PassTurn m)) n t h = inl (changed_row m topic.Passes v.producers n t h)
-row_from v (Does who (Draw m)) n t h = inl (draws_row (room_of v m) m v.producers n t h)
-row_from v (Does who (Remake r)) n t h = inl (changed_row r.number (topic.Remakes r.link r.given) v.producers n t h)
-row_from v (Does who (Shut u)) n t h = inl (shut_row (numbers_at (v.producers.built u)) v.producers n t h)
-row_from v (Answers who verdict) n t h = made_row v who verdict verdict.makes refl n t h
-row_from v _ n t h = inl (same_row v.producers n t h)
+row_from v a n t h = elim (came topic_after (topic_born v n a) false (topic_acts v n a) (v.producers.topics n) t h) [
+  | WasIn w ↦
+      inl (record { row = w.before; was = w.was; owner = sym (ap (λ x. x.owner) w.is_it ∙ same_owner (topic_acts v n a) w.before) })
+  | IsNewIn b ↦ inr (born_joins v a n t b)
+]
 
 -- NUMBERS
 
@@ -222,9 +195,10 @@ made_next v who (Producer b) =
     ∙ next_joined (rank who).1 v.chosen.first_number (limits_of b.settings) b.parts v.producers
 made_next v who _ = refl
 
-draws_next : (room : Option Bool) (m : ℕ) (ps : Producers) → (draws_on room m ps).next ≡ ps.next
-draws_next None m ps = refl
-draws_next (Some room) m ps = refl
+left_next : (who : Who) (ps : Producers) → (producers_left who ps).next ≡ ps.next
+left_next (one.Call t) ps = refl
+left_next (one.Consumer n t) ps = refl
+left_next (one.Producer n) ps = refl
 
 next_more : (ps : Producers) → ps.next ≤ (numbered ps).next
 next_more ps =
@@ -232,12 +206,10 @@ next_more ps =
     elim (is_spent (next_free ps)) as (λ b. ps.next ≤ cond b (next_free ps) (next_free ps + 1)) [ true ↦ e | false ↦ omega (arith, e) ]
 
 pub next_after : (v : View) (a : Act) → v.producers.next ≤ (seen.after a v).producers.next
-next_after v (Comes (Calls asked advice)) = let e = (called_kept v asked advice).1 in rw e (omega arith)
-next_after v (Comes (Rings a)) = let e = rung_next (rings v.now a v.alarms) a v.producers in rw e (omega arith)
-next_after v (Does who (Draw m)) = let e = draws_next (room_of v m) m v.producers in rw e (omega arith)
-next_after v (Does who (Shut u)) = let e = next_shut (numbers_at (v.producers.built u)) v.producers in rw e (omega arith)
+next_after v (Comes (Calls asked advice)) = let e = called_kept v asked advice in rw e (omega arith)
 next_after v (Does who Number) = next_more v.producers
-next_after v (Answers who verdict) = let e = made_next v who verdict.makes in rw e (omega arith)
+next_after v (Answers who verdict) =
+    let e = left_next who (producers_made v.chosen who verdict.makes v.producers) ∙ made_next v who verdict.makes in rw e (omega arith)
 next_after v _ = omega arith
 
 -- ALONG A LOG
@@ -400,14 +372,14 @@ joins_own o log k w verdict run = elim (answers_from o log w verdict run) [
   ]
 ]
 
-owned_in : (Q : ℕ → Type 0) (n : ℕ) (m : Makes) (b : Building) → m ≡ Producer b → MakesSound Q m → In n (map number_of b.parts) → Q n
+owned_in : (Q : ℕ → Type 0) (n : ℕ) (m : Makes) (b : BuiltProducer) → m ≡ Producer b → MakesSound Q m → In n (map number_of b.parts) → Q n
 owned_in Q n m b e k i = let s : MakesSound Q (Producer b) = subst (MakesSound Q) e k in in_each Q n (map number_of b.parts) s i
 
 self_same : (t : ℕ) → is_same (Call t) (Call t) ≡ true
 self_same t = same_self (Call t)
 
 -- a topic producer makes no producer
-no_producer : (o : Options) (log : List Entry) (m : ℕ) (verdict : Verdict) (b : Building) → verdict.makes ≡ Producer b →
+no_producer : (o : Options) (log : List Entry) (m : ℕ) (verdict : Verdict) (b : BuiltProducer) → verdict.makes ≡ Producer b →
     IsRun o (Then (Answers (one.Producer m) verdict) ∷ log) → ⊥
 no_producer o log m verdict b makes run = elim (answers_from o log (one.Producer m) verdict run) [
   | inl t ↦
@@ -422,7 +394,7 @@ no_producer o log m verdict b makes run = elim (answers_from o log (one.Producer
 ]
 
 -- and no consumer does
-no_consumer : (o : Options) (log : List Entry) (n t : ℕ) (verdict : Verdict) (b : Building) → verdict.makes ≡ Producer b →
+no_consumer : (o : Options) (log : List Entry) (n t : ℕ) (verdict : Verdict) (b : BuiltProducer) → verdict.makes ≡ Producer b →
     IsRun o (Then (Answers (one.Consumer n t) verdict) ∷ log) → ⊥
 no_consumer o log n t verdict b makes run = elim (answers_from o log (one.Consumer n t) verdict run) [
   | inl k ↦
@@ -438,7 +410,7 @@ no_consumer o log n t verdict b makes run = elim (answers_from o log (one.Consum
   ]
 ]
 
-pub who_call : (o : Options) (log : List Entry) (w : Who) (verdict : Verdict) (b : Building) → verdict.makes ≡ Producer b →
+pub who_call : (o : Options) (log : List Entry) (w : Who) (verdict : Verdict) (b : BuiltProducer) → verdict.makes ≡ Producer b →
     IsRun o (Then (Answers w verdict) ∷ log) → w ≡ Call (rank w).1
 who_call o log (Call t) verdict b makes run = refl
 who_call o log (one.Consumer n t) verdict b makes run = absurd (no_consumer o log n t verdict b makes run)
@@ -450,7 +422,7 @@ end_self w verdict t e = ap (λ x. end_of t (Answers x verdict)) e ∙ ap (λ b.
 unspent : (t : ℕ) → Began (Call t) → is_spent t ≡ false
 unspent t k = k
 
-ends_began : (o : Options) (log : List Entry) (t : ℕ) (verdict : Verdict) (b : Building) → verdict.makes ≡ Producer b →
+ends_began : (o : Options) (log : List Entry) (t : ℕ) (verdict : Verdict) (b : BuiltProducer) → verdict.makes ≡ Producer b →
     IsRun o (Then (Answers (Call t) verdict) ∷ log) → is_spent t ≡ false
 ends_began o log t verdict b makes run = elim (answers_from o log (Call t) verdict run) [
   | inl k ↦
@@ -467,7 +439,7 @@ ends_began o log t verdict b makes run = elim (answers_from o log (Call t) verdi
 ]
 
 -- A topic producer that joins has a number that no other has.
-pub joins_new : (o : Options) (log : List Entry) → Every (Drawn o) log → (who : Who) (verdict : Verdict) (b : Building) (n : ℕ) (row : Topic) →
+pub joins_new : (o : Options) (log : List Entry) → Every (Drawn o) log → (who : Who) (verdict : Verdict) (b : BuiltProducer) (n : ℕ) (row : Topic) →
     verdict.makes ≡ Producer b →
     IsRun o (Then (Answers who verdict) ∷ log) → In n (map number_of b.parts) → (view o log).producers.topics n ≡ Some row → ⊥
 joins_new o log k (Call t) verdict b n row makes run i h =

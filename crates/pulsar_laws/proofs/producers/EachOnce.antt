@@ -1,8 +1,7 @@
 -- The send of a ticket is queued at most once, by itself or as a message of a batch.
 use Rattle.std.proofs.Common.{◌≡◌, inl, inr, ◌∙◌, sym, ap, subst, ℕ, zero, suc, ◌+◌, ◌≤◌, ◌==◌, arith, List, [], ◌∷◌, ◌++◌, refl, Bool, true, false, ◌&&◌, cond, Option, Some, None, eq-eqb}
 use Rattle.std.proofs.lemmas.Bool.{cases_Bool, eqb-true}
-use Rattle.std.specs.Option.{option_map}
-use Rattle.pulsar_laws.proofs.ActWords.{Act, Call, Consumer, Does, is_same, Notice, Outcome, Producer, Starts, Store, TakeBatch, TellAll, Told, turn_of, Who}
+use Rattle.pulsar_laws.proofs.ActWords.{Act, Call, Consumer, Does, Notice, OfTopic, Outcome, Producer, Starts, Store, TakeBatch, TellAll, Told, Who, is_same, turn_of}
 use Rattle.pulsar_laws.proofs.PlanWords.{Plan, Stored, Storing}
 use Rattle.pulsar_laws.proofs.RunWords.{Begins, begun_same, counted, Each, Entry, IsRun, Options, start_of, Then, view, View}
 use Rattle.pulsar_frame.specs.Batch.{EntryValues}
@@ -29,6 +28,7 @@ use Rattle.pulsar_laws.proofs.producers.InTurn.{at_most_none}
 use Rattle.pulsar_laws.proofs.producers.Keepers.{Keeps, NoStore, ends_settled, keeps_more, no_store, none_stored, store_keeps}
 use Rattle.pulsar_laws.proofs.producers.OnceSent.{few_run, left_some, sent_once_lem}
 use Rattle.pulsar_laws.proofs.producers.Topics.{all_after, row_as}
+use Rattle.pulsar_run.specs.Things.{row_by}
 
 -- HOW OFTEN A TICKET STANDS in what a topic producer stores, and in what it has cut
 
@@ -118,15 +118,15 @@ module _ (t : ℕ) where
   -- ACTS THAT STORE IT, at this topic producer, and at any
 
   abbrev stores_at : (number : ℕ) → Act → ℕ
-  stores_at m (Does who (Store k e)) = cond (m == k) (cond (t == turn_of who) 1 0) 0
+  stores_at m (Does who (OfTopic k (Store e))) = cond (m == k) (cond (t == turn_of who) 1 0) 0
   stores_at m _ = 0
 
   abbrev stores_by : Act → ℕ
-  stores_by (Does who (Store k e)) = cond (t == turn_of who) 1 0
+  stores_by (Does who (OfTopic k (Store e))) = cond (t == turn_of who) 1 0
   stores_by _ = 0
 
   acts_given : (v : View) (m : ℕ) (a : Act) → gives_all (topic_acts v m a) ≤ stores_at m a
-  acts_given v m (Does who (Store k e)) =
+  acts_given v m (Does who (OfTopic k (Store e))) =
       elim (m == k) as (λ b. gives_all (cond b (Stores (turn_of who) e ∷ []) []) ≤ cond b (cond (t == turn_of who) 1 0) 0) [
         | true ↦ omega arith
         | false ↦ omega arith
@@ -160,7 +160,7 @@ module _ (t : ℕ) where
           subst (λ r. at_row r ≤ held u.seen + stores_at m a) (sym (row_as o log (drawn_run o log run.0) m u e a run)) (omega (arith, k, g))
 
   took_row : (c : Bool) (r : Option Topic) → c ≡ true →
-      at_row (cond c (option_map (topic_after TakesBatch) r) r) + times_under t (next_batch_at r) ≤ at_row r
+      at_row (row_by topic_after (cond c (TakesBatch ∷ []) []) r) + times_under t (next_batch_at r) ≤ at_row r
   took_row true None e = omega arith
   took_row true (Some u) e = takes_held u.seen u.seen.cut refl
   took_row false r e = absurd cc
@@ -203,11 +203,11 @@ module _ (t : ℕ) where
     abbrev waits : ℕ
     waits = waits_with o m log
 
-    takes_bound : (who : Who) (n : ℕ) → IsRun o (Then (Does who (TakeBatch n)) ∷ log) → Bound o m (Then (Does who (TakeBatch n)) ∷ log)
+    takes_bound : (who : Who) (n : ℕ) → IsRun o (Then (Does who (OfTopic n TakeBatch)) ∷ log) → Bound o m (Then (Does who (OfTopic n TakeBatch)) ∷ log)
     takes_bound who n run = elim (cases_Bool (is_same (Producer m) who)) [
       | inl e ↦
           (let own : m ≡ n = same_producer m n (ap (is_same (Producer m)) (sym (taken_by_own o log who n run)) ∙ e) in
-          let later : ℕ → ℕ = λ i. at_row ((view o (Then (Does who (TakeBatch n)) ∷ log)).producers.topics i) in
+          let later : ℕ → ℕ = λ i. at_row ((view o (Then (Does who (OfTopic n TakeBatch)) ∷ log)).producers.topics i) in
           let taken : later n + times_under t (next_batch_at (v.producers.topics n)) ≤ at_row (v.producers.topics n) =
           took_row (n == n) (v.producers.topics n) (eq-eqb n n refl) in
           let row : later m + times_under t (next_batch_at (v.producers.topics n)) ≤ at_row (v.producers.topics m) =
@@ -215,7 +215,7 @@ module _ (t : ℕ) where
           let was : queued_with o m log + waits + at_row (v.producers.topics m) ≤ counted (stores_at m) log = k in
           rw e (omega (arith, was, row)))
       | inr e ↦
-          (let h = row_held o log (Does who (TakeBatch n)) m run in
+          (let h = row_held o log (Does who (OfTopic n TakeBatch)) m run in
           let was : queued_with o m log + waits + at_row (v.producers.topics m) ≤ counted (stores_at m) log = k in
           rw e (omega (arith, was, h)))
     ]
@@ -230,7 +230,7 @@ module _ (t : ℕ) where
     then_bound (Does who (TellAll ns)) run =
         none_step (is_same (Producer m) who) (frames_queued o m log == 0) (queued_with o m log) (under_way o m log) (at_row (v.producers.topics m))
         (counted (stores_at m) log) k
-    then_bound (Does who (TakeBatch n)) run = takes_bound who n run
+    then_bound (Does who (OfTopic n TakeBatch)) run = takes_bound who n run
     then_bound (Does who a) run =
         let h = row_held o log (Does who a) m run in
         let was : queued_with o m log + waits + at_row (v.producers.topics m) ≤ counted (stores_at m) log = k in
@@ -255,7 +255,7 @@ module _ (t : ℕ) where
   -- AT ALL OF THEM: it is stored at one
 
   at_most : (m : ℕ) (a : Act) → stores_at m a ≤ stores_by a
-  at_most m (Does who (Store k e)) =
+  at_most m (Does who (OfTopic k (Store e))) =
       let c : ℕ = cond (t == turn_of who) 1 0 in elim (m == k) as (λ b. cond b c 0 ≤ c) [ true ↦ omega arith | false ↦ omega arith ]
   at_most m (Does who a) = omega arith
   at_most m a = omega arith
@@ -278,7 +278,7 @@ module _ (t : ℕ) where
   apart : (n m : ℕ) → (n == m) ≡ false → (log : List Entry) → counted (stores_at n) log + counted (stores_at m) log ≤ counted stores_by log
   apart n m h [] = omega arith
   apart n m h (Begins e ∷ log) = apart n m h log
-  apart n m h (Then (Does who (Store k e)) ∷ log) =
+  apart n m h (Then (Does who (OfTopic k (Store e))) ∷ log) =
       let c : ℕ = cond (t == turn_of who) 1 0 in
       let x : ℕ = cond (n == k) c 0 in
       let y : ℕ = cond (m == k) c 0 in
@@ -294,7 +294,7 @@ module _ (t : ℕ) where
   some_store : (log : List Entry) → 1 ≤ counted stores_by log → (m : ℕ) × (1 ≤ counted (stores_at m) log)
   some_store [] h = absurd (omega (arith, h))
   some_store (Begins e ∷ log) h = some_store log h
-  some_store (Then (Does who (Store k e)) ∷ log) h = elim (cases_Bool (t == turn_of who)) [
+  some_store (Then (Does who (OfTopic k (Store e))) ∷ log) h = elim (cases_Bool (t == turn_of who)) [
     | inl f ↦ (k, (let own : (k == k) ≡ true = eq-eqb k k refl in rw (f, own) (omega arith)))
     | inr f ↦
         (let was : 1 ≤ counted stores_by log + 0 = rw f at h in
@@ -370,13 +370,13 @@ module _ (t : ℕ) where
             (omega (arith, e, f), keeps_more o log (Then a) t run was.1)),
       )
 
-  stores_call : (o : Options) (log : List Entry) (who : Who) (n : ℕ) (e : EntryValues) → IsRun o (Then (Does who (Store n e)) ∷ log) → (u : ℕ) × (who ≡ Call u)
+  stores_call : (o : Options) (log : List Entry) (who : Who) (n : ℕ) (e : EntryValues) → IsRun o (Then (Does who (OfTopic n (Store e))) ∷ log) → (u : ℕ) × (who ≡ Call u)
   stores_call o log (Call u) n e run = (u, refl)
-  stores_call o log (Consumer k u) n e run = let f : is_modest (Store n e) ≡ true = server_does o log k u (Store n e) run in absurd cc
-  stores_call o log (Producer k) n e run = let d = batcher_does o log k (Store n e) run in absurd (no_store d.0 n e d.1)
+  stores_call o log (Consumer k u) n e run = let f : is_modest (OfTopic n (Store e)) ≡ true = server_does o log k u (OfTopic n (Store e)) run in absurd cc
+  stores_call o log (Producer k) n e run = let d = batcher_does o log k (OfTopic n (Store e)) run in absurd (no_store d.0 n e d.1)
 
-  own_store : (o : Options) (log : List Entry) (n : ℕ) (e : EntryValues) → IsRun o (Then (Does (Call t) (Store n e)) ∷ log) → Every (Once o) log →
-      (counted stores_by log ≡ 0) × (queued_times o t log ≡ 0) × Keeps o (Then (Does (Call t) (Store n e)) ∷ log) t
+  own_store : (o : Options) (log : List Entry) (n : ℕ) (e : EntryValues) → IsRun o (Then (Does (Call t) (OfTopic n (Store e))) ∷ log) → Every (Once o) log →
+      (counted stores_by log ≡ 0) × (queued_times o t log ≡ 0) × Keeps o (Then (Does (Call t) (OfTopic n (Store e))) ∷ log) t
   own_store o log n e run k =
       let x = stored_at_once_lem o log t n e run in
       let older : List Entry = x.1 in
@@ -392,24 +392,24 @@ module _ (t : ℕ) where
       let unqueued : queued_times o t older ≡ 0 = omega (arith, few, once, one) in (
         ap (counted stores_by) x.2 ∙ (let g : counted stores_by older + 0 ≡ 0 = omega (arith, unstored) in g),
         ap (queued_times o t) x.2 ∙ (let g : queued_times o t older + 0 ≡ 0 = omega (arith, unqueued) in g),
-        keeps_more o log (Then (Does (Call t) (Store n e))) t run (store_keeps o log t n e run),
+        keeps_more o log (Then (Does (Call t) (OfTopic n (Store e)))) t run (store_keeps o log t n e run),
       )
 
   once_then : (o : Options) (log : List Entry) (a : Act) → IsRun o (Then a ∷ log) → Every (Once o) log → Once o (Then a ∷ log)
-  once_then o log (Does who (Store n e)) run k = elim (cases_Bool (t == turn_of who)) [
+  once_then o log (Does who (OfTopic n (Store e))) run k = elim (cases_Bool (t == turn_of who)) [
     | inl f ↦
         (let c = stores_call o log who n e run in
         let same : who ≡ Call t = c.1 ∙ ap Call (sym (eqb-true t (turn_of (Call c.0)) (ap (λ (w : Who). t == turn_of w) (sym c.1) ∙ f))) in
-        let x = own_store o log n e (subst (λ (w : Who). IsRun o (Then (Does w (Store n e)) ∷ log)) same run) k in
+        let x = own_store o log n e (subst (λ (w : Who). IsRun o (Then (Does w (OfTopic n (Store e))) ∷ log)) same run) k in
         let z : counted stores_by log ≡ 0 = x.0 in
         let q : queued_times o t log ≡ 0 = x.1 in
         record {
           few = rw f (omega (arith, z));
-          none = λ one. (omega (arith, q), subst (λ (w : Who). Keeps o (Then (Does w (Store n e)) ∷ log) t) (sym same) x.2);
+          none = λ one. (omega (arith, q), subst (λ (w : Who). Keeps o (Then (Does w (OfTopic n (Store e))) ∷ log) t) (sym same) x.2);
         })
     | inr f ↦
         (let z : ◌≡◌ {A = ℕ} (cond (t == turn_of who) 1 0) 0 = ap (λ b. cond b 1 0) f in
-        let x = kept_on o log (Does who (Store n e)) (cond (t == turn_of who) 1 0) 0 z (λ h. refl) run (here (Once o) log k) in
+        let x = kept_on o log (Does who (OfTopic n (Store e))) (cond (t == turn_of who) 1 0) 0 z (λ h. refl) run (here (Once o) log k) in
         record { few = x.0; none = x.1 })
   ]
   once_then o log (Told n) run k =

@@ -2,25 +2,23 @@
 use Rattle.std.proofs.Common.{◌≡◌, ◌⊎◌, inl, inr, ◌∙◌, sym, ap, subst, refl, ℕ, zero, suc, ◌==◌, append-nil, append_assoc, take, List, [], ◌∷◌, ◌++◌, Bool, true, false, ◌&&◌, cond, Option, Some, None}
 use Rattle.std.proofs.lemmas.Bool.{cases_Bool, eqb-true}
 use Rattle.std.specs.Option.{option_to_list}
-use Rattle.pulsar_laws.proofs.ActWords.{Act, Batch, Comes, Does, Draw, is_same, PassTurn, Producer, Remake, Rings, Shut, Starts, StopAll, Store, TakeBatch, TakeTurn, TellAll, turn_of, Who}
-use Rattle.pulsar_laws.proofs.RunWords.{Begins, begun_same, Each, each_append, each_either, Entry, In, IsRun, Options, room_of, Then, view, View}
-use Rattle.pulsar_laws.proofs.LinkWords.{rings}
+use Rattle.pulsar_laws.proofs.ActWords.{Act, Does, OfTopic, Producer, Starts, TakeBatch, TellAll, Who, is_same}
+use Rattle.pulsar_laws.proofs.RunWords.{Begins, begun_same, Each, each_append, Entry, In, IsRun, Options, Then, view, View}
 use Rattle.pulsar_producer.specs.BatchLaws.{batches_of, cut_by, items_of, joined, taken_by, taken_of}
 use Rattle.pulsar_outgoing.specs.Storage.{Item, SingleMessage, Flush, is_ready, pushed, is_nothing}
 use Rattle.pulsar_producer.specs.Topic as topic
-use Rattle.pulsar_producer.specs.Topic.{Act as Deed, Takes, Passes, Remakes, Closes, Stores, Flushes, Cuts, TakesBatch, Seen, Setup, is_settled, next_batch}
+use Rattle.pulsar_producer.specs.Topic.{Act as Deed, Stores, Flushes, Cuts, TakesBatch, Seen, Setup, is_settled, next_batch}
 use Rattle.pulsar_producer.proofs.Cutting.{batches_in_order, flush_is_last, items_in_order, joined_append, joined_one}
-use Rattle.pulsar_calls.specs.declared.act.Action.TheVariants as action
 use Rattle.pulsar_producer_table.specs.declared.table.Topic.{Topic}
 use Rattle.pulsar_laws.proofs.Lists.{in_left, in_right}
 use Rattle.pulsar_laws.proofs.Cases.{none_some}
 use Rattle.pulsar_laws.specs.BatchLaws.{FlushesWait, under_way}
-use Rattle.pulsar_producer_table.specs.Producers.{next_batch_at, numbers_at}
-use Rattle.pulsar_laws.specs.ProducerLaws.{acts_on, drawn_by, rung_by, shut_by, topic_acts}
+use Rattle.pulsar_producer_table.specs.Producers.{next_batch_at}
+use Rattle.pulsar_laws.specs.ProducerLaws.{acts_on, topic_acts}
 use Rattle.pulsar_laws.proofs.producers.Drawing.{drawn_run, row_from}
 use Rattle.pulsar_laws.proofs.plans.Granted.{in_each}
 use Rattle.pulsar_laws.proofs.plans.Takers.{taken_by_own}
-use Rattle.pulsar_laws.proofs.producers.Topics.{all_after, row_as, seen_more, some_acts, topic_all, topics_alone_lem}
+use Rattle.pulsar_laws.proofs.producers.Topics.{all_after, row_as, seen_more, some_acts, topic_all, topics_alone_lem, CameFrom, acts_each}
 
 -- HISTORIES
 
@@ -109,32 +107,16 @@ taken_more s [] h k = refl
 taken_more s (d ∷ ds) h k =
     ap (λ x. taken_of s (ds ++ h) ++ x) (not_taken d (topic.seen s (ds ++ h)) k.0) ∙ append-nil (taken_of s (ds ++ h)) ∙ taken_more s ds h k.1
 
-shut_none : (n : ℕ) (ns : List ℕ) → Each NotTaking (shut_by n ns)
-shut_none n [] = tt
-shut_none n (m ∷ ns) = each_either NotTaking (n == m) (Closes ∷ shut_by n ns) (shut_by n ns) (refl, shut_none n ns) (shut_none n ns)
-
-drawn_none : (room : Option Bool) → Each NotTaking (drawn_by room)
-drawn_none None = tt
-drawn_none (Some room) = (refl, tt)
-
 abbrev takes_it : Act → Bool
-takes_it (Does who (TakeBatch m)) = true
+takes_it (Does who (OfTopic m TakeBatch)) = true
 takes_it _ = false
 
 acts_none : (v : View) (n : ℕ) (a : Act) → takes_it a ≡ false → Each NotTaking (topic_acts v n a)
-acts_none v n (Comes (Rings (Batch m))) t =
-    each_either NotTaking (n == m) (rung_by (rings v.now (Batch m) v.alarms)) []
-    (each_either NotTaking (rings v.now (Batch m) v.alarms) (Cuts ∷ []) [] (refl, tt) tt) tt
-acts_none v n (Does who (TakeTurn m)) t = each_either NotTaking (n == m) (Takes (turn_of who) ∷ []) [] (refl, tt) tt
-acts_none v n (Does who (PassTurn m)) t = each_either NotTaking (n == m) (Passes ∷ []) [] (refl, tt) tt
-acts_none v n (Does who (Draw m)) t = each_either NotTaking (n == m) (drawn_by (room_of v m)) [] (drawn_none (room_of v m)) tt
-acts_none v n (Does who (Remake r)) t = each_either NotTaking (n == r.number) (Remakes r.link r.given ∷ []) [] (refl, tt) tt
-acts_none v n (Does who (Store m e)) t = each_either NotTaking (n == m) (Stores (turn_of who) e ∷ []) [] (refl, tt) tt
-acts_none v n (Does who (action.Flush m)) t = each_either NotTaking (n == m) (Flushes (turn_of who) ∷ []) [] (refl, tt) tt
-acts_none v n (Does who (TakeBatch m)) t = absurd cc
-acts_none v n (Does who StopAll) t = (refl, tt)
-acts_none v n (Does who (Shut u)) t = shut_none n (numbers_at (v.producers.built u))
-acts_none v n _ t = tt
+acts_none v n a t = acts_each NotTaking v n a none
+  where
+    none : (d : Deed) → CameFrom n a d → NotTaking d
+    none TakesBatch k = let e : true ≡ false = sym (ap takes_it k.1) ∙ t in absurd cc
+    none d k = refl
 
 -- ALONG A LOG
 
@@ -160,8 +142,8 @@ own_self n m = elim (n == m) as (λ b. (b && true) ≡ b) [ true ↦ refl | fals
 
 module _ (o : Options) (log : List Entry) (n : ℕ) where
   -- what one that takes a batch makes of what is under way
-  taken_under : (who : Who) (m : ℕ) → IsRun o (Then (Does who (TakeBatch m)) ∷ log) →
-      under_way o n (Then (Does who (TakeBatch m)) ∷ log) ≡ cond (n == m) (next_batch_at ((view o log).producers.topics m)) (under_way o n log)
+  taken_under : (who : Who) (m : ℕ) → IsRun o (Then (Does who (OfTopic m TakeBatch)) ∷ log) →
+      under_way o n (Then (Does who (OfTopic m TakeBatch)) ∷ log) ≡ cond (n == m) (next_batch_at ((view o log).producers.topics m)) (under_way o n log)
   taken_under who m run =
       ap (λ w. cond (is_same (Producer n) w) (next_batch_at ((view o log).producers.topics m)) (under_way o n log)) (taken_by_own o log who m run)
       ∙ ap (λ b. cond b (next_batch_at ((view o log).producers.topics m)) (under_way o n log)) (own_self n m)
@@ -177,7 +159,7 @@ module _ (o : Options) (log : List Entry) (n : ℕ) where
 
   leaves_it : (a : Act) → takes_it a ≡ false → Leaves (Then a ∷ log)
   leaves_it (Starts who p) t = either_leaves (is_same (Producer n) who)
-  leaves_it (Does who (TakeBatch m)) t = absurd cc
+  leaves_it (Does who (OfTopic m TakeBatch)) t = absurd cc
   leaves_it (Does who (TellAll ns)) t = either_leaves (is_same (Producer n) who)
   leaves_it (Does who a) t = inr refl
   leaves_it a t = inr refl
@@ -189,8 +171,8 @@ module _ (o : Options) (log : List Entry) (n : ℕ) where
         (items : List Item) → under_way o n later ≡ Some items → (before : List (List Item)) × (taken_of s (ds ++ acts_on o n log) ≡ before ++ items ∷ [])
 
     takes_last : (who : Who) (m : ℕ) (b : Bool) → (n == m) ≡ b →
-        under_way o n (Then (Does who (TakeBatch m)) ∷ log) ≡ cond b (next_batch_at ((view o log).producers.topics m)) (under_way o n log) →
-        LastThen (cond b (TakesBatch ∷ []) []) (Then (Does who (TakeBatch m)) ∷ log)
+        under_way o n (Then (Does who (OfTopic m TakeBatch)) ∷ log) ≡ cond b (next_batch_at ((view o log).producers.topics m)) (under_way o n log) →
+        LastThen (cond b (TakesBatch ∷ []) []) (Then (Does who (OfTopic m TakeBatch)) ∷ log)
     takes_last who m false e way items h = k items (sym way ∙ h)
     takes_last who m true e way items h =
         let q : n ≡ m = eqb-true n m e in
@@ -207,7 +189,7 @@ module _ (o : Options) (log : List Entry) (n : ℕ) where
     ]
 
     then_last : (a : Act) → IsRun o (Then a ∷ log) → LastThen (topic_acts (view o log) n a) (Then a ∷ log)
-    then_last (Does who (TakeBatch m)) run = takes_last who m (n == m) refl (taken_under who m run)
+    then_last (Does who (OfTopic m TakeBatch)) run = takes_last who m (n == m) refl (taken_under who m run)
     then_last (Does who a) run = other_last (Does who a) refl
     then_last a run = other_last a refl
 
@@ -215,7 +197,7 @@ none_then : (o : Options) (log : List Entry) (a : Act) → IsRun o (Then a ∷ l
 none_then o log a run k n h = by ((view o log).producers.topics n) refl
   where
     past : (view o log).producers.topics n ≡ None → (a : Act) → IsRun o (Then a ∷ log) → under_way o n (Then a ∷ log) ≡ None
-    past e (Does who (TakeBatch m)) run =
+    past e (Does who (OfTopic m TakeBatch)) run =
         taken_under o log n who m run
         ∙ (elim (cases_Bool (n == m)) [
           | inl q ↦
@@ -254,7 +236,7 @@ taken_then o log a run none k n t h = by ((view o log).producers.topics n) refl
         let x = k n u e in
         let f : Some t ≡ Some (topic_all (topic_acts (view o log) n a) u) = sym h ∙ row_as o log (drawn_run o log run.0) n u e a run in
         let same : t ≡ topic_all (topic_acts (view o log) n a) u = cc in
-        let more : acts_on o n (Then a ∷ log) ≡ topic_acts (view o log) n a ++ acts_on o n log = some_acts o log n a u e in
+        let more : acts_on o n (Then a ∷ log) ≡ topic_acts (view o log) n a ++ acts_on o n log = some_acts o log (drawn_run o log run.0) n u e a run in
         record {
           setup = x.setup;
           seen =

@@ -1,9 +1,9 @@
 -- The frames that sends ask for, along a log.
-use Rattle.std.proofs.Common.{◌≡◌, inl, inr, ◌∙◌, sym, ap, subst, ℕ, ◌+◌, List, ◌∷◌, refl, Bool, true, false, cond, Option, Some, None}
+use Rattle.std.proofs.Common.{◌≡◌, ◌==◌, inl, inr, ◌∙◌, sym, ap, subst, ℕ, ◌+◌, List, ◌∷◌, refl, Bool, true, false, cond, Option, Some, None, []}
 use Rattle.std.proofs.lemmas.Bool.{cases_Bool}
-use Rattle.pulsar_laws.proofs.ActWords.{Action, Ask, Call, Does, Draw, Notice, Outcome, Procedure, Recall, Share, Starts, TakeTurn, Told, Who}
+use Rattle.pulsar_laws.proofs.ActWords.{Action, Ask, Call, Does, Draw, Notice, OfTopic, Outcome, Procedure, Recall, Share, Starts, TakeTurn, Told, Who}
 use Rattle.pulsar_laws.proofs.PlanWords.{begins, Command, Drawn, Errand, Leaving, news_of, Plan, Reporting, Sending as Send, Stays, told, Ways}
-use Rattle.pulsar_laws.proofs.RunWords.{Begins, draws_on, Entry, IsRun, notice, Options, room_of, started, Then, View, view}
+use Rattle.pulsar_laws.proofs.RunWords.{Begins, Entry, IsRun, notice, Options, room_of, started, Then, View, view}
 use Rattle.pulsar_messages.specs.Content.{ProducerMessageValues}
 use Rattle.pulsar_messages.specs.Words as words
 use Rattle.pulsar_messages.specs.Claims.{is_spent}
@@ -22,13 +22,14 @@ use Rattle.pulsar_laws.proofs.plans.Standing.{moves, run_older, stands_so}
 use Rattle.pulsar_laws.proofs.calls.Same.{same_self}
 use Rattle.pulsar_laws.proofs.Cases.{none_some}
 use Rattle.pulsar_producer_table.specs.Producers.{drawn, recalled_at, recalled_by, topic_after}
-use Rattle.pulsar_laws.specs.ProducerLaws.{FramesAreOfTheirSends, version_in, version_told}
+use Rattle.pulsar_laws.specs.ProducerLaws.{FramesAreOfTheirSends, drawn_by, version_in, version_told}
 use Rattle.pulsar_laws.proofs.plans.Framing.{AsksSo, KeptSo, MessageSo, NewsSo, PlanSo, Versioned, is_message, told_so}
 use Rattle.pulsar_laws.proofs.plans.Granted.{BeginsSo, GivenBy, IsGrantedBy, IsLedSo, does_from, granted_by, grants_given}
 use Rattle.pulsar_laws.proofs.producers.InTurn.{self_same, stand_told}
 use Rattle.pulsar_plans.proofs.Arcs.{StaysSo}
 use Rattle.pulsar_laws.proofs.producers.TurnActs.{changed_at}
 use Rattle.pulsar_laws.proofs.producers.TurnRun.{call_told_none, queued_in_turn_lem}
+use Rattle.pulsar_run.specs.Things.{row_by}
 
 -- THE VERSION that one was told with its newest turn
 
@@ -111,7 +112,7 @@ module _ (e : Errand) (given : ProducerMessageValues) (who : Who) (log : List En
 
 -- what is told of commands asks for no message
 pub recall_plain : (v : View) (action : Action) (c : Command) → GivenBy v action (news.Recalled c) → is_message c.request ≡ false
-recall_plain v (Recall n) c h = at_row (v.producers.topics n) h
+recall_plain v (OfTopic n Recall) c h = at_row (v.producers.topics n) h
   where
     by : (t : Topic) (r : Option producer.Seen) → recalled_by t r ≡ Some c → is_message c.request ≡ false
     by t None h = absurd (none_some h)
@@ -178,7 +179,7 @@ pub record IsSendLed (o : Options) (log : List Entry) (t : ℕ) (e : Errand) (gi
   pub asks : AsksSo e given (WasTold log t) led.outcome led.plan action
 
 abbrev is_take : Action → Bool
-is_take (TakeTurn n) = true
+is_take (OfTopic n TakeTurn) = true
 is_take _ = false
 
 pub send_led : (o : Options) (log : List Entry) (t : ℕ) (w : Ways) (e : Errand) (share : Option Share) (given : ProducerMessageValues) (action : Action) →
@@ -190,8 +191,8 @@ send_led o log t w e share given action run take h = elim (does_from o log (Call
 ]
   where
     takes : (x : Option Share) (plan : Plan) → begins (procedure.Send w e x given) ≡ Stays plan action → ⊥
-    takes None plan g = let f : is_take (TakeTurn e.producer) ≡ is_take action = cc in let f' : true ≡ false = f ∙ take in cc
-    takes (Some y) plan g = let f : is_take (TakeTurn e.producer) ≡ is_take action = cc in let f' : true ≡ false = f ∙ take in cc
+    takes None plan g = let f : is_take (OfTopic e.producer TakeTurn) ≡ is_take action = cc in let f' : true ≡ false = f ∙ take in cc
+    takes (Some y) plan g = let f : is_take (OfTopic e.producer TakeTurn) ≡ is_take action = cc in let f' : true ≡ false = f ∙ take in cc
 
     begun : BeginsSo o log (Call t) action → ⊥
     begun b =
@@ -243,14 +244,14 @@ is_drawn room (Some t) d h = elim (cases_Bool (is_spent t.seen.next)) [
 ]
 
 pub draw_by : (v : View) (action : Action) (d : Drawn) → GivenBy v action (news.Drew d) →
-    (n : ℕ) × (action ≡ Draw n) × (room : Bool) × (room_of v n ≡ Some room) × (drawn room (v.producers.topics n) ≡ Some d)
-draw_by v (Draw n) d h = (n, refl, h.0, h.1, h.2)
+    (n : ℕ) × (action ≡ OfTopic n Draw) × (room : Bool) × (room_of v n ≡ Some room) × (drawn room (v.producers.topics n) ≡ Some d)
+draw_by v (OfTopic n Draw) d h = (n, refl, h.0, h.1, h.2)
 draw_by v _ d h = absurd h
 
 -- the draw before it
 record WasDrawn (o : Options) (older : List Entry) (t n : ℕ) (d : Drawn) : Type 0 where
   behind : List Entry
-  there : older ≡ Then (Does (Call t) (Draw n)) ∷ behind
+  there : older ≡ Then (Does (Call t) (OfTopic n Draw)) ∷ behind
   room : Bool
   ready : room_of (view o behind) n ≡ Some room
   row : IsDrawn room ((view o behind).producers.topics n) d
@@ -264,15 +265,15 @@ was_drawn o older t w e share given d run h =
     let b = draw_by (view o g.older) g.action d (grants_given o older note g (news.Drew d) refl) in
     from g.older b.0 b.2 (g.is_there ∙ ap (λ (x : Action). Then (Does (Call t) x) ∷ g.older) b.1) b.3 b.4
   where
-    from : (behind : List Entry) (n : ℕ) (room : Bool) → older ≡ Then (Does (Call t) (Draw n)) ∷ behind → room_of (view o behind) n ≡ Some room →
+    from : (behind : List Entry) (n : ℕ) (room : Bool) → older ≡ Then (Does (Call t) (OfTopic n Draw)) ∷ behind → room_of (view o behind) n ≡ Some room →
         drawn room ((view o behind).producers.topics n) ≡ Some d → WasDrawn o older t e.producer d
     from behind n room there ready q =
-        let run2 : IsRun o (Then (Does (Call t) (Draw n)) ∷ behind) = subst (IsRun o) there run.0 in
+        let run2 : IsRun o (Then (Does (Call t) (OfTopic n Draw)) ∷ behind) = subst (IsRun o) there run.0 in
         let h2 : started (Call t) behind ≡ Some (procedure.Send w e share given) = ap (started (Call t)) (sym there) ∙ h in
-        let num : n ≡ e.producer = (send_led o behind t w e share given (Draw n) run2 refl h2).asks in
+        let num : n ≡ e.producer = (send_led o behind t w e share given (OfTopic n Draw) run2 refl h2).asks in
         record {
           behind = behind;
-          there = there ∙ ap (λ m. Then (Does (Call t) (Draw m)) ∷ behind) num;
+          there = there ∙ ap (λ m. Then (Does (Call t) (OfTopic m Draw)) ∷ behind) num;
           room = room;
           ready = ap (room_of (view o behind)) (sym num) ∙ ready;
           row = subst (λ m. IsDrawn room ((view o behind).producers.topics m) d) num (is_drawn room ((view o behind).producers.topics n) d q);
@@ -280,13 +281,13 @@ was_drawn o older t w e share given d run h =
 
 -- what is seen behind it
 draw_now : (o : Options) (behind : List Entry) (t n : ℕ) (room : Bool) (x : Topic) → room_of (view o behind) n ≡ Some room →
-    (view o behind).producers.topics n ≡ Some x → (view o (Then (Does (Call t) (Draw n)) ∷ behind)).producers.topics n ≡ Some (topic_after Draws x)
+    (view o behind).producers.topics n ≡ Some x → (view o (Then (Does (Call t) (OfTopic n Draw)) ∷ behind)).producers.topics n ≡ Some (topic_after Draws x)
 draw_now o behind t n room x ready h =
-    ap (λ r. (draws_on r n (view o behind).producers).topics n) ready ∙ changed_at Draws (view o behind).producers n x h
+    ap (λ r. row_by topic_after (cond (n == n) (drawn_by r) []) ((view o behind).producers.topics n)) ready ∙ changed_at Draws (view o behind).producers n x h
 
 topic_now : (o : Options) (log older behind : List Entry) (t n : ℕ) (note : Notice) (x : Topic) → log ≡ Then (Told note) ∷ older →
-    older ≡ Then (Does (Call t) (Draw n)) ∷ behind →
-    (view o (Then (Does (Call t) (Draw n)) ∷ behind)).producers.topics n ≡ Some (topic_after Draws x) →
+    older ≡ Then (Does (Call t) (OfTopic n Draw)) ∷ behind →
+    (view o (Then (Does (Call t) (OfTopic n Draw)) ∷ behind)).producers.topics n ≡ Some (topic_after Draws x) →
     (view o log).producers.topics n ≡ Some (topic_after Draws x)
 topic_now o log older behind t n note x p q h = ap (λ y. (view o y).producers.topics n) p ∙ ap (λ y. (view o y).producers.topics n) q ∙ h
 
@@ -324,7 +325,7 @@ module _ (o : Options) (log : List Entry) (t l n s : ℕ) (name : List ℕ) (m :
     pub told : Notice
     pub drawn : ℕ
     pub behind : List Entry
-    pub there : log ≡ Then (Told told) ∷ Then (Does (Call t) (Draw drawn)) ∷ behind
+    pub there : log ≡ Then (Told told) ∷ Then (Does (Call t) (OfTopic drawn Draw)) ∷ behind
     pub was : (view o behind).producers.topics e.producer ≡ Some before
 
   pub framed : (k : IsSendLed o log t e given sent) → IsFramed

@@ -1,27 +1,27 @@
 -- The number of a new topic producer is free.
-use Rattle.std.proofs.Common.{◌≡◌, inl, inr, ◌∙◌, sym, ap, subst, ℕ, ◌+◌, ◌-◌, ◌^◌, ◌<◌, ◌≤◌, ◌==◌, arith, List, [], ◌∷◌, refl, Bool, true, false, ◌&&◌, ◌||◌, nat_lt, cond, Option, Some, None}
+use Rattle.std.proofs.Common.{◌≡◌, inl, inr, ◌∙◌, sym, ap, subst, ℕ, ◌+◌, ◌-◌, ◌^◌, ◌<◌, ◌≤◌, ◌==◌, arith, List, [], ◌∷◌, refl, true, false, ◌&&◌, ◌||◌, nat_lt, cond, Option, Some, None}
 use Rattle.std.proofs.lemmas.Bool.{cases_Bool, eqb-true}
 use Rattle.std.proofs.lemmas.Bool.Decides.{nat_tests}
 use Rattle.std.specs.BTreeSet.{insert_key}
 use Rattle.std.specs.List.{list_any}
 use Rattle.std.specs.Option.{is_some}
 use Rattle.std.specs.Ordering.{nat_cmp}
-use Rattle.pulsar_laws.proofs.ActWords.{Act, Alarm, Answers, Asked, Batch, Calls, Comes, Does, Draw, lacks_tickets, Makes, Number, Rings, shares, Shut, Told, Who}
+use Rattle.pulsar_laws.proofs.ActWords.{Act, Answers, Asked, Calls, Comes, Does, Makes, Number, Told, Who, lacks_tickets, shares}
 use Rattle.pulsar_laws.proofs.PlanWords.{Built}
-use Rattle.pulsar_laws.proofs.RunWords.{Begins, begun_same, draws_on, Entry, In, IsRun, may_call, notice, Options, producers_made, producers_rung, room_of, Then, View, view}
-use Rattle.pulsar_laws.proofs.LinkWords.{rings}
+use Rattle.pulsar_laws.proofs.RunWords.{Begins, begun_same, Entry, In, IsRun, may_call, notice, Options, producers_made, Then, View, view}
 use Rattle.pulsar_messages.specs.Content.{ProducerMessageValues}
 use Rattle.pulsar_messages.specs.Claims.{is_spent}
 use Rattle.pulsar_exchange.specs.Request.{named_producer}
 use Rattle.pulsar_producer.specs.Producer as producer
-use Rattle.pulsar_producer.specs.Topic.{Closes}
 use Rattle.pulsar_outgoing.specs.Storage.{limits_of}
 use Rattle.pulsar_outgoing.specs.declared.storage.Limits.{Limits}
 use Rattle.pulsar_outgoing.specs.declared.news.News.TheVariants as news
 use Rattle.pulsar_calls.specs.declared.act.Makes.TheVariants.{Producer}
+use Rattle.pulsar_calls.specs.declared.act.Who.TheVariants as by
+use Rattle.pulsar_acts.specs.View.{producers_left}
 use Rattle.pulsar_calls.specs.declared.act.Outcome.TheVariants as outcome
 use Rattle.pulsar_calls.specs.Content as content
-use Rattle.pulsar_producer_table.specs.Producers.{Producers, all_routed, called_on, changed, free_from, made_of, names_in, next_free, numbered, numbers_at, opened_on, routed, sent_on, shut_all, why_not, with_built, with_topic, with_topics}
+use Rattle.pulsar_producer_table.specs.Producers.{Producers, all_routed, called_on, free_from, made_of, names_in, next_free, numbered, opened_on, routed, sent_on, why_not, with_built, with_topic, with_topics}
 use Rattle.pulsar_laws.proofs.Cases.{cond_so}
 use Rattle.pulsar_laws.specs.ProducerLaws.{NumbersAreFree}
 use Rattle.pulsar_acts.specs.View as seen
@@ -139,14 +139,6 @@ opened_low (content.Raw l words) ps h =
     elim (named_producer words) as (λ r. IsLow (names_in r ps)) [ None ↦ h | Some n ↦ (rising_insert ps.named n h.0, h.1) ]
 opened_low _ ps h = h
 
-draws_kept : (room : Option Bool) (m : ℕ) (ps : Producers) → Kept ps (draws_on room m ps)
-draws_kept None m ps = (refl, refl)
-draws_kept (Some room) m ps = (refl, refl)
-
-shut_kept : (ns : List ℕ) (ps : Producers) → Kept ps (shut_all ns ps)
-shut_kept [] ps = (refl, refl)
-shut_kept (n ∷ ns) ps = shut_kept ns (changed n Closes ps)
-
 joined_kept : (owner f : ℕ) (limits : Limits) (bs : List Built) (ps : Producers) → Kept ps (with_topics owner f limits bs ps)
 joined_kept owner f limits [] ps = (refl, refl)
 joined_kept owner f limits (b ∷ bs) ps = joined_kept owner f limits bs (with_topic owner f limits b ps)
@@ -163,6 +155,11 @@ made_low v who (Producer b) h =
     (kept_low v.producers ps (joined_kept (rank who).1 f (limits_of b.settings) b.parts v.producers) h)
 made_low v who _ h = h
 
+left_low : (who : Who) (ps : Producers) → IsLow ps → IsLow (producers_left who ps)
+left_low (by.Call t) ps h = h
+left_low (by.Consumer n t) ps h = h
+left_low (by.Producer n) ps h = h
+
 numbered_low : (ps : Producers) → IsLow ps → IsLow (numbered ps)
 numbered_low ps h = (
   h.0,
@@ -173,21 +170,12 @@ numbered_low ps h = (
     low : next_free ps < 2 ^ 64
     low = (free_low ps.named ps.next h.1).1
 
-rung_low : (v : View) (b : Bool) (a : Alarm) → IsLow v.producers → IsLow (producers_rung b a v.producers)
-rung_low v true (Batch m) h = h
-rung_low v false (Batch m) h = h
-rung_low v b _ h = h
-
 after_low : (v : View) (a : Act) → IsLow v.producers → IsLow (seen.after a v).producers
 after_low v (Comes (Calls asked advice)) h =
     cond_so IsLow (lacks_tickets v.calls.drawn (shares asked)) v.producers (called_on (may_call v.calls) asked v.producers) h
     (cond_so IsLow (may_call v.calls) (opened_on asked v.producers) v.producers (opened_low asked v.producers h) h)
-after_low v (Comes (Rings a)) h = rung_low v (rings v.now a v.alarms) a h
-after_low v (Does who (Draw m)) h = kept_low v.producers (draws_on (room_of v m) m v.producers) (draws_kept (room_of v m) m v.producers) h
-after_low v (Does who (Shut u)) h =
-    kept_low v.producers (shut_all (numbers_at (v.producers.built u)) v.producers) (shut_kept (numbers_at (v.producers.built u)) v.producers) h
 after_low v (Does who Number) h = numbered_low v.producers h
-after_low v (Answers who verdict) h = made_low v who verdict.makes h
+after_low v (Answers who verdict) h = left_low who (producers_made v.chosen who verdict.makes v.producers) (made_low v who verdict.makes h)
 after_low v _ h = h
 
 pub low_run : (o : Options) (log : List Entry) → o.chosen.first_number < 2 ^ 64 → IsLow (view o log).producers

@@ -2,7 +2,7 @@
 use Rattle.std.proofs.Common.{◌≡◌, ◌⊎◌, inl, inr, ◌∙◌, sym, ap, subst, ℕ, ◌+◌, ◌≤◌, ◌==◌, arith, List, ◌∷◌, refl, Bool, true, false, cond, Option, Some, None}
 use Rattle.std.proofs.lemmas.Bool.{cases_Bool, eqb-true}
 use Rattle.std.proofs.lemmas.Bool.Decides.{nat_tests}
-use Rattle.pulsar_laws.proofs.ActWords.{Action, Call, Consumer, Does, is_same, Outcome, PassTurn, Procedure, Producer, Rest, Share, Starts, turn_of as taken_as, TakeTurn, Told, Verdict, Who}
+use Rattle.pulsar_laws.proofs.ActWords.{Action, Call, Consumer, Does, OfTopic, Outcome, PassTurn, Procedure, Producer, Rest, Share, Starts, TakeTurn, Told, Verdict, Who, is_same, turn_of as taken_as}
 use Rattle.pulsar_laws.proofs.PlanWords.{Batches, Batching, begins, Errand, Gives, Leaving, Member, Plan, Reporting, Sending as Send, Stays, told, Turn, Visiting, Ways}
 use Rattle.pulsar_laws.proofs.RunWords.{counted, Entry, In, IsRun, notice, Options, start_of, started, stays, stays_some, Then, told_some, view}
 use Rattle.pulsar_messages.specs.Claims.{is_spent}
@@ -179,32 +179,32 @@ pub stand_starts : (o : Options) (older : List Entry) (t : ℕ) (p : Procedure) 
     (view o (Then (Starts (Call t) p) ∷ older)).stand (Call t) ≡ Some q
 stand_starts o older t p q a h = ap (λ b. cond b (stays (begins p)) ((view o older).stand (Call t))) (self_same t) ∙ ap stays h
 
-pub taking : (o : Options) (log : List Entry) (t n : ℕ) → Every (AllTurns o) log → IsRun o (Then (Does (Call t) (TakeTurn n)) ∷ log) → IsTaking o log t n
-taking o log t n k run = elim (does_from o log (Call t) (TakeTurn n) run) [
+pub taking : (o : Options) (log : List Entry) (t n : ℕ) → Every (AllTurns o) log → IsRun o (Then (Does (Call t) (OfTopic n TakeTurn)) ∷ log) → IsTaking o log t n
+taking o log t n k run = elim (does_from o log (Call t) (OfTopic n TakeTurn) run) [
   | inl b ↦ begun b
   | inr l ↦ led l
 ]
   where
-    begun : BeginsSo o log (Call t) (TakeTurn n) → IsTaking o log t n
+    begun : BeginsSo o log (Call t) (OfTopic n TakeTurn) → IsTaking o log t n
     begun b =
         let e : Every (AllTurns o) (Then (Starts (Call t) b.procedure) ∷ b.older) = subst (Every (AllTurns o)) b.is_there k in
         let r : IsRun o (Then (Starts (Call t) b.procedure) ∷ b.older) = subst (IsRun o) b.is_there run.0 in
-        let g : holding.BeginsSo b.plan (TakeTurn n) = subst (StaysSo holding.BeginsSo) b.leads (begins_holds b.procedure) in
+        let g : holding.BeginsSo b.plan (OfTopic n TakeTurn) = subst (StaysSo holding.BeginsSo) b.leads (begins_holds b.procedure) in
         subst (λ l. IsTaking o l t n) (sym b.is_there) (record {
           plan = b.plan;
-          stood = stand_starts o b.older t b.procedure b.plan (TakeTurn n) b.leads;
+          stood = stand_starts o b.older t b.procedure b.plan (OfTopic n TakeTurn) b.leads;
           wants = g.1;
           clear = clear_starts o b.older t b.procedure r (here (AllTurns o) b.older e.1).calls;
         })
 
-    led : IsLedSo o log (Call t) (TakeTurn n) → IsTaking o log t n
+    led : IsLedSo o log (Call t) (OfTopic n TakeTurn) → IsTaking o log t n
     led l =
         let e : Every (AllTurns o) (Then (Told (notice (Call t) l.outcome)) ∷ l.older) = subst (Every (AllTurns o)) l.is_there k in
         let r : IsRun o (Then (Told (notice (Call t) l.outcome)) ∷ l.older) = subst (IsRun o) l.is_there run.0 in
-        let g : GoesSo l.before l.outcome l.plan (TakeTurn n) = subst (StaysSo (GoesSo l.before l.outcome)) l.leads (told_holds l.before l.outcome) in
+        let g : GoesSo l.before l.outcome l.plan (OfTopic n TakeTurn) = subst (StaysSo (GoesSo l.before l.outcome)) l.leads (told_holds l.before l.outcome) in
         subst (λ x. IsTaking o x t n) (sym l.is_there) (record {
           plan = l.plan;
-          stood = stand_told o l.older (Call t) l.outcome l.before l.plan (TakeTurn n) l.stood l.leads;
+          stood = stand_told o l.older (Call t) l.outcome l.before l.plan (OfTopic n TakeTurn) l.stood l.leads;
           wants = g.passes.0;
           clear = clear_told o l.older t l.outcome r
               (clear_at o l.older r.0 (here (AllTurns o) l.older e.1).calls t l.before l.stood g.passes.1 g.passes.2);
@@ -264,13 +264,13 @@ own_led o log m action a run = elim (does_from o log (Producer m) action run) [
   | inr l ↦ l
 ]
 
-pub own_taking : (o : Options) (log : List Entry) (m n : ℕ) → IsRun o (Then (Does (Producer m) (TakeTurn n)) ∷ log) → IsOwnTaking o log m n
+pub own_taking : (o : Options) (log : List Entry) (m n : ℕ) → IsRun o (Then (Does (Producer m) (OfTopic n TakeTurn)) ∷ log) → IsOwnTaking o log m n
 own_taking o log m n run =
-    let l = own_led o log m (TakeTurn n) refl run in
+    let l = own_led o log m (OfTopic n TakeTurn) refl run in
     let r : IsRun o (Then (Told (notice (Producer m) l.outcome)) ∷ l.older) = subst (IsRun o) l.is_there run.0 in
-    let g : GoesSo l.before l.outcome l.plan (TakeTurn n) = subst (StaysSo (GoesSo l.before l.outcome)) l.leads (told_holds l.before l.outcome) in
+    let g : GoesSo l.before l.outcome l.plan (OfTopic n TakeTurn) = subst (StaysSo (GoesSo l.before l.outcome)) l.leads (told_holds l.before l.outcome) in
     let s : (view o log).stand (Producer m) ≡ Some l.plan =
-    ap (λ x. (view o x).stand (Producer m)) l.is_there ∙ stand_told o l.older (Producer m) l.outcome l.before l.plan (TakeTurn n) l.stood l.leads in
+    ap (λ x. (view o x).stand (Producer m)) l.is_there ∙ stand_told o l.older (Producer m) l.outcome l.before l.plan (OfTopic n TakeTurn) l.stood l.leads in
     record { plan = l.plan; stood = s; number = own_waits o log m n l.plan run.0 s g.passes.0; none_held = g.passes.3 }
 
 -- as one passes its turn on
@@ -314,23 +314,23 @@ holds_none _ n h = absurd cc
 pub not_all : (t : ℕ) → IsTicket t → t ≡ behind_all → ⊥
 not_all t k e = let f : true ≡ false = sym (ap is_spent e) ∙ k in cc
 
-call_passing : (o : Options) (log : List Entry) (t n : ℕ) → Every (AllTurns o) log → IsRun o (Then (Does (Call t) (PassTurn n)) ∷ log) →
+call_passing : (o : Options) (log : List Entry) (t n : ℕ) → Every (AllTurns o) log → IsRun o (Then (Does (Call t) (OfTopic n PassTurn)) ∷ log) →
     IsPassing o log (Call t) n
-call_passing o log t n k run = elim (does_from o log (Call t) (PassTurn n) run) [
-  | inl b ↦ (let g : holding.BeginsSo b.plan (PassTurn n) = subst (StaysSo holding.BeginsSo) b.leads (begins_holds b.procedure) in absurd g.1)
+call_passing o log t n k run = elim (does_from o log (Call t) (OfTopic n PassTurn) run) [
+  | inl b ↦ (let g : holding.BeginsSo b.plan (OfTopic n PassTurn) = subst (StaysSo holding.BeginsSo) b.leads (begins_holds b.procedure) in absurd g.1)
   | inr l ↦ led l
 ]
   where
-    led : IsLedSo o log (Call t) (PassTurn n) → IsPassing o log (Call t) n
+    led : IsLedSo o log (Call t) (OfTopic n PassTurn) → IsPassing o log (Call t) n
     led l =
         let e : Every (AllTurns o) (Then (Told (notice (Call t) l.outcome)) ∷ l.older) = subst (Every (AllTurns o)) l.is_there k in
         let r : IsRun o (Then (Told (notice (Call t) l.outcome)) ∷ l.older) = subst (IsRun o) l.is_there run.0 in
-        let g : GoesSo l.before l.outcome l.plan (PassTurn n) = subst (StaysSo (GoesSo l.before l.outcome)) l.leads (told_holds l.before l.outcome) in
+        let g : GoesSo l.before l.outcome l.plan (OfTopic n PassTurn) = subst (StaysSo (GoesSo l.before l.outcome)) l.leads (told_holds l.before l.outcome) in
         let older = (here (AllTurns o) l.older e.1).calls in
         let none = holds_none l.before n g.passes.0 in
         subst (λ x. IsPassing o x (Call t) n) (sym l.is_there) (record {
           plan = l.plan;
-          stood = stand_told o l.older (Call t) l.outcome l.before l.plan (PassTurn n) l.stood l.leads;
+          stood = stand_told o l.older (Call t) l.outcome l.before l.plan (OfTopic n PassTurn) l.stood l.leads;
           no_more = g.passes.1;
           has = older.held t n l.before l.stood g.passes.0;
           none_pends = (clear_told o l.older t l.outcome r (clear_at o l.older r.0 older t l.before l.stood none.0 none.1)).none_pends;
@@ -338,20 +338,20 @@ call_passing o log t n k run = elim (does_from o log (Call t) (PassTurn n) run) 
           is_producer = λ y. absurd (not_all t (stood_ticket o l.older t l.before r.0 l.stood) y);
         })
 
-own_passing : (o : Options) (log : List Entry) (m n : ℕ) → Every (AllTurns o) log → IsRun o (Then (Does (Producer m) (PassTurn n)) ∷ log) →
+own_passing : (o : Options) (log : List Entry) (m n : ℕ) → Every (AllTurns o) log → IsRun o (Then (Does (Producer m) (OfTopic n PassTurn)) ∷ log) →
     IsPassing o log (Producer m) n
 own_passing o log m n k run =
-    let l = own_led o log m (PassTurn n) refl run in
+    let l = own_led o log m (OfTopic n PassTurn) refl run in
     let e : Every (AllTurns o) (Then (Told (notice (Producer m) l.outcome)) ∷ l.older) = subst (Every (AllTurns o)) l.is_there k in
     let r : IsRun o (Then (Told (notice (Producer m) l.outcome)) ∷ l.older) = subst (IsRun o) l.is_there run.0 in
-    let g : GoesSo l.before l.outcome l.plan (PassTurn n) = subst (StaysSo (GoesSo l.before l.outcome)) l.leads (told_holds l.before l.outcome) in
+    let g : GoesSo l.before l.outcome l.plan (OfTopic n PassTurn) = subst (StaysSo (GoesSo l.before l.outcome)) l.leads (told_holds l.before l.outcome) in
     let number : n ≡ m = own_holds o l.older m n l.before r.0 l.stood g.passes.0 in
     let was = (here (AllTurns o) l.older e.1).own.held m n l.before l.stood g.passes.0 in
     let p = pend_kept o l.older (Producer m) (Told (notice (Producer m) l.outcome)) refl refl r in
     let z : pending o l.older (Producer m) ≡ 0 = was.1 in
     subst (λ x. IsPassing o x (Producer m) n) (sym l.is_there) (record {
       plan = l.plan;
-      stood = stand_told o l.older (Producer m) l.outcome l.before l.plan (PassTurn n) l.stood l.leads;
+      stood = stand_told o l.older (Producer m) l.outcome l.before l.plan (OfTopic n PassTurn) l.stood l.leads;
       no_more = g.passes.1;
       has = subst (HasTurn (view o l.older) (Producer m)) (sym number) was.0;
       none_pends = omega (arith, p, z);
@@ -359,8 +359,8 @@ own_passing o log m n k run =
       is_producer = λ y. ap Producer (sym number);
     })
 
-pub passing : (o : Options) (log : List Entry) (who : Who) (n : ℕ) → Every (AllTurns o) log → IsRun o (Then (Does who (PassTurn n)) ∷ log) →
+pub passing : (o : Options) (log : List Entry) (who : Who) (n : ℕ) → Every (AllTurns o) log → IsRun o (Then (Does who (OfTopic n PassTurn)) ∷ log) →
     IsPassing o log who n
 passing o log (Call t) n k run = call_passing o log t n k run
-passing o log (Consumer m t) n k run = (let f : is_modest (PassTurn n) ≡ true = server_does o log m t (PassTurn n) run in absurd cc)
+passing o log (Consumer m t) n k run = (let f : is_modest (OfTopic n PassTurn) ≡ true = server_does o log m t (OfTopic n PassTurn) run in absurd cc)
 passing o log (Producer m) n k run = own_passing o log m n k run

@@ -1,11 +1,9 @@
 -- Those whose messages a topic producer stores, or has in a batch, wait for what becomes of them, or have ended.
-use Rattle.std.proofs.Common.{◌≡◌, inl, inr, ◌∙◌, sym, ap, subst, ℕ, ◌+◌, ◌≤◌, ◌==◌, arith, List, [], ◌∷◌, ◌++◌, refl, map, Bool, true, false, cond, Option, Some, None, Ok, Err}
+use Rattle.std.proofs.Common.{◌≡◌, inl, inr, ◌∙◌, sym, ap, subst, ℕ, ◌+◌, ◌≤◌, arith, List, [], ◌∷◌, ◌++◌, refl, map, Bool, true, false, cond, Option, Some, None, Ok, Err}
 use Rattle.std.proofs.lemmas.Bool.{cases_Bool}
-use Rattle.std.specs.Option.{is_some}
-use Rattle.pulsar_laws.proofs.ActWords.{Act, Action, Batch, Call, Comes, Consumer, Does, Draw, Flush, is_same, Notice, Outcome, PassTurn, Procedure, Producer, Remake, Rings, Shut, Starts, StopAll, Store, TakeBatch, TakeTurn, Told, turn_of, Who}
+use Rattle.pulsar_laws.proofs.ActWords.{Act, Action, Call, Consumer, Does, Notice, OfTopic, Outcome, Procedure, Producer, Starts, Store, TakeBatch, Told, Who, is_same, turn_of}
 use Rattle.pulsar_laws.proofs.PlanWords.{action_of, Batches, Batching, begins, Deed, Errand, Member, News, news_of, Plan, Stored, Storing, told, Ways}
-use Rattle.pulsar_laws.proofs.RunWords.{Begins, begun_same, counted, Each, each_append, each_either, each_map, Entry, In, IsRun, Options, room_of, start_of, stays, stays_some, Then, told_some, view, View}
-use Rattle.pulsar_laws.proofs.LinkWords.{rings}
+use Rattle.pulsar_laws.proofs.RunWords.{Begins, begun_same, counted, Each, each_append, each_map, Entry, In, IsRun, Options, start_of, stays, stays_some, Then, told_some, view, View}
 use Rattle.pulsar_frame.specs.Batch.{EntryValues}
 use Rattle.pulsar_messages.specs.Claims.{is_spent}
 use Rattle.pulsar_searches.specs.declared.turn.Action.TheVariants as wish
@@ -23,16 +21,16 @@ use Rattle.pulsar_laws.proofs.Lists.{in_append, in_each}
 use Rattle.pulsar_laws.proofs.plans.Standing.{stood_begun}
 use Rattle.pulsar_plans.proofs.Arcs.{Arc, BatchArc, Begun, batch_sends, batches_go, begins_batch, by_arcs, by_begun, taken_starts}
 use Rattle.pulsar_laws.proofs.Cases.{cond_so, none_some}
-use Rattle.pulsar_laws.specs.ProducerLaws.{acts_on, drawn_by, rung_by, shut_by, topic_acts}
-use Rattle.pulsar_producer_table.specs.Producers.{next_batch_at, numbers_at}
+use Rattle.pulsar_laws.specs.ProducerLaws.{acts_on, topic_acts}
+use Rattle.pulsar_producer_table.specs.Producers.{next_batch_at}
 use Rattle.pulsar_laws.proofs.plans.Batchers.{batcher_does}
 use Rattle.pulsar_laws.proofs.plans.Fitting.{stores_so}
 use Rattle.pulsar_laws.proofs.plans.Granted.{GivenBy, does_fit, granted_by, grants_given, is_grant}
 use Rattle.pulsar_laws.proofs.calls.Once.{ends_once_lem}
-use Rattle.pulsar_laws.proofs.calls.Sources.{in_one}
-use Rattle.pulsar_laws.proofs.producers.Topics.{topics_alone_lem}
+use Rattle.pulsar_laws.proofs.producers.Topics.{topics_alone_lem, CameFrom, acts_each, came_from, in_since}
 use Rattle.pulsar_laws.proofs.plans.Servers.{server_does}
 use Rattle.pulsar_laws.proofs.plans.Consuming.{is_modest}
+use Rattle.pulsar_acts.specs.View.{topic_born}
 
 -- WHERE ONE STANDS THAT STORES A MESSAGE: it ends with what becomes of it
 
@@ -80,15 +78,15 @@ keeps_more o log (Then (Told n)) t run k =
 keeps_more o log (Then a) t run k = let was : 1 ≤ counted (start_of t) log = k.began in record { began = omega (arith, was); waits = k.waits }
 
 -- one that stores
-pub store_keeps : (o : Options) (log : List Entry) (t n : ℕ) (entry : EntryValues) → IsRun o (Then (Does (Call t) (Store n entry)) ∷ log) → Keeps o log t
+pub store_keeps : (o : Options) (log : List Entry) (t n : ℕ) (entry : EntryValues) → IsRun o (Then (Does (Call t) (OfTopic n (Store entry))) ∷ log) → Keeps o log t
 store_keeps o log t n entry run =
-    let k = does_fit o log (Call t) (Store n entry) refl run in
+    let k = does_fit o log (Call t) (OfTopic n (Store entry)) refl run in
     let s = stores_so k.0 n entry k.1 in
     record { began = stood_begun o log t k.0 k.2; waits = ap ends_settled (k.2 ∙ ap Some s.1) }
 
 -- WHAT IS STORED
 
-pub no_store : (d : Deed) (n : ℕ) (entry : EntryValues) → Store n entry ≡ action_of d → ⊥
+pub no_store : (d : Deed) (n : ℕ) (entry : EntryValues) → OfTopic n (Store entry) ≡ action_of d → ⊥
 no_store (deed.Does (wish.Get p)) n entry h = cc
 no_store (deed.Does (wish.Ask l request)) n entry h = cc
 no_store (deed.Does (wish.Wait delay)) n entry h = cc
@@ -101,56 +99,30 @@ is_store _ = false
 abbrev pub NoStore : topic.Act → Type 0
 NoStore act = is_store act ≡ false
 
-rung_none : (b : Bool) → Each NoStore (rung_by b)
-rung_none true = (refl, tt)
-rung_none false = tt
-
-drawn_none : (r : Option Bool) → Each NoStore (drawn_by r)
-drawn_none None = tt
-drawn_none (Some room) = (refl, tt)
-
-shut_none : (n : ℕ) (ns : List ℕ) → Each NoStore (shut_by n ns)
-shut_none n [] = tt
-shut_none n (m ∷ ns) = each_either NoStore (n == m) (topic.Closes ∷ shut_by n ns) (shut_by n ns) (refl, shut_none n ns) (shut_none n ns)
-
 abbrev pub stores_it : Act → Bool
-stores_it (Does who (Store n entry)) = true
+stores_it (Does who (OfTopic n (Store entry))) = true
 stores_it _ = false
 
 pub none_stored : (v : View) (n : ℕ) (a : Act) → stores_it a ≡ false → Each NoStore (topic_acts v n a)
-none_stored v n (Comes (Rings (Batch m))) h =
-    each_either NoStore (n == m) (rung_by (rings v.now (Batch m) v.alarms)) [] (rung_none (rings v.now (Batch m) v.alarms)) tt
-none_stored v n (Does who (TakeTurn m)) h = each_either NoStore (n == m) (topic.Takes (turn_of who) ∷ []) [] (refl, tt) tt
-none_stored v n (Does who (PassTurn m)) h = each_either NoStore (n == m) (topic.Passes ∷ []) [] (refl, tt) tt
-none_stored v n (Does who (Draw m)) h = each_either NoStore (n == m) (drawn_by (room_of v m)) [] (drawn_none (room_of v m)) tt
-none_stored v n (Does who (Remake r)) h = each_either NoStore (n == r.number) (topic.Remakes r.link r.given ∷ []) [] (refl, tt) tt
-none_stored v n (Does who (Flush m)) h = each_either NoStore (n == m) (topic.Flushes (turn_of who) ∷ []) [] (refl, tt) tt
-none_stored v n (Does who (TakeBatch m)) h = each_either NoStore (n == m) (topic.TakesBatch ∷ []) [] (refl, tt) tt
-none_stored v n (Does who StopAll) h = (refl, tt)
-none_stored v n (Does who (Shut t)) h = shut_none n (numbers_at (v.producers.built t))
-none_stored v n (Does who (Store m entry)) h = absurd cc
-none_stored v n _ h = tt
+none_stored v n a h = acts_each NoStore v n a none
+  where
+    none : (act : topic.Act) → CameFrom n a act → NoStore act
+    none (topic.Stores t entry) k = let e : true ≡ false = sym (ap stores_it k.1) ∙ h in absurd cc
+    none act k = refl
 
 module _ (o : Options) (n ticket : ℕ) (entry : EntryValues) where
   abbrev it : topic.Act
   it = topic.Stores ticket entry
 
   -- who stores it is a call, of that ticket
-  by : (log : List Entry) (who : Who) (m : ℕ) (x : EntryValues) → IsRun o (Then (Does who (Store m x)) ∷ log) → it ≡ topic.Stores (turn_of who) x →
+  by : (log : List Entry) (who : Who) (m : ℕ) (x : EntryValues) → IsRun o (Then (Does who (OfTopic m (Store x))) ∷ log) → it ≡ topic.Stores (turn_of who) x →
       Keeps o log ticket
   by log (Call t) m x run is = let same : ticket ≡ t = cc in subst (Keeps o log) (sym same) (store_keeps o log t m x run)
-  by log (Consumer k t) m x run is = (let f : is_modest (Store m x) ≡ true = server_does o log k t (Store m x) run in absurd cc)
-  by log (Producer k) m x run is = let d = batcher_does o log k (Store m x) run in absurd (no_store d.0 m x d.1)
+  by log (Consumer k t) m x run is = (let f : is_modest (OfTopic m (Store x)) ≡ true = server_does o log k t (OfTopic m (Store x)) run in absurd cc)
+  by log (Producer k) m x run is = let d = batcher_does o log k (OfTopic m (Store x)) run in absurd (no_store d.0 m x d.1)
 
-  act_keeps : (log : List Entry) (a : Act) (b : Bool) → stores_it a ≡ b → IsRun o (Then a ∷ log) → In it (topic_acts (view o log) n a) → Keeps o log ticket
-  act_keeps log a false h run i =
-      let f : true ≡ false = in_each NoStore it (topic_acts (view o log) n a) i (none_stored (view o log) n a h) in absurd cc
-  act_keeps log (Does who (Store m x)) true h run i = by log who m x run (in_one (n == m) (topic.Stores (turn_of who) x) it i).1
-  act_keeps log a true h run i = absurd cc
-
-  in_there : (b : Bool) (xs : List topic.Act) → In it (cond b xs []) → In it xs
-  in_there true xs i = i
-  in_there false xs i = absurd i
+  act_keeps : (log : List Entry) (a : Act) → IsRun o (Then a ∷ log) → CameFrom n a it → Keeps o log ticket
+  act_keeps log a run k = by log k.0 n entry (subst (λ (x : Act). IsRun o (Then x ∷ log)) k.1 run) (ap (λ t. topic.Stores t entry) k.2)
 
   stored_keeps : (log : List Entry) → IsRun o log → In it (acts_on o n log) → Keeps o log ticket
   stored_keeps [] run i = absurd i
@@ -158,9 +130,8 @@ module _ (o : Options) (n ticket : ℕ) (entry : EntryValues) where
   stored_keeps (Then a ∷ log) run i =
       let v = view o log in
       keeps_more o log (Then a) ticket run
-      (elim (in_append it (topic_acts v n a) (acts_on o n log)
-      (in_there (is_some (v.producers.topics n)) (topic_acts v n a ++ acts_on o n log) i)) [
-        | inl j ↦ act_keeps log a (stores_it a) refl run j
+      (elim (in_append it (topic_acts v n a) (acts_on o n log) (in_since it (topic_born v n a) (topic_acts v n a) (acts_on o n log) i)) [
+        | inl j ↦ act_keeps log a run (in_each (CameFrom n a) it (topic_acts v n a) j (came_from v n a))
         | inr j ↦ stored_keeps log run.0 j
       ])
 
@@ -300,7 +271,7 @@ row_map P Q (Some plan) f k = tt
 
 batch_by : (v : View) (action : Action) (items : List Item) → GivenBy v action (news.HasBatch (Some items)) →
     (m : ℕ) × (next_batch_at (v.producers.topics m) ≡ Some items)
-batch_by v (TakeBatch m) items h = (m, h)
+batch_by v (OfTopic m TakeBatch) items h = (m, h)
 batch_by v action items h = absurd h
 
 module _ (o : Options) (log : List Entry) (n : Notice) (run : IsRun o (Then (Told n) ∷ log)) where

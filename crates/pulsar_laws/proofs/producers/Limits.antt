@@ -3,10 +3,9 @@ use Rattle.std.proofs.Common.{◌≡◌, ◌⊎◌, inl, inr, ◌∙◌, sym, ap
 use Rattle.std.proofs.lemmas.Bool.{cases_Bool, eqb-true}
 use Rattle.std.proofs.lemmas.Bool.Decides.{nat_tests}
 use Rattle.std.specs.Option.{is_some, option_map}
-use Rattle.pulsar_laws.proofs.ActWords.{Act, Action, Alarm, Answers, Asked, Batch, Call, Calls, Comes, Does, Draw, Heard, is_same, lacks_tickets, Makes, Nothing, Outcome, Procedure, Rings, shares, Shut, Starts, Told, Verdict, Who}
-use Rattle.pulsar_laws.proofs.PlanWords.{begins, Built, Gives, is_answer, Order, Plan, Producing, Ways}
-use Rattle.pulsar_laws.proofs.RunWords.{Begins, begun_same, counted, draws_on, Entry, IsRun, may_call, notice, Options, producers_made, producers_rung, room_of, start_of, started, Then, view, View}
-use Rattle.pulsar_laws.proofs.LinkWords.{rings}
+use Rattle.pulsar_laws.proofs.ActWords.{Act, Action, Answers, Asked, Call, Calls, Comes, Does, Heard, is_same, lacks_tickets, Makes, Nothing, Outcome, Procedure, shares, Starts, Told, Verdict, Who, Number}
+use Rattle.pulsar_laws.proofs.PlanWords.{begins, Built, Gives, is_answer, ProducerOrder, Plan, Producing, Ways}
+use Rattle.pulsar_laws.proofs.RunWords.{Begins, begun_same, counted, Entry, IsRun, may_call, notice, Options, producers_made, start_of, started, Then, view, View}
 use Rattle.pulsar_messages.specs.Content.{ProducerMessageValues, ProducerOptionsValues}
 use Rattle.pulsar_wire.specs.Sink.{capped}
 use Rattle.pulsar_exchange.specs.Request.{named_producer}
@@ -15,18 +14,20 @@ use Rattle.pulsar_outgoing.specs.declared.storage.Limits.{Limits}
 use Rattle.pulsar_producer.specs.Producer as producer
 use Rattle.pulsar_producer.specs.Routing.{Routed, begun as routed_from}
 use Rattle.pulsar_producer.specs.Topic as topic
-use Rattle.pulsar_producer.specs.Topic.{Act as Deed, Closes, Setup}
+use Rattle.pulsar_producer.specs.Topic.{Act as Deed, Setup}
 use Rattle.pulsar_producer.specs.declared.routing.Partition.{Partition}
 use Rattle.pulsar_producer.proofs.Storages.{limits_stay, stored_is_not_ready}
 use Rattle.pulsar_calls.specs.Content as content
 use Rattle.pulsar_calls.specs.Who.{rank}
 use Rattle.pulsar_calls.specs.declared.act.Makes.TheVariants.{Producer}
 use Rattle.pulsar_calls.specs.declared.act.Procedure.TheVariants as procedure
-use Rattle.pulsar_calls.specs.declared.content.Building.{Building}
+use Rattle.pulsar_calls.specs.declared.content.BuiltProducer.{BuiltProducer}
 use Rattle.pulsar_plans.specs.Plan.{built_of}
-use Rattle.pulsar_producer_table.specs.Producers.{Producers, all_routed, called_on, changed, made_of, names_in, numbers_at, opened_on, partition_of, routed, sent_on, shut_all, timeout_in, why_not, with_built, with_topic, with_topics}
+use Rattle.pulsar_producer_table.specs.Producers.{Producers, all_routed, called_on, made_of, names_in, opened_on, partition_of, routed, sent_on, timeout_in, why_not, with_built, with_topic, with_topics}
 use Rattle.pulsar_producer_table.specs.declared.table.Topic.{Topic}
 use Rattle.pulsar_acts.specs.View as seen
+use Rattle.pulsar_acts.specs.View.{producers_left}
+use Rattle.pulsar_calls.specs.declared.act.Who.TheVariants as one
 use Rattle.pulsar_laws.proofs.Cases.{cond_so, none_some, some_is}
 use Rattle.pulsar_laws.specs.BatchLaws.{BatchesByItsOptions}
 use Rattle.pulsar_laws.specs.ProducerLaws.{acts_on, topic_acts}
@@ -75,29 +76,29 @@ ordered o t log p h =
 
 -- WHAT IT BUILDS has the options of its order
 
-record IsBuiltBy (log : List Entry) (t : ℕ) (b : Building) : Type 0 where
+record IsBuiltBy (log : List Entry) (t : ℕ) (b : BuiltProducer) : Type 0 where
   ways : Ways
-  order : Order
+  order : ProducerOrder
   started_so : started (Call t) log ≡ Some (procedure.Produce ways order)
   settings : b.settings ≡ order.options
 
-settings_of : (o : Order) (parts : List Built) (b : Building) → built_of o parts ≡ Producer b → b.settings ≡ o.options
+settings_of : (o : ProducerOrder) (parts : List Built) (b : BuiltProducer) → built_of o parts ≡ Producer b → b.settings ≡ o.options
 settings_of o parts b m =
-    let e : record { topic = o.topic; settings = o.options; parts = parts } ≡ b = cc in ap (λ (x : Building). x.settings) (sym e)
+    let e : record { topic = o.topic; settings = o.options; parts = parts } ≡ b = cc in ap (λ (x : BuiltProducer). x.settings) (sym e)
 
 -- a reply makes what its request does, or nothing
-plain_reply : (c : Bool) (m : Makes) (b : Building) → makes_producer m ≡ false → cond c m Nothing ≡ Producer b → ⊥
+plain_reply : (c : Bool) (m : Makes) (b : BuiltProducer) → makes_producer m ≡ false → cond c m Nothing ≡ Producer b → ⊥
 plain_reply true m b h e = let f : true ≡ false = ap makes_producer (sym e) ∙ h in absurd cc
 plain_reply false m b h e = absurd cc
 
-end_built : (Q : ℕ → Type 0) {p : Plan} {u : Outcome} {v : Verdict} → End p u v → (log : List Entry) (t : ℕ) (b : Building) → v.makes ≡ Producer b →
+end_built : (Q : ℕ → Type 0) {p : Plan} {u : Outcome} {v : Verdict} → End p u v → (log : List Entry) (t : ℕ) (b : BuiltProducer) → v.makes ≡ Producer b →
     OrderedSo log t p → IsSound Q p → IsBuiltBy log t b
 end_built Q (produced {w} {o} {parts} built) log t b m k s =
     record { ways = w; order = o; started_so = k; settings = settings_of o parts b m }
 end_built Q (answers {x} {r}) log t b m k s = absurd (plain_reply (is_answer x.number r.content.body) x.makes b s m)
 end_built Q _ log t b m k s = absurd cc
 
-begun_built : {p : Procedure} {v : Verdict} → BegunEnd p v → (log : List Entry) (t : ℕ) (b : Building) → v.makes ≡ Producer b →
+begun_built : {p : Procedure} {v : Verdict} → BegunEnd p v → (log : List Entry) (t : ℕ) (b : BuiltProducer) → v.makes ≡ Producer b →
     IsBuiltBy (Then (Starts (Call t) p) ∷ log) t b
 begun_built (begins_none {w} {o}) log t b m =
     record { ways = w; order = o; started_so = self_started log t (procedure.Produce w o); settings = settings_of o [] b m }
@@ -108,7 +109,7 @@ begun_end p v e =
     by_begun (λ t. (x : Verdict) → t ≡ Gives x → BegunEnd p x) p (λ q a k x h. absurd cc)
     (λ y k x h. (let f : y ≡ x = cc in subst (BegunEnd p) f k)) v e
 
-built_by : (o : Options) (log : List Entry) (t : ℕ) (verdict : Verdict) (b : Building) → verdict.makes ≡ Producer b →
+built_by : (o : Options) (log : List Entry) (t : ℕ) (verdict : Verdict) (b : BuiltProducer) → verdict.makes ≡ Producer b →
     IsRun o (Then (Answers (Call t) verdict) ∷ log) → IsBuiltBy log t b
 built_by o log t verdict b m run = elim (answers_from o log (Call t) verdict run) [
   | inl x ↦
@@ -178,18 +179,10 @@ called_built v asked advice t p h =
     either_built (lacks_tickets v.calls.drawn (shares asked)) ps ps (called_on (may_call v.calls) asked ps) t p (same_built ps t p)
     (either_built (may_call v.calls) ps (opened_on asked ps) ps t p (opened_built asked ps t p) (same_built ps t p)) h
 
-shut_built : (ns : List ℕ) (ps : Producers) → (shut_all ns ps).built ≡ ps.built
-shut_built [] ps = refl
-shut_built (n ∷ ns) ps = shut_built ns (changed n Closes ps)
-
-draws_built : (r : Option Bool) (n : ℕ) (ps : Producers) → (draws_on r n ps).built ≡ ps.built
-draws_built None n ps = refl
-draws_built (Some room) n ps = refl
-
-rung_built : (c : Bool) (a : Alarm) (ps : Producers) → (producers_rung c a ps).built ≡ ps.built
-rung_built true (Batch n) ps = refl
-rung_built false (Batch n) ps = refl
-rung_built c _ ps = refl
+left_built : (who : Who) (ps : Producers) → (producers_left who ps).built ≡ ps.built
+left_built (one.Call t) ps = refl
+left_built (one.Consumer n t) ps = refl
+left_built (one.Producer n) ps = refl
 
 joined_built : (owner first : ℕ) (limits : Limits) (bs : List Built) (ps : Producers) → (with_topics owner first limits bs ps).built ≡ ps.built
 joined_built owner first limits [] ps = refl
@@ -207,7 +200,7 @@ made_options name options qs last p h = by (routed_from qs options.routing_polic
 record IsMade (v : View) (a : Act) (t : ℕ) (p : producer.Seen) : Type 0 where
   who : Who
   verdict : Verdict
-  building : Building
+  building : BuiltProducer
   is_act : a ≡ Answers who verdict
   makes : verdict.makes ≡ Producer building
   ticket : t ≡ (rank who).1
@@ -247,12 +240,10 @@ made_built v who verdict _ e t p h = inl (same_built v.producers t p h)
 
 built_from : (v : View) (a : Act) (t : ℕ) (p : producer.Seen) → (seen.after a v).producers.built t ≡ Some p → WasBuilt v.producers t p ⊎ IsMade v a t p
 built_from v (Comes (Calls asked advice)) t p h = inl (called_built v asked advice t p h)
-built_from v (Comes (Rings a)) t p h =
-    inl (same_built v.producers t p (ap (λ f. f t) (sym (rung_built (rings v.now a v.alarms) a v.producers)) ∙ h))
-built_from v (Does who (Draw n)) t p h = inl (same_built v.producers t p (ap (λ f. f t) (sym (draws_built (room_of v n) n v.producers)) ∙ h))
-built_from v (Does who (Shut u)) t p h =
-    inl (same_built v.producers t p (ap (λ f. f t) (sym (shut_built (numbers_at (v.producers.built u)) v.producers)) ∙ h))
-built_from v (Answers who verdict) t p h = made_built v who verdict verdict.makes refl t p h
+built_from v (Does who Number) t p h = inl (same_built v.producers t p h)
+built_from v (Answers who verdict) t p h =
+    made_built v who verdict verdict.makes refl t p
+    (ap (λ f. f t) (sym (left_built who (producers_made v.chosen who verdict.makes v.producers))) ∙ h)
 built_from v _ t p h = inl (same_built v.producers t p h)
 
 -- ALONG A LOG
@@ -285,7 +276,7 @@ still_started o log a t p run h = h
 -- the order of a call, as which it has begun
 record IsOrdered (log : List Entry) (t : ℕ) (options : ProducerOptionsValues → Type 0) : Type 0 where
   ways : Ways
-  order : Order
+  order : ProducerOrder
   started_so : started (Call t) log ≡ Some (procedure.Produce ways order)
   so : options order.options
 
@@ -306,7 +297,7 @@ ordered_same : (log : List Entry) (t : ℕ) (P Q : ProducerOptionsValues → Typ
 ordered_same log t P Q f k = record { ways = k.ways; order = k.order; started_so = k.started_so; so = f k.order.options k.so }
 
 -- the one that a verdict makes
-verdict_ordered : (o : Options) (log : List Entry) (who : Who) (verdict : Verdict) (b : Building) → verdict.makes ≡ Producer b →
+verdict_ordered : (o : Options) (log : List Entry) (who : Who) (verdict : Verdict) (b : BuiltProducer) → verdict.makes ≡ Producer b →
     IsRun o (Then (Answers who verdict) ∷ log) → IsOrdered (Then (Answers who verdict) ∷ log) (rank who).1 (λ x. b.settings ≡ x)
 verdict_ordered o log who verdict b m run =
     let is : who ≡ Call (rank who).1 = who_call o log who verdict b m run in
@@ -408,7 +399,7 @@ batches_by_its_options_lem o log n row run h =
       (λ p there. (let b = built_run o log run row.owner p there in
           let same : Some (procedure.Produce b.ways b.order) ≡ Some (procedure.Produce k.ways k.order) = sym b.started_so ∙ k.started_so in
           let one : b.order ≡ k.order = cc in
-          ap timeout_in there ∙ ap (λ (x : ProducerOptionsValues). x.batch_timeout) (b.so ∙ ap (λ (x : Order). x.options) one))),
+          ap timeout_in there ∙ ap (λ (x : ProducerOptionsValues). x.batch_timeout) (b.so ∙ ap (λ (x : ProducerOrder). x.options) one))),
       λ some. (let x = topics_alone_lem o log n row run h in
           let s : Setup = record { built = x.0; first_number = o.chosen.first_number; limits = x.1 } in
           let not : is_ready row.seen.storage ≡ false =

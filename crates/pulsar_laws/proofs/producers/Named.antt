@@ -1,9 +1,8 @@
 -- The name of a topic producer is a text, since a reply of its broker said it.
-use Rattle.std.proofs.Common.{◌≡◌, ◌⊎◌, inl, inr, ◌∙◌, sym, ap, subst, ℕ, ◌+◌, ◌==◌, ◌&&◌, not, List, [], ◌∷◌, ◌++◌, refl, map, length, Bool, true, false, cond, Option, Some, None, Result, Ok, Err}
-use Rattle.std.proofs.lemmas.Bool.{cases_Bool}
-use Rattle.pulsar_laws.proofs.ActWords.{Act, Action, Answers, Batch, Comes, Does, Draw, Flush, Makes, Nothing, Notice, Outcome, PassTurn, Procedure, Remake, Rings, Share, Shut, StopAll, Store, TakeBatch, TakeTurn, Tell, TellAll, Told, Verdict, Who}
-use Rattle.pulsar_laws.proofs.PlanWords.{action_of, Asking, Awaiting, Batches, Batching, begins, Building as Build, Built, Command, Deed, Errand, Gives, Heard, is_answer, Making, Member, Naming, News, news_of, Order, overrides, Plan, Producing, SearchTurn, Sending as Send, Served, Stays, told, Turn, Ways}
-use Rattle.pulsar_laws.proofs.RunWords.{Begins, begun_same, Cause, Each, each_append, Entry, IsRun, notice, Options, producers_made, room_of, Then, view}
+use Rattle.std.proofs.Common.{◌≡◌, inl, inr, ◌∙◌, sym, subst, ℕ, ◌+◌, ◌&&◌, not, List, [], ◌∷◌, ◌++◌, refl, map, length, Bool, true, false, cond, Option, Some, None, Result, Ok, Err}
+use Rattle.pulsar_laws.proofs.ActWords.{Act, Action, Answers, Does, Makes, Nothing, Notice, Outcome, Procedure, Remake, Share, Tell, TellAll, Told, Verdict, Who, OfTopic}
+use Rattle.pulsar_laws.proofs.PlanWords.{action_of, Asking, Awaiting, Batches, Batching, begins, BuildingProducer as Build, Built, Command, Deed, Errand, Gives, Heard, is_answer, Making, Member, Naming, News, news_of, ProducerOrder, overrides, Plan, Producing, SearchTurn, Sending as Send, Served, Stays, told, Turn, Ways}
+use Rattle.pulsar_laws.proofs.RunWords.{Begins, begun_same, Cause, Each, each_append, Entry, IsRun, notice, Options, Then, view}
 use Rattle.pulsar_laws.proofs.LinkWords.{Failure, Fault, Named, Place, Reply}
 use Rattle.pulsar_exchange.specs.Request.{subscribed}
 use Rattle.pulsar_exchange.specs.declared.content.Subscribed.{Subscribed}
@@ -17,13 +16,12 @@ use Rattle.pulsar_searches.specs.declared.look.Looking.{Looking}
 use Rattle.pulsar_searches.specs.declared.making.Making.TheVariants as make
 use Rattle.pulsar_searches.specs.declared.retry.Retrying.{Retrying}
 use Rattle.pulsar_searches.specs.declared.turn.Action.TheVariants as wish
-use Rattle.pulsar_searches.specs.declared.turn.Outcome.TheVariants as told_in
+use Rattle.pulsar_searches.specs.declared.turn.SearchOutcome.TheVariants as told_in
 use Rattle.pulsar_searches.specs.declared.turn.Turn.TheVariants as search_turn
 use Rattle.pulsar_wire.specs.declared.error.Reason.{Reason}
 use Rattle.pulsar_outgoing.specs.Batch.{batch_of, entries_in, member_of}
-use Rattle.pulsar_outgoing.specs.Storage.{Item, Flush as FlushItem, SingleMessage, is_nothing, is_ready, limits_of, pushed}
+use Rattle.pulsar_outgoing.specs.Storage.{Item, Flush as FlushItem, SingleMessage, is_nothing, is_ready, pushed}
 use Rattle.pulsar_outgoing.specs.declared.news.News.TheVariants as news
-use Rattle.pulsar_outgoing.specs.declared.storage.Limits.{Limits}
 use Rattle.pulsar_producer.specs.Batching as batches
 use Rattle.pulsar_producer.specs.Plans as produce
 use Rattle.pulsar_producer.specs.Plans.{Builds, Sent}
@@ -31,13 +29,11 @@ use Rattle.pulsar_producer.specs.Topic as topic
 use Rattle.pulsar_producer.specs.Topic.{Act as TopicAct, Closes, Cuts, Draws, Flushes, Halts, Passes, Remakes, Seen, Stores, Takes, TakesBatch, cuts, is_settled, left_of, stores, takes_in}
 use Rattle.pulsar_producer.specs.declared.batching.Batching.TheVariants as batching
 use Rattle.pulsar_producer.specs.declared.batching.Goes.{Goes}
-use Rattle.pulsar_producer.specs.declared.building.Building.TheVariants as build
+use Rattle.pulsar_producer.specs.declared.building.BuildingProducer.TheVariants as build
 use Rattle.pulsar_producer.specs.declared.deed.Deed.TheVariants as deed
 use Rattle.pulsar_producer.specs.declared.deed.Step.TheVariants as step
 use Rattle.pulsar_producer.specs.declared.sending.Sending.TheVariants as send
 use Rattle.pulsar_producer_table.specs.declared.table.Topic.{Topic}
-use Rattle.pulsar_producer_table.specs.Producers.{Producers, made_of, numbers_at, with_topic, with_topics}
-use Rattle.pulsar_calls.specs.Who.{rank}
 use Rattle.pulsar_calls.specs.declared.act.Makes.TheVariants as makes
 use Rattle.pulsar_calls.specs.declared.act.Outcome.TheVariants as outcome
 use Rattle.pulsar_plans.specs.Plan.{builds, goes_on_sending, halted, leaves, makes_of}
@@ -50,11 +46,12 @@ use Rattle.pulsar_laws.proofs.calls.Sources.{step_runs, step_some}
 use Rattle.pulsar_laws.proofs.plans.Fitting.{is_settling}
 use Rattle.pulsar_laws.proofs.plans.Granted.{does_from, tell_said, tell_settling}
 use Rattle.pulsar_laws.proofs.plans.Standing.{run_older, stands_so}
-use Rattle.pulsar_laws.proofs.producers.Drawing.{answers_from, built_topics, drawn_run, row_from}
+use Rattle.pulsar_laws.proofs.producers.Drawing.{answers_from, drawn_run, row_from}
 use Rattle.pulsar_laws.proofs.producers.TextReplies.{NamesSo, given_text, reply_names}
 use Rattle.pulsar_laws.proofs.producers.Texts.{IsText}
-use Rattle.pulsar_laws.proofs.producers.Topics.{all_after, row_as, topic_all}
-use Rattle.pulsar_laws.specs.ProducerLaws.{drawn_by, rung_by, shut_by, topic_acts}
+use Rattle.pulsar_laws.proofs.producers.Topics.{all_after, row_as, topic_all, CameFrom, acts_each}
+use Rattle.pulsar_laws.specs.ProducerLaws.{topic_acts}
+use Rattle.pulsar_outgoing.specs.declared.replies.Given.{Given}
 
 -- WHAT IS MADE by a reply has its name
 
@@ -111,9 +108,9 @@ BuildTurn (step.Stays b d) = BuildGood b × DeedGood d
 BuildTurn (step.Gives (Ok parts)) = AreNamed parts
 BuildTurn (step.Gives (Err f)) = Unit {0}
 
-next_good : (names : List Named) (made : List Built) → AreNamed made → BuildTurn (produce.build_next names made)
-next_good [] made k = k
-next_good (n ∷ names) made k = (k, tt)
+next_good : (d : Deed) (names : List Named) (made : List Built) → DeedGood d → AreNamed made → BuildTurn (produce.build_next d names made)
+next_good d [] made g k = k
+next_good d (n ∷ names) made g k = (k, g)
 
 closes_good : (left : List Built) (f : Failure) → BuildTurn (produce.build_closes left f)
 closes_good [] f = tt
@@ -121,21 +118,22 @@ closes_good (b ∷ left) f = (tt, tt)
 
 names_good : (t : SearchTurn Naming (Result (List Named) Failure)) → BuildTurn (produce.build_names t)
 names_good (search_turn.Stays n a) = (tt, tt)
-names_good (search_turn.Gives (Ok names)) = next_good names [] tt
+names_good (search_turn.Gives (Ok names)) = next_good deed.Numbers names [] tt tt
 names_good (search_turn.Gives (Err f)) = tt
 
 makes_good : (c : Command) (i : ℕ) (left : List Named) (made : List Built) (t : SearchTurn Making (Result Served Failure)) → AreNamed made → MadeGood t →
     BuildTurn (produce.build_makes c i left made t)
 makes_good c i left made (search_turn.Stays k a) h g = (h, tt)
 makes_good c i left made (search_turn.Gives (Ok s)) h g =
-    next_good left (made ++ produce.built c.topic i s ∷ [])
+    next_good (deed.Holds s.link i) left (made ++ produce.built c.topic i s ∷ []) tt
     (each_append (λ b. IsText b.given.name) made (produce.built c.topic i s ∷ []) h (given_text s.reply g, tt))
 makes_good c i left made (search_turn.Gives (Err f)) h g = closes_good made f
 
-build_good : (w : Ways) (o : Order) (b : Build) (y : News) → BuildGood b → GoodNews y → BuildTurn (produce.build_told w o b y)
+build_good : (w : Ways) (o : ProducerOrder) (b : Build) (y : News) → BuildGood b → GoodNews y → BuildTurn (produce.build_told w o b y)
 build_good w o (build.Naming n) (news.Told x) h g = names_good (search.names_told w o.topic n x)
 build_good w o (build.Naming n) _ h g = (tt, tt)
 build_good w o (build.Numbering p) (news.Numbered i) h g = (h, tt)
+build_good w o (build.Numbering p) news.Done h g = (h, tt)
 build_good w o (build.Numbering p) y h g = closes_good p.made _
 build_good w o (build.Making c k i left made) (news.Told x) h g = makes_good c i left made (search.made_told w c k x) h (made_good w c k x g)
 build_good w o (build.Making c k i left made) _ h g = (h, tt)
@@ -203,7 +201,7 @@ PlanGood (Awaiting x) = MakesGood x.makes
 PlanGood _ = Unit {0}
 
 abbrev ActGood : Action → Type 0
-ActGood (Remake r) = IsText r.given.name
+ActGood (OfTopic n (Remake r)) = IsText r.given.name
 ActGood _ = Unit {0}
 
 abbrev TurnGood : Turn Plan Verdict → Type 0
@@ -217,7 +215,7 @@ deed_good (deed.Does (wish.Wait delay)) g = tt
 deed_good (deed.Remakes n l x) g = g
 deed_good _ g = tt
 
-built_good : (w : Ways) (o : Order) (t : Builds) → BuildTurn t → TurnGood (builds w o t)
+built_good : (w : Ways) (o : ProducerOrder) (t : Builds) → BuildTurn t → TurnGood (builds w o t)
 built_good w o (step.Stays b d) k = (k.0, deed_good d k.1)
 built_good w o (step.Gives (Ok parts)) k = k
 built_good w o (step.Gives (Err f)) k = tt
@@ -428,56 +426,14 @@ all_given : (ds : List TopicAct) (v : Seen) → Each ActNamed ds → IsText v.gi
 all_given [] v g k = k
 all_given (d ∷ ds) v g k = act_given d (all_after ds v) g.0 (all_given ds v g.1 k)
 
-shut_named : (n : ℕ) (ns : List ℕ) → Each ActNamed (shut_by n ns)
-shut_named n [] = tt
-shut_named n (m ∷ ns) = cond_so (Each ActNamed) (n == m) _ _ (tt, shut_named n ns) (shut_named n ns)
-
-drawn_named : (room : Option Bool) → Each ActNamed (drawn_by room)
-drawn_named None = tt
-drawn_named (Some room) = (tt, tt)
-
-rung_named : (b : Bool) → Each ActNamed (rung_by b)
-rung_named true = (tt, tt)
-rung_named false = tt
-
 acts_named : (o : Options) (log : List Entry) (n : ℕ) (a : Act) → IsRun o (Then a ∷ log) → Each ActNamed (topic_acts (view o log) n a)
-acts_named o log n (Comes (Rings (Batch m))) run = cond_so (Each ActNamed) (n == m) _ _ (rung_named _) tt
-acts_named o log n (Does who (TakeTurn m)) run = cond_so (Each ActNamed) (n == m) _ _ (tt, tt) tt
-acts_named o log n (Does who (PassTurn m)) run = cond_so (Each ActNamed) (n == m) _ _ (tt, tt) tt
-acts_named o log n (Does who (Draw m)) run = cond_so (Each ActNamed) (n == m) _ _ (drawn_named (room_of (view o log) m)) tt
-acts_named o log n (Does who (Remake r)) run = cond_so (Each ActNamed) (n == r.number) _ _ (remade_good o log who (Remake r) run, tt) tt
-acts_named o log n (Does who (Store m e)) run = cond_so (Each ActNamed) (n == m) _ _ (tt, tt) tt
-acts_named o log n (Does who (Flush m)) run = cond_so (Each ActNamed) (n == m) _ _ (tt, tt) tt
-acts_named o log n (Does who (TakeBatch m)) run = cond_so (Each ActNamed) (n == m) _ _ (tt, tt) tt
-acts_named o log n (Does who StopAll) run = (tt, tt)
-acts_named o log n (Does who (Shut t)) run = shut_named n (numbers_at ((view o log).producers.built t))
-acts_named o log n a run = tt
-
--- those that join
-joined_named : (owner f : ℕ) (limits : Limits) (n : ℕ) (bs : List Built) (ps : Producers) (t : Topic) → (with_topics owner f limits bs ps).topics n ≡ Some t →
-    AreNamed bs → (ps.topics n ≡ None) ⊎ ((u : Topic) → ps.topics n ≡ Some u → RowNamed u) → RowNamed t
-joined_named owner f limits n [] ps t h k (inl none) = absurd (none_some (sym none ∙ h))
-joined_named owner f limits n [] ps t h k (inr old) = old t h
-joined_named owner f limits n (b ∷ bs) ps t h k old =
-    joined_named owner f limits n bs (with_topic owner f limits b ps) t h k.1 (inr (λ u e. by u old (cases_Bool (n == b.number)) e))
+acts_named o log n a run = acts_each ActNamed (view o log) n a named
   where
-    by : (u : Topic) → (ps.topics n ≡ None) ⊎ ((x : Topic) → ps.topics n ≡ Some x → RowNamed x) → ((n == b.number) ≡ true) ⊎ ((n == b.number) ≡ false) →
-        (with_topic owner f limits b ps).topics n ≡ Some u → RowNamed u
-    by u old (inl e) q =
-        let g : Some (record { owner = owner; seen = topic.fresh (record { built = b; first_number = f; limits = limits }) }) ≡ Some u = rw e at q in
-        subst RowNamed (some_is g) k.0
-    by u (inl none) (inr e) q = (let g : ps.topics n ≡ Some u = rw e at q in absurd (none_some (sym none ∙ g)))
-    by u (inr more) (inr e) q = more u (rw e at q)
-
-made_named : (o : Options) (log : List Entry) (who : Who) (v : Verdict) (m : Makes) (n : ℕ) (t : Topic) → v.makes ≡ m → MakesGood m →
-    (producers_made (view o log).chosen who m (view o log).producers).topics n ≡ Some t → (view o log).producers.topics n ≡ None → RowNamed t
-made_named o log who v (makes.Producer b) n t e g h none =
-    let ps : Producers = (view o log).producers in
-    let f : ℕ = (view o log).chosen.first_number in
-    let all : Producers = with_topics (rank who).1 f (limits_of b.settings) b.parts ps in
-    joined_named (rank who).1 f (limits_of b.settings) n b.parts ps t
-    (sym (ap (λ x. x n) (built_topics (rank who).1 (made_of (view o log).chosen.seed (rank who).1 b) all)) ∙ h) g (inl none)
-made_named o log who v _ n t e g h none = absurd (none_some (sym none ∙ h))
+    named : (d : TopicAct) → CameFrom n a d → ActNamed d
+    named (Remakes l g) k =
+        subst (λ (x : Given). IsText x.name) (sym k.4)
+        (remade_good o log k.0 (OfTopic n (Remake k.1)) (subst (λ (x : Act). IsRun o (Then x ∷ log)) k.2 run))
+    named d k = tt
 
 pub names_are_texts : (o : Options) (log : List Entry) (n : ℕ) (t : Topic) → IsRun o log → (view o log).producers.topics n ≡ Some t → RowNamed t
 names_are_texts o [] n t run h = absurd (none_some h)
@@ -492,8 +448,7 @@ names_are_texts o (Then a ∷ log) n t run h = from ((view o log).producers.topi
     from None e more = elim (row_from (view o log) a n t h) [
       | inl was ↦ absurd (none_some (sym e ∙ was.was))
       | inr j ↦
-          (let r : IsRun o (Then (Answers j.who j.verdict) ∷ log) = subst (λ x. IsRun o (Then x ∷ log)) j.is_act run in
-          let at : (view o (Then (Answers j.who j.verdict) ∷ log)).producers.topics n ≡ Some t =
-          subst (λ x. (view o (Then x ∷ log)).producers.topics n ≡ Some t) j.is_act h in
-          made_named o log j.who j.verdict j.verdict.makes n t refl (answer_good o log j.who j.verdict r) at e)
+          (let r : IsRun o (Then (Answers j.who j.verdict) ∷ log) = subst (λ (x : Act). IsRun o (Then x ∷ log)) j.is_act run in
+          let g : AreNamed j.building.parts = subst MakesGood j.makes (answer_good o log j.who j.verdict r) in
+          subst RowNamed j.is_new.is_it (in_each (λ (b : Built). IsText b.given.name) j.is_new.built j.building.parts j.is_new.is_in g))
     ]

@@ -2,19 +2,19 @@
 -- that joins has numbers that no other has.
 use Rattle.std.proofs.Common.{◌≡◌, sym, ap, subst, ℕ, List, [], ◌∷◌, ◌++◌, refl, map, Bool, true, false, cond, Option, Some, None, Ok}
 use Rattle.pulsar_laws.proofs.ActWords.{Action, Makes, Nothing, Outcome, Procedure, Verdict}
-use Rattle.pulsar_laws.proofs.PlanWords.{Asking, Awaiting, begins, Building as Build, Built, Deed, Gives, is_answer, News, news_of, Order, Plan, Producing, Stays, told, Turn, Ways}
+use Rattle.pulsar_laws.proofs.PlanWords.{Asking, Awaiting, begins, BuildingProducer as Build, Built, Deed, Gives, is_answer, News, news_of, ProducerOrder, Plan, Producing, Stays, told, Turn, Ways}
 use Rattle.pulsar_laws.proofs.RunWords.{Each, each_append}
 use Rattle.pulsar_exchange.specs.Request.{subscribed}
 use Rattle.pulsar_exchange.specs.declared.content.Subscribed.{Subscribed}
 use Rattle.pulsar_producer.specs.Plans as produce
-use Rattle.pulsar_producer.specs.declared.building.Building.TheVariants as build
+use Rattle.pulsar_producer.specs.declared.building.BuildingProducer.TheVariants as build
 use Rattle.pulsar_outgoing.specs.declared.news.News.TheVariants as news
 use Rattle.pulsar_calls.specs.declared.act.Makes.TheVariants.{Producer}
 use Rattle.pulsar_calls.specs.declared.act.Outcome.TheVariants as outcome
 use Rattle.pulsar_plans.specs.Plan.{makes_of}
 use Rattle.pulsar_messages.specs.Words as words
 use Rattle.pulsar_plans.proofs.Arcs.{Arc, Begun, BegunEnd, End, answers, begins_asking, begins_none, builds_on, by_arcs, by_begun, departs_asks, got_asks, produced, queued_waits, stands_on}
-use Rattle.pulsar_producer.proofs.Arcs.{BuildArc, BuildEnd, build_done, building_rests, builds_on_asks, builds_on_gets, builds_on_waits, built_numbers, none_named, numbered_makes}
+use Rattle.pulsar_producer.proofs.Arcs.{BuildArc, BuildEnd, build_done, building_rests, builds_on_asks, builds_on_gets, builds_on_waits, built_numbers, held_numbers, none_named, numbered_makes}
 
 -- WHAT A PLAN HAS DRAWN
 
@@ -51,7 +51,7 @@ map_end [] b = refl
 map_end (x ∷ made) b = ap (λ ns. x.number ∷ ns) (map_end made b)
 
 module _ (Q : ℕ → Type 0) where
-  build_sound : {w : Ways} {o : Order} {b q : Build} {y : News} {d : Deed} → BuildArc w o b y q d → Each Q (drawn_in b) →
+  build_sound : {w : Ways} {o : ProducerOrder} {b q : Build} {y : News} {d : Deed} → BuildArc w o b y q d → Each Q (drawn_in b) →
       ((m : ℕ) → y ≡ news.Numbered m → Q m) →
       Each Q (drawn_in q)
   build_sound (numbered_makes {p} {i}) k q = each_append Q (map number_of p.made) (i ∷ []) k (q i refl, tt)
@@ -60,6 +60,7 @@ module _ (Q : ℕ → Type 0) where
   build_sound (builds_on_asks e) k q = k
   build_sound (builds_on_waits e) k q = k
   build_sound building_rests k q = k
+  build_sound held_numbers k q = k
   build_sound _ k q = tt
 
   built_sound : {b : Build} {y : News} {parts : List Built} → BuildEnd b y (Ok parts) → Each Q (drawn_in b) → Each Q (map number_of parts)

@@ -1,6 +1,6 @@
 -- The numbers of the frames of a topic producer rise.
 use Rattle.std.proofs.Common.{◌≡◌, inl, inr, ◌∙◌, sym, ap, subst, ℕ, ◌+◌, ◌<◌, ◌≤◌, arith, List, [], ◌∷◌, ◌++◌, refl, Bool, true, false, cond, Option, Some, None}
-use Rattle.pulsar_laws.proofs.ActWords.{Ask, Call, Does, Draw, Notice, Producer, Told, Who}
+use Rattle.pulsar_laws.proofs.ActWords.{Ask, Call, Does, Draw, Notice, OfTopic, Producer, Told, Who}
 use Rattle.pulsar_laws.proofs.RunWords.{Begins, begun_same, Entry, IsRun, Options, Then, view}
 use Rattle.pulsar_messages.specs.Words as words
 use Rattle.pulsar_messages.specs.Claims.{is_spent}
@@ -118,8 +118,8 @@ numbers_of_frames_rise_lem o newer older t u l k n s r name alias m other block 
     let first = frames_are_of_their_sends_lem o older u k n r alias other waits v f part told run2 g in
     let a : IsFramed o log t l n s name m block w e share given run h =
     framed o log t l n s name m block w e share given run h (it o log t l n s name m block w e share given run h) in
-    let b = behind_two x (Then (Told a.told)) (Then (Does (Call t) (Draw a.drawn))) newer older a.behind refl refl refl a.there in
-    let run3 : IsRun o (Then (Told a.told) ∷ Then (Does (Call t) (Draw a.drawn)) ∷ a.behind) = subst (IsRun o) a.there run.0 in
+    let b = behind_two x (Then (Told a.told)) (Then (Does (Call t) (OfTopic a.drawn Draw))) newer older a.behind refl refl refl a.there in
+    let run3 : IsRun o (Then (Told a.told) ∷ Then (Does (Call t) (OfTopic a.drawn Draw)) ∷ a.behind) = subst (IsRun o) a.there run.0 in
     rise_from o x older a.behind n e.producer first.0 a.before r s run3.0.0 b first.2 first.8 a.producer a.was a.number
 
 -- OF SENDS AND OF BATCHES
@@ -130,7 +130,7 @@ record IsDrawnBefore (o : Options) (log : List Entry) (n s : ℕ) : Type 0 where
   who : Who
   drawn : ℕ
   behind : List Entry
-  there : log ≡ Then (Told told) ∷ Then (Does who (Draw drawn)) ∷ behind
+  there : log ≡ Then (Told told) ∷ Then (Does who (OfTopic drawn Draw)) ∷ behind
   before : Topic
   was : (view o behind).producers.topics n ≡ Some before
   number : s ≡ before.seen.next
@@ -188,6 +188,6 @@ numbers_of_all_frames_rise_lem o newer older x y n r s run first second =
     let run1 : IsRun o log = run_older o y log run in
     let one : IsNextBehind o (x ∷ older) n r = next_behind o older x n r (run_behind o newer (x ∷ older) run1) first in
     let a : IsDrawnBefore o log n s = drawn_before o log y n s run second in
-    let b = behind_two x (Then (Told a.told)) (Then (Does a.who (Draw a.drawn))) newer older a.behind (asks_frame x older n r first) refl refl a.there in
-    let run3 : IsRun o (Then (Told a.told) ∷ Then (Does a.who (Draw a.drawn)) ∷ a.behind) = subst (IsRun o) a.there run1 in
+    let b = behind_two x (Then (Told a.told)) (Then (Does a.who (OfTopic a.drawn Draw))) newer older a.behind (asks_frame x older n r first) refl refl a.there in
+    let run3 : IsRun o (Then (Told a.told) ∷ Then (Does a.who (OfTopic a.drawn Draw)) ∷ a.behind) = subst (IsRun o) a.there run1 in
     rise_from o x older a.behind n n one.row a.before r s run3.0.0 b one.is_it one.next refl a.was a.number

@@ -1,22 +1,23 @@
 -- A topic producer is what the acts on it made of it since it was built.
-use Rattle.std.proofs.Common.{◌≡◌, inl, inr, ◌∙◌, sym, ap, ℕ, ◌==◌, List, [], ◌∷◌, ◌++◌, refl, Bool, true, false, cond, Option, Some, None}
-use Rattle.std.proofs.lemmas.Bool.{cases_Bool}
-use Rattle.std.specs.Option.{is_some, option_map}
-use Rattle.pulsar_laws.proofs.ActWords.{Act, Answers, Batch, Calls, Comes, Does, Draw, Flush, Makes, PassTurn, Remake, Rings, Shut, StopAll, Store, TakeBatch, TakeTurn, turn_of, Verdict, Who}
-use Rattle.pulsar_laws.proofs.PlanWords.{Built}
-use Rattle.pulsar_laws.proofs.RunWords.{Begins, begun_same, chosen_same, draws_on, Entry, IsRun, Options, producers_made, producers_rung, room_of, Then, view, View}
+use Rattle.std.proofs.Common.{◌≡◌, ◌∙◌, sym, ap, ℕ, ◌==◌, List, [], ◌∷◌, ◌++◌, refl, false, Option, Some, None, subst}
+use Rattle.std.proofs.lemmas.Bool.{eqb-true}
+use Rattle.pulsar_laws.proofs.ActWords.{Act, Batch, Comes, Does, Draw, Flush, OfTopic, PassTurn, Remake, Rings, Shut, StopAll, Store, TakeBatch, TakeTurn, Who, turn_of, TopicAsk}
+use Rattle.pulsar_laws.proofs.RunWords.{chosen_same, Entry, IsRun, Options, room_of, Then, view, View, In, rules, Each, each_append, each_either, each_map, each_when}
 use Rattle.pulsar_laws.proofs.LinkWords.{rings}
 use Rattle.pulsar_producer.specs.Topic as topic
 use Rattle.pulsar_outgoing.specs.Storage.{limits_of}
-use Rattle.pulsar_producer.specs.Topic.{Act as Deed, Closes, Halts, Seen, Setup}
+use Rattle.pulsar_producer.specs.Topic.{Act as Deed, Closes, Halts, Seen, Setup, Passes, Draws, Remakes, Stores, Cuts, TakesBatch, Takes, Flushes}
+use Rattle.pulsar_calls.specs.declared.content.Remaking.{Remaking}
 use Rattle.pulsar_outgoing.specs.declared.storage.Limits.{Limits}
-use Rattle.pulsar_calls.specs.declared.act.Makes.TheVariants.{Producer}
 use Rattle.pulsar_producer_table.specs.declared.table.Topic.{Topic}
-use Rattle.pulsar_producer_table.specs.Producers.{Producers, changed, made_of, numbers_at, shut_all, topic_after, with_topic, with_topics}
+use Rattle.pulsar_producer_table.specs.Producers.{numbers_at, topic_after}
 use Rattle.pulsar_laws.specs.ProducerLaws.{TopicsAlone, acts_on, drawn_by, rung_by, shut_by, topic_acts}
 use Rattle.pulsar_acts.specs.View as seen
-use Rattle.pulsar_calls.specs.Who.{rank}
-use Rattle.pulsar_laws.proofs.producers.Drawing.{Every, Drawn, Joins, built_topics, called_kept, drawn_run, joined_row, joins_new, row_from}
+use Rattle.pulsar_laws.proofs.producers.Drawing.{Every, Drawn, joins_new, born_joins, topics_keep}
+use Rattle.pulsar_run.specs.Things.{row_by, row_after, along, since_act}
+use Rattle.pulsar_run.proofs.Things.{row_stays, alone}
+use Rattle.pulsar_acts.specs.Things.{topics}
+use Rattle.pulsar_acts.specs.View.{topic_born, asked_of}
 
 -- what acts make of one, the newest first
 abbrev pub all_after : List Deed → Seen → Seen
@@ -30,137 +31,102 @@ seen_more s (a ∷ as') h = ap (topic.after a) (seen_more s as' h)
 abbrev pub topic_all : List Deed → Topic → Topic
 topic_all h t = record { owner = t.owner; seen = all_after h t.seen }
 
--- ROWS THAT ARE THERE
+all_is : (h : List Deed) (t : Topic) → along topic_after h t ≡ topic_all h t
+all_is [] t = refl
+all_is (a ∷ h) t = ap (topic_after a) (all_is h t)
 
-module _ (n : ℕ) (t : Topic) where
-  changed_as : (m : ℕ) (act : Deed) (ps : Producers) → ps.topics n ≡ Some t → (changed m act ps).topics n ≡ Some (topic_all (cond (n == m) (act ∷ []) []) t)
-  changed_as m act ps h = elim (cases_Bool (n == m)) [ inl e ↦ rw e (ap (option_map (topic_after act)) h) | inr e ↦ rw e h ]
+seen_all : (s : Setup) (h : List Deed) → all_after h (topic.fresh s) ≡ topic.seen s h
+seen_all s [] = refl
+seen_all s (a ∷ h) = ap (topic.after a) (seen_all s h)
 
-  draws_as : (room : Option Bool) (m : ℕ) (ps : Producers) → ps.topics n ≡ Some t →
-      (draws_on room m ps).topics n ≡ Some (topic_all (cond (n == m) (drawn_by room) []) t)
-  draws_as None m ps h = elim (n == m) as (λ b. ps.topics n ≡ Some (topic_all (cond b [] []) t)) [ true ↦ h | false ↦ h ]
-  draws_as (Some room) m ps h = changed_as m topic.Draws ps h
-
-  rung_as : (b : Bool) (m : ℕ) (ps : Producers) → ps.topics n ≡ Some t →
-      (producers_rung b (Batch m) ps).topics n ≡ Some (topic_all (cond (n == m) (rung_by b) []) t)
-  rung_as true m ps h = changed_as m topic.Cuts ps h
-  rung_as false m ps h = elim (n == m) as (λ b. ps.topics n ≡ Some (topic_all (cond b [] []) t)) [ true ↦ h | false ↦ h ]
-
--- several closes are one after the other, in any order
-close_last : (n : ℕ) (ns : List ℕ) (v : Seen) → all_after (shut_by n ns) (topic.after Closes v) ≡ topic.after Closes (all_after (shut_by n ns) v)
-close_last n [] v = refl
-close_last n (m ∷ ns) v = elim (cases_Bool (n == m)) [ inl e ↦ rw e (ap (topic.after Closes) (close_last n ns v)) | inr e ↦ rw e (close_last n ns v) ]
-
-shut_as : (ns : List ℕ) (n : ℕ) (t : Topic) (ps : Producers) → ps.topics n ≡ Some t → (shut_all ns ps).topics n ≡ Some (topic_all (shut_by n ns) t)
-shut_as [] n t ps h = h
-shut_as (m ∷ ns) n t ps h = elim (cases_Bool (n == m)) [
-  | inl e ↦
-      (let h' : (changed m Closes ps).topics n ≡ Some (topic_after Closes t) = rw e (ap (option_map (topic_after Closes)) h) in
-      let k = shut_as ns n (topic_after Closes t) (changed m Closes ps) h' in
-      rw e (k ∙ ap (λ s. Some (record { owner = t.owner; seen = s })) (close_last n ns t.seen)))
-  | inr e ↦
-      (let h' : (changed m Closes ps).topics n ≡ Some t = rw e h in rw e (shut_as ns n t (changed m Closes ps) h'))
-]
-
--- no other joins by its number
-module _ (o : Options) (log : List Entry) (k : Every (Drawn o) log) (n : ℕ) (t : Topic) (h : (view o log).producers.topics n ≡ Some t) where
-  abbrev v : View
-  v = view o log
-
-  joined_as : (who : Who) (verdict : Verdict) (m : Makes) → verdict.makes ≡ m → IsRun o (Then (Answers who verdict) ∷ log) →
-      (producers_made v.chosen who m v.producers).topics n ≡ Some t
-  joined_as who verdict (Producer b) e run =
-      ap (λ g. g n) (built_topics (rank who).1 (made_of v.chosen.seed (rank who).1 b) all) ∙ same (all.topics n) refl
-    where
-      limits : Limits
-      limits = limits_of b.settings
-
-      all : Producers
-      all = with_topics (rank who).1 v.chosen.first_number limits b.parts v.producers
-
-      stays : (bs : List Built) (ps : Producers) (u : Topic) → ps.topics n ≡ Some u →
-          (with_topics (rank who).1 v.chosen.first_number limits bs ps).topics n ≡ None → ⊥
-      stays [] ps u e q = let f : Some u ≡ None = sym e ∙ q in absurd cc
-      stays (x ∷ bs) ps u e q = elim (cases_Bool (n == x.number)) [
-        | inl d ↦ stays bs (with_topic (rank who).1 v.chosen.first_number limits x ps)
-            (record { owner = (rank who).1; seen = topic.fresh (record { built = x; first_number = v.chosen.first_number; limits = limits }) }) (rw d refl) q
-        | inr d ↦ stays bs (with_topic (rank who).1 v.chosen.first_number limits x ps) u (rw d e) q
-      ]
-
-      same : (row : Option Topic) → all.topics n ≡ row → all.topics n ≡ Some t
-      same (Some u) q = elim (joined_row (rank who).1 v.chosen.first_number limits n b.parts v.producers u q) [
-        | inl new ↦ absurd (joins_new o log k who verdict b n t e run new.listed h)
-        | inr old ↦ q ∙ sym old ∙ h
-      ]
-      same None q = absurd (stays b.parts v.producers t h q)
-  joined_as who verdict _ e run = h
-
-  pub row_as : (a : Act) → IsRun o (Then a ∷ log) → (seen.after a v).producers.topics n ≡ Some (topic_all (topic_acts v n a) t)
-  row_as (Comes (Calls asked advice)) run = ap (λ f. f n) (called_kept v asked advice).0 ∙ h
-  row_as (Comes (Rings (Batch m))) run = rung_as n t (rings v.now (Batch m) v.alarms) m v.producers h
-  row_as (Does who (TakeTurn m)) run = changed_as n t m (topic.Takes (turn_of who)) v.producers h
-  row_as (Does who (Store m e)) run = changed_as n t m (topic.Stores (turn_of who) e) v.producers h
-  row_as (Does who (Flush m)) run = changed_as n t m (topic.Flushes (turn_of who)) v.producers h
-  row_as (Does who (TakeBatch m)) run = changed_as n t m topic.TakesBatch v.producers h
-  row_as (Does who StopAll) run = ap (option_map (topic_after Halts)) h
-  row_as (Does who (PassTurn m)) run = changed_as n t m topic.Passes v.producers h
-  row_as (Does who (Draw m)) run = draws_as n t (room_of v m) m v.producers h
-  row_as (Does who (Remake r)) run = changed_as n t r.number (topic.Remakes r.link r.given) v.producers h
-  row_as (Does who (Shut u)) run = shut_as (numbers_at (v.producers.built u)) n t v.producers h
-  row_as (Answers who verdict) run = joined_as who verdict verdict.makes refl run
-  row_as _ run = h
-
--- ALONG A LOG
-
-pub none_acts : (o : Options) (log : List Entry) (n : ℕ) (a : Act) → (view o log).producers.topics n ≡ None → acts_on o n (Then a ∷ log) ≡ []
-none_acts o log n a h = ap (λ r. cond (is_some r) (topic_acts (view o log) n a ++ acts_on o n log) []) h
-
-pub some_acts : (o : Options) (log : List Entry) (n : ℕ) (a : Act) (t : Topic) → (view o log).producers.topics n ≡ Some t →
-    acts_on o n (Then a ∷ log) ≡ topic_acts (view o log) n a ++ acts_on o n log
-some_acts o log n a t h = ap (λ r. cond (is_some r) (topic_acts (view o log) n a ++ acts_on o n log) []) h
-
-abbrev StandsSo : Options → List Entry → ℕ → Topic → Type 0
-StandsSo o log n t =
-    (b : Built) × (limits : Limits) × (b.number ≡ n)
-    × (t.seen ≡ topic.seen (record { built = b; first_number = o.chosen.first_number; limits = limits }) (acts_on o n log))
-
-new_stands : (o : Options) (log : List Entry) (n : ℕ) (a : Act) (t : Topic) → (view o log).producers.topics n ≡ None → Joins (view o log) a n t →
-    StandsSo o (Then a ∷ log) n t
-new_stands o log n a t h j =
-    let limits : Limits = limits_of j.building.settings in (
+pub topics_alone_lem : TopicsAlone
+topics_alone_lem o log n t run h =
+    let a = alone rules topics topics_keep o log n t h in
+    let j = born_joins (view o a.is_born.older) a.is_born.act n a.at_first a.is_born.is_born in
+    let limits : Limits = limits_of j.building.settings in
+    let s : Setup = record { built = j.is_new.built; first_number = o.chosen.first_number; limits = limits } in (
       j.is_new.built,
       limits,
       j.is_new.number,
-      sym (ap (λ x. x.seen) j.is_new.is_it)
-          ∙ ap (λ f. topic.fresh (record { built = j.is_new.built; first_number = f; limits = limits })) (ap (λ c. c.first_number) (chosen_same o log))
-          ∙ ap (topic.seen (record { built = j.is_new.built; first_number = o.chosen.first_number; limits = limits })) (sym (none_acts o log n a h)),
+      ap (λ x. x.seen) (a.is_it ∙ all_is (acts_on o n log) a.at_first)
+          ∙ ap (λ x. all_after (acts_on o n log) x.seen) (sym j.is_new.is_it)
+          ∙ ap (λ c. all_after (acts_on o n log) (topic.fresh (record { built = j.is_new.built; first_number = c.first_number; limits = limits })))
+          (chosen_same o a.is_born.older)
+          ∙ seen_all s (acts_on o n log),
     )
 
-old_stands : (o : Options) (log : List Entry) (n : ℕ) (a : Act) (t u : Topic) → (view o log).producers.topics n ≡ Some u →
-    t ≡ topic_all (topic_acts (view o log) n a) u →
-    StandsSo o log n u → StandsSo o (Then a ∷ log) n t
-old_stands o log n a t u h e k =
-    let s : Setup = record { built = k.0; first_number = o.chosen.first_number; limits = k.1 } in (
-      k.0,
-      k.1,
-      k.2,
-      ap (λ x. x.seen) e
-          ∙ ap (all_after (topic_acts (view o log) n a)) k.3
-          ∙ sym (seen_more s (topic_acts (view o log) n a) (acts_on o n log))
-          ∙ ap (topic.seen s) (sym (some_acts o log n a u h)),
-    )
+-- no other joins by the number of one that is there, so it stays
+module _ (o : Options) (log : List Entry) (k : Every (Drawn o) log) (n : ℕ) (t : Topic) (h : (view o log).producers.topics n ≡ Some t) (a : Act)
+    (run : IsRun o (Then a ∷ log)) where
+  pub born_none : topic_born (view o log) n a ≡ None
+  born_none = by (topic_born (view o log) n a) refl
+    where
+      by : (r : Option Topic) → topic_born (view o log) n a ≡ r → r ≡ None
+      by None e = refl
+      by (Some u) e =
+          let j = born_joins (view o log) a n u e in
+          absurd (joins_new o log k j.who j.verdict j.building n t j.makes (subst (λ (x : Act). IsRun o (Then x ∷ log)) j.is_act run) j.is_new.listed h)
 
-pub topics_alone_lem : TopicsAlone
-topics_alone_lem o [] n t run h = absurd cc
-topics_alone_lem o (Begins e ∷ log) n t run h = topics_alone_lem o log n t run.0 (sym (begun_same (λ v. v.producers.topics n) e (view o log) refl) ∙ h)
-topics_alone_lem o (Then a ∷ log) n t run h = from ((view o log).producers.topics n) refl (λ u e. topics_alone_lem o log n u run.0 e)
-  where
-    from : (row : Option Topic) → (view o log).producers.topics n ≡ row → ((u : Topic) → (view o log).producers.topics n ≡ Some u → StandsSo o log n u) →
-        StandsSo o (Then a ∷ log) n t
-    from None e more = elim (row_from (view o log) a n t h) [
-      | inl was ↦ (let f : Some was.row ≡ None = sym was.was ∙ e in absurd cc)
-      | inr j ↦ new_stands o log n a t e j
-    ]
-    from (Some u) e more =
-        let is : Some t ≡ Some (topic_all (topic_acts (view o log) n a) u) = sym h ∙ row_as o log (drawn_run o log run.0) n u e a run in
-        old_stands o log n a t u e (let same : t ≡ topic_all (topic_acts (view o log) n a) u = cc in same) (more u e)
+  pub row_as : (seen.after a (view o log)).producers.topics n ≡ Some (topic_all (topic_acts (view o log) n a) t)
+  row_as = ap (λ b. row_after topic_after b false (topic_acts (view o log) n a) ((view o log).producers.topics n)) born_none
+      ∙ ap (row_by topic_after (topic_acts (view o log) n a)) h
+      ∙ row_stays topic_after (topic_acts (view o log) n a) t
+      ∙ ap (λ x. Some x) (all_is (topic_acts (view o log) n a) t)
+
+  pub some_acts : acts_on o n (Then a ∷ log) ≡ topic_acts (view o log) n a ++ acts_on o n log
+  some_acts = ap (λ b. since_act b (topic_acts (view o log) n a) (acts_on o n log)) born_none
+
+-- each that was done to it is so, where each act does so
+pub each_since : (P : Deed → Type 0) (born : Option Topic) (es past : List Deed) → Each P es → Each P past → Each P (since_act born es past)
+each_since P None es past p q = each_append P es past p q
+each_since P (Some t) es past p q = tt
+
+pub in_since : (it : Deed) (born : Option Topic) (es past : List Deed) → In it (since_act born es past) → In it (es ++ past)
+in_since it None es past i = i
+in_since it (Some t) es past i = absurd i
+
+-- WHAT WAS DONE TO ONE, AND BY WHICH ACT
+
+abbrev pub CameFrom : (number : ℕ) → Act → Deed → Type 0
+CameFrom n a (Takes t) = (who : Who) × (a ≡ Does who (OfTopic n TakeTurn)) × (t ≡ turn_of who)
+CameFrom n a Passes = (who : Who) × (a ≡ Does who (OfTopic n PassTurn))
+CameFrom n a Draws = (who : Who) × (a ≡ Does who (OfTopic n Draw))
+CameFrom n a (Remakes l g) = (who : Who) × (r : Remaking) × (a ≡ Does who (OfTopic n (Remake r))) × (l ≡ r.link) × (g ≡ r.given)
+CameFrom n a (Stores t e) = (who : Who) × (a ≡ Does who (OfTopic n (Store e))) × (t ≡ turn_of who)
+CameFrom n a (Flushes t) = (who : Who) × (a ≡ Does who (OfTopic n Flush)) × (t ≡ turn_of who)
+CameFrom n a TakesBatch = (who : Who) × (a ≡ Does who (OfTopic n TakeBatch))
+CameFrom n a Cuts = a ≡ Comes (Rings (Batch n))
+CameFrom n a Closes = (who : Who) × (t : ℕ) × (a ≡ Does who (Shut t))
+CameFrom n a Halts = (who : Who) × (a ≡ Does who StopAll)
+
+ask_came : (v : View) (who : Who) (n : ℕ) (ask : TopicAsk) → Each (CameFrom n (Does who (OfTopic n ask))) (asked_of v who n ask).acts
+ask_came v who n TakeTurn = ((who, refl, refl), tt)
+ask_came v who n PassTurn = ((who, refl), tt)
+ask_came v who n Draw = elim (room_of v n) as (λ r. Each (CameFrom n (Does who (OfTopic n Draw))) (drawn_by r)) [ None ↦ tt | Some room ↦ ((who, refl), tt) ]
+ask_came v who n (Remake r) = ((who, r, refl, refl, refl), tt)
+ask_came v who n (Store e) = ((who, refl, refl), tt)
+ask_came v who n Flush = ((who, refl, refl), tt)
+ask_came v who n TakeBatch = ((who, refl), tt)
+ask_came v who n _ = tt
+
+shut_came : (who : Who) (t n : ℕ) (ns : List ℕ) → Each (CameFrom n (Does who (Shut t))) (shut_by n ns)
+shut_came who t n [] = tt
+shut_came who t n (m ∷ ns) =
+    let k = shut_came who t n ns in
+    each_either (CameFrom n (Does who (Shut t))) (n == m) (topic.Closes ∷ shut_by n ns) (shut_by n ns) ((who, t, refl), k) k
+
+pub came_from : (v : View) (n : ℕ) (a : Act) → Each (CameFrom n a) (topic_acts v n a)
+came_from v n (Does who (OfTopic m ask)) =
+    each_when (CameFrom n (Does who (OfTopic m ask))) (n == m) (asked_of v who m ask).acts []
+    (λ e. subst (λ k. Each (CameFrom k (Does who (OfTopic m ask))) (asked_of v who m ask).acts) (sym (eqb-true n m e)) (ask_came v who m ask)) (λ e. tt)
+came_from v n (Comes (Rings (Batch m))) =
+    each_when (CameFrom n (Comes (Rings (Batch m)))) (n == m) (rung_by (rings v.now (Batch m) v.alarms)) []
+    (λ e. each_either (CameFrom n (Comes (Rings (Batch m)))) (rings v.now (Batch m) v.alarms) (topic.Cuts ∷ []) []
+    (ap (λ k. Comes (Rings (Batch k))) (sym (eqb-true n m e)), tt) tt) (λ e. tt)
+came_from v n (Does who (Shut t)) = shut_came who t n (numbers_at (v.producers.built t))
+came_from v n (Does who StopAll) = ((who, refl), tt)
+came_from v n _ = tt
+
+-- so what is so of all that such an act does is so of each
+pub acts_each : (P : Deed → Type 0) (v : View) (n : ℕ) (a : Act) → ((d : Deed) → CameFrom n a d → P d) → Each P (topic_acts v n a)
+acts_each P v n a f = each_map (CameFrom n a) P (topic_acts v n a) f (came_from v n a)

@@ -12,7 +12,7 @@ use Rattle.pulsar_laws.proofs.RunWords.{counted, Entry, In, IsRun, Options, star
 use Rattle.pulsar_producer.specs.Topic as topic
 use Rattle.pulsar_producer_table.specs.declared.table.Topic.{Topic}
 use Rattle.pulsar_laws.proofs.Cases.{none_some}
-use Rattle.pulsar_producer_table.specs.Producers.{Producers, changed, topic_after}
+use Rattle.pulsar_producer_table.specs.Producers.{Producers, done_to, topic_after}
 use Rattle.pulsar_laws.specs.ProducerLaws.{HasTurn, topic_acts}
 use Rattle.pulsar_laws.proofs.producers.Drawing.{drawn_run, row_from}
 use Rattle.pulsar_laws.proofs.plans.Follow.{same_is}
@@ -24,6 +24,7 @@ use Rattle.pulsar_laws.proofs.plans.Natures.{is_batching, is_leaving}
 use Rattle.pulsar_laws.proofs.producers.Topics.{row_as, topic_all}
 use Rattle.pulsar_laws.proofs.plans.Unbatched.{calls_unbatched}
 use Rattle.pulsar_laws.proofs.producers.Turns.{acts_left, all_left, passes_it, pend_kept, pending, takes_it, turn_note}
+use Rattle.pulsar_run.specs.Things.{row_by}
 
 -- ONE ACT
 
@@ -355,18 +356,18 @@ pub equal_self : (n : ℕ) → (n == n) ≡ true
 equal_self n = grind (arith, nat_tests)
 
 module _ (act : topic.Act) (ps : Producers) (n : ℕ) (row : Topic) (is : ps.topics n ≡ Some row) where
-  pub changed_at : (changed n act ps).topics n ≡ Some (topic_after act row)
-  changed_at = ap (λ b. cond b (option_map (topic_after act) (ps.topics n)) (ps.topics n)) (equal_self n) ∙ ap (option_map (topic_after act)) is
+  pub changed_at : (done_to n (act ∷ []) ps).topics n ≡ Some (topic_after act row)
+  changed_at = ap (λ b. row_by topic_after (cond b (act ∷ []) []) (ps.topics n)) (equal_self n) ∙ ap (option_map (topic_after act)) is
 
-  pub changed_not : (m : ℕ) → (m == n) ≡ false → (changed n act ps).topics m ≡ ps.topics m
-  changed_not m e = ap (λ b. cond b (option_map (topic_after act) (ps.topics m)) (ps.topics m)) e
+  pub changed_not : (m : ℕ) → (m == n) ≡ false → (done_to n (act ∷ []) ps).topics m ≡ ps.topics m
+  changed_not m e = ap (λ b. row_by topic_after (cond b (act ∷ []) []) (ps.topics m)) e
 
-  pub changed_from : (m : ℕ) (other : Topic) → (changed n act ps).topics m ≡ Some other →
+  pub changed_from : (m : ℕ) (other : Topic) → (done_to n (act ∷ []) ps).topics m ≡ Some other →
       ((m ≡ n) × (other ≡ topic_after act row)) ⊎ (((m == n) ≡ false) × (ps.topics m ≡ Some other))
   changed_from m other h = elim (cases_Bool (m == n)) [
     | inl e ↦
         (let q : m ≡ n = eqb-true m n e in
-        let f : Some other ≡ Some (topic_after act row) = sym h ∙ ap (changed n act ps).topics q ∙ changed_at in
+        let f : Some other ≡ Some (topic_after act row) = sym h ∙ ap (done_to n (act ∷ []) ps).topics q ∙ changed_at in
         inl (q, cc))
     | inr e ↦ inr (e, sym (changed_not m e) ∙ h)
   ]

@@ -2,10 +2,9 @@
 use Rattle.std.proofs.Common.{◌≡◌, ◌⊎◌, inl, inr, ◌∙◌, sym, ap, subst, ℕ, ◌+◌, ◌<◌, ◌≤◌, ◌==◌, arith, List, [], ◌∷◌, refl, Bool, true, false, ◌&&◌, cond, Option, Some, None}
 use Rattle.std.proofs.lemmas.Bool.{cases_Bool, eqb-true, and_parts}
 use Rattle.std.specs.BTreeSet.{insert_key}
-use Rattle.std.specs.List.{flat_map}
 use Rattle.std.specs.Option.{is_none, option_map, option_to_list}
 use Rattle.std.specs.Ordering.{nat_cmp}
-use Rattle.pulsar_laws.proofs.ActWords.{Act, Call, Consumer, Does, Heard, is_same, Notice, Outcome, PassTurn, Producer, Share, Starts, turn_of as taken_as, TakeTurn, Told, Who}
+use Rattle.pulsar_laws.proofs.ActWords.{Act, Call, Consumer, Does, Heard, Notice, OfTopic, Outcome, PassTurn, Producer, Share, Starts, TakeTurn, Told, Who, is_same, turn_of as taken_as}
 use Rattle.pulsar_laws.proofs.PlanWords.{Plan, Serving, told}
 use Rattle.pulsar_laws.proofs.RunWords.{at_once, Begins, begun_same, Entry, In, IsRun, notice, Options, Then, turn_notice, view}
 use Rattle.pulsar_messages.specs.Claims.{is_spent}
@@ -21,7 +20,7 @@ use Rattle.pulsar_producer_table.specs.declared.table.Topic.{Topic}
 use Rattle.pulsar_producer_table.specs.Producers.{Producers, topic_after, turn_passed}
 use Rattle.pulsar_laws.proofs.Cases.{none_some}
 use Rattle.pulsar_laws.specs.ProducerLaws.{HasTurn, PassedInTurn, QueuedInTurn, ToldInTurn, acts_on, turn_of}
-use Rattle.pulsar_acts.specs.Rules.{grants, takes_turn}
+use Rattle.pulsar_acts.specs.Rules.{says_to}
 use Rattle.pulsar_calls.specs.Who.{behind_all, in_turn}
 use Rattle.pulsar_laws.proofs.producers.Drawing.{Every, here}
 use Rattle.pulsar_laws.proofs.plans.Holding.{holds, is_turn_told}
@@ -32,6 +31,7 @@ use Rattle.pulsar_laws.proofs.plans.Servers.{is_server, server_does, server_stan
 use Rattle.pulsar_laws.proofs.plans.Consuming.{is_modest}
 use Rattle.pulsar_laws.proofs.calls.Same.{same_call, same_producer, same_test}
 use Rattle.pulsar_laws.proofs.producers.TurnActs.{Everyone, Nobody, Waits, count_more, equal_self, in_insert, left_turns, starts_turns, step_turns, changed_at, changed_from, changed_not, told_turns}
+use Rattle.pulsar_producer_table.specs.Asks.{turn_said}
 
 -- ONE TAKES ITS TURN
 
@@ -46,13 +46,13 @@ record Taker (o : Options) (log : List Entry) (who : Who) (n : ℕ) : Type 0 whe
   producers : (m : ℕ) → is_same (Producer m) who ≡ true →
       (n ≡ m) × (taken_as who ≡ behind_all) × ((p : Plan) → (view o log).stand (Producer m) ≡ Some p → holds p ≡ None)
 
-taker : (o : Options) (log : List Entry) (who : Who) (n : ℕ) → Every (AllTurns o) log → IsRun o (Then (Does who (TakeTurn n)) ∷ log) → Taker o log who n
+taker : (o : Options) (log : List Entry) (who : Who) (n : ℕ) → Every (AllTurns o) log → IsRun o (Then (Does who (OfTopic n TakeTurn)) ∷ log) → Taker o log who n
 taker o log (Call t) n k run = record {
   calls = λ u s. (let e : u ≡ t = eqb-true u t (and_parts (u == t) (u == t) s).0 in (subst (λ y. IsTaking o log y n) (sym e) (taking o log t n k run), sym e));
   is_own = λ u x y. subst (λ z. is_same (Call z) (Call t) ≡ true) (sym y) (self_same t);
   producers = λ m s. absurd cc;
 }
-taker o log (Consumer j t) n k run = (let f : is_modest (TakeTurn n) ≡ true = server_does o log j t (TakeTurn n) run in absurd cc)
+taker o log (Consumer j t) n k run = (let f : is_modest (OfTopic n TakeTurn) ≡ true = server_does o log j t (OfTopic n TakeTurn) run in absurd cc)
 taker o log (Producer j) n k run = record {
   calls = λ u s. absurd cc;
   is_own = λ u x y. absurd (not_all u x y);
@@ -65,7 +65,7 @@ taker o log (Producer j) n k run = record {
     plain : (p q : Plan) → holds q ≡ None → (view o log).stand (Producer j) ≡ Some p → (view o log).stand (Producer j) ≡ Some q → holds p ≡ None
     plain p q h e f = let g : Some p ≡ Some q = sym e ∙ f in let i : p ≡ q = cc in ap holds i ∙ h
 
-module _ (o : Options) (log : List Entry) (who : Who) (n : ℕ) (run : IsRun o (Then (Does who (TakeTurn n)) ∷ log)) (k : AllTurns o log)
+module _ (o : Options) (log : List Entry) (who : Who) (n : ℕ) (run : IsRun o (Then (Does who (OfTopic n TakeTurn)) ∷ log)) (k : AllTurns o log)
     (x : Taker o log who n) where
   abbrev ps : Producers
   ps = (view o log).producers
@@ -74,9 +74,9 @@ module _ (o : Options) (log : List Entry) (who : Who) (n : ℕ) (run : IsRun o (
   t = taken_as who
 
   abbrev it : Act
-  it = Does who (TakeTurn n)
+  it = Does who (OfTopic n TakeTurn)
 
-  took : (w : Who) (xs : List Act) → takes_turn who (ps.topics n) ≡ xs → pending o log w + sum (turn_act w) xs + 0 ≡ 0 + pending o (Then it ∷ log) w
+  took : (w : Who) (xs : List Act) → says_to who (turn_said (ps.topics n)) ≡ xs → pending o log w + sum (turn_act w) xs + 0 ≡ 0 + pending o (Then it ∷ log) w
   took w xs e = subst (λ ys. pending o log w + sum (turn_act w) ys + 0 ≡ 0 + pending o (Then it ∷ log) w) e (pend_then o log w it run)
 
   -- there is no such topic producer
@@ -89,7 +89,7 @@ module _ (o : Options) (log : List Entry) (who : Who) (n : ℕ) (run : IsRun o (
 
     pends_same : (w : Who) → pending o log w ≡ pending o (Then it ∷ log) w
     pends_same w =
-        let e = took w (takes_turn who None) (ap (takes_turn who) none) in
+        let e = took w (says_to who (turn_said None)) (ap (λ r. says_to who (turn_said r)) none) in
         let z : turn_note w (notice who outcome.Disconnected) ≡ 0 = no_note_of w who outcome.Disconnected refl in
         omega (arith, e, z)
 
@@ -128,10 +128,10 @@ module _ (o : Options) (log : List Entry) (who : Who) (n : ℕ) (run : IsRun o (
       abbrev given : Notice
       given = notice who (outcome.Granted (news.HasTurn row.seen.given.version))
 
-      given_now : takes_turn who (ps.topics n) ≡ Told given ∷ []
+      given_now : says_to who (turn_said (ps.topics n)) ≡ Told given ∷ []
       given_now =
-          ap (takes_turn who) is
-          ∙ ap (λ h. flat_map (λ version. grants who (news.HasTurn version)) (option_to_list (cond (is_none h) (Some row.seen.given.version) None))) free
+          ap (λ r. says_to who (turn_said r)) is
+          ∙ ap (λ h. says_to who (option_map (λ version. outcome.Granted (news.HasTurn version)) (cond (is_none h) (Some row.seen.given.version) None))) free
 
       pends_more : (w : Who) → pending o log w + turn_note w given ≡ pending o (Then it ∷ log) w
       pends_more w = let e = took w (Told given ∷ []) given_now in omega (arith, e)
@@ -254,10 +254,10 @@ module _ (o : Options) (log : List Entry) (who : Who) (n : ℕ) (run : IsRun o (
 
     -- another has it
     module _ (other : ℕ) (busy : row.seen.holder ≡ Some other) where
-      nothing_now : takes_turn who (ps.topics n) ≡ []
+      nothing_now : says_to who (turn_said (ps.topics n)) ≡ []
       nothing_now =
-          ap (takes_turn who) is
-          ∙ ap (λ h. flat_map (λ version. grants who (news.HasTurn version)) (option_to_list (cond (is_none h) (Some row.seen.given.version) None))) busy
+          ap (λ r. says_to who (turn_said r)) is
+          ∙ ap (λ h. says_to who (option_map (λ version. outcome.Granted (news.HasTurn version)) (cond (is_none h) (Some row.seen.given.version) None))) busy
 
       pends_busy : (w : Who) → pending o log w ≡ pending o (Then it ∷ log) w
       pends_busy w = let e = took w [] nothing_now in omega (arith, e)
@@ -355,13 +355,13 @@ lowest o log n row x xs run is w =
     let next : next_holder (topic.seen s h) ≡ Some x = ap first_of wait in
     subst (AreAbove x) (ap rest_of wait) (lowest_is_next s h x next).0
 
-module _ (o : Options) (log : List Entry) (who : Who) (n : ℕ) (run : IsRun o (Then (Does who (PassTurn n)) ∷ log)) (k : AllTurns o log)
+module _ (o : Options) (log : List Entry) (who : Who) (n : ℕ) (run : IsRun o (Then (Does who (OfTopic n PassTurn)) ∷ log)) (k : AllTurns o log)
     (y : IsPassing o log who n) where
   abbrev was : Producers
   was = (view o log).producers
 
   abbrev pass : Act
-  pass = Does who (PassTurn n)
+  pass = Does who (OfTopic n PassTurn)
 
   abbrev row : Topic
   row = y.has.0
@@ -653,9 +653,9 @@ begins_turns o log e k =
 then_turns : (o : Options) (log : List Entry) (a : Act) → IsRun o (Then a ∷ log) → Every (AllTurns o) log → AllTurns o (Then a ∷ log)
 then_turns o log (Told n) run k = told_turns o log n run (here (AllTurns o) log k)
 then_turns o log (Starts who p) run k = starts_turns o log who p run (here (AllTurns o) log k)
-then_turns o log (Does who (TakeTurn n)) run k =
+then_turns o log (Does who (OfTopic n TakeTurn)) run k =
     take_turns o log who n run (here (AllTurns o) log k) (taker o log who n k run) ((view o log).producers.topics n) refl
-then_turns o log (Does who (PassTurn n)) run k =
+then_turns o log (Does who (OfTopic n PassTurn)) run k =
     let y = passing o log who n k run in pass_turns o log who n run (here (AllTurns o) log k) y y.has.0.seen.waiting refl
 then_turns o log (Does who a) run k = left_turns o log (Does who a) run refl refl (λ w. refl) (here (AllTurns o) log k)
 then_turns o log a run k = left_turns o log a run refl refl (λ w. refl) (here (AllTurns o) log k)

@@ -1,9 +1,8 @@
 -- Whose turn it is: nobody has the turn of a topic producer beside the one that it was given to, who waits for it waits for no other, and
 -- one is told of a turn once.
-use Rattle.std.proofs.Common.{◌≡◌, ◌∙◌, ap, subst, ℕ, ◌+◌, ◌==◌, arith, List, [], ◌∷◌, ◌++◌, refl, Bool, true, false, ◌&&◌, cond, Option, Some, None}
-use Rattle.pulsar_laws.proofs.ActWords.{Act, Action, Batch, below, Comes, Does, Draw, Flush, is_same, Notice, Outcome, Part, PassTurn, Remake, Rings, Shut, StopAll, Store, TakeBatch, turn_of as taken_as, TakeTurn, Told, Who}
-use Rattle.pulsar_laws.proofs.RunWords.{agenda, at_once, Each, each_either, Entry, first_of, IsRun, joins, Options, performs, put_all, rest, rest_of, room_of, rules, Then, view, View}
-use Rattle.pulsar_laws.proofs.LinkWords.{rings}
+use Rattle.std.proofs.Common.{◌≡◌, ◌∙◌, ap, subst, ℕ, ◌+◌, arith, List, [], ◌∷◌, ◌++◌, refl, Bool, true, false, ◌&&◌, cond, Option, Some, sym}
+use Rattle.pulsar_laws.proofs.ActWords.{Act, Action, Comes, Does, Notice, OfTopic, Outcome, Part, PassTurn, TakeTurn, Told, Who, below, is_same}
+use Rattle.pulsar_laws.proofs.RunWords.{agenda, at_once, Each, Entry, first_of, IsRun, joins, Options, performs, put_all, rest, rest_of, rules, Then, view, View}
 use Rattle.pulsar_run.specs.Order.{put}
 use Rattle.pulsar_messages.specs.Claims.{is_spent}
 use Rattle.pulsar_producer.specs.Topic as topic
@@ -11,16 +10,15 @@ use Rattle.pulsar_outgoing.specs.Storage.{Item, SingleMessage, Flush as Flush', 
 use Rattle.pulsar_producer.specs.Topic.{Act as Deed, Takes, Passes, Draws, Remakes, Closes, Stores, Flushes, Cuts, TakesBatch, Halts, Seen, cuts, cuts_ready, is_settled, left_of, stores}
 use Rattle.pulsar_outgoing.specs.declared.news.News.TheVariants as news
 use Rattle.pulsar_calls.specs.declared.act.Outcome.TheVariants as outcome
-use Rattle.pulsar_producer_table.specs.Producers.{numbers_at}
 use Rattle.pulsar_laws.proofs.plans.AtOnce.{is_notice, raised_told}
 use Rattle.pulsar_laws.proofs.Cases.{cond_so}
-use Rattle.pulsar_laws.specs.ProducerLaws.{drawn_by, rung_by, shut_by, topic_acts}
+use Rattle.pulsar_laws.specs.ProducerLaws.{topic_acts}
 use Rattle.pulsar_laws.proofs.producers.Drawing.{here}
 use Rattle.pulsar_laws.proofs.plans.Granted.{GivenBy, GivesSo, IsFree, JoinSo, SaysSo, clean_run, gives_so, is_given, join_free, joins_so}
 pub use Rattle.pulsar_laws.proofs.plans.Granted.{passes_it}
 use Rattle.pulsar_laws.proofs.plans.Holding.{is_turn_told}
 use Rattle.pulsar_client.proofs.Raising.{IsRaised, raises}
-use Rattle.pulsar_laws.proofs.producers.Topics.{all_after}
+use Rattle.pulsar_laws.proofs.producers.Topics.{all_after, CameFrom, acts_each}
 
 -- WHO IS TO BE TOLD OF A TURN
 
@@ -99,12 +97,12 @@ pend_rest t [] [] [] [] a free h = absurd cc
 -- WHO TELLS OF TURNS
 
 abbrev pub is_take : Action → Bool
-is_take (TakeTurn n) = true
+is_take (OfTopic n TakeTurn) = true
 is_take _ = false
 
 no_turn_given : (v : View) (action : Action) (version : Option (List ℕ)) → is_take action ≡ false → GivenBy v action (news.HasTurn version) → ⊥
-no_turn_given v (TakeTurn n) version t h = absurd cc
-no_turn_given v (PassTurn n) version t h = h
+no_turn_given v (OfTopic n TakeTurn) version t h = absurd cc
+no_turn_given v (OfTopic n PassTurn) version t h = h
 no_turn_given v _ version t h = h
 
 says_none : (v : View) (action : Action) (u : Outcome) → is_take action ≡ false → SaysSo v action u → is_turn_told u ≡ false
@@ -121,11 +119,11 @@ none_by t (Told n) h = absurd cc
 none_by t _ h = refl
 
 abbrev pub takes_it : Act → Bool
-takes_it (Does who (TakeTurn n)) = true
+takes_it (Does who (OfTopic n TakeTurn)) = true
 takes_it _ = false
 
 pub once_none : (v : View) (t : Who) (a : Act) → takes_it a ≡ false → sum (turn_act t) (at_once v a) ≡ 0
-once_none v t (Does who (TakeTurn n)) h = absurd cc
+once_none v t (Does who (OfTopic n TakeTurn)) h = absurd cc
 once_none v t (Does who action) h = sum_none (GivesSo v action) (turn_act t) (performs v who action) (λ b k. gives_none v action t b refl k)
     (gives_so v who action)
 once_none v t a h = sum_none (IsRaised a) (turn_act t) (at_once v a) (λ b k. none_by t b (raised_told a b refl k)) (raises v a)
@@ -199,27 +197,10 @@ pub all_left : (ds : List Deed) (v : Seen) → Each LeavesTurn ds → ((all_afte
 all_left [] v h = (refl, refl)
 all_left (d ∷ ds) v h = let k = all_left ds v h.1 in let j = one_left d (all_after ds v) h.0 in (j.0 ∙ k.0, j.1 ∙ k.1)
 
-rung_left : (b : Bool) → Each LeavesTurn (rung_by b)
-rung_left b = each_either LeavesTurn b (Cuts ∷ []) [] (refl, tt) tt
-
-drawn_left : (room : Option Bool) → Each LeavesTurn (drawn_by room)
-drawn_left None = tt
-drawn_left (Some room) = (refl, tt)
-
-shut_left : (n : ℕ) (ns : List ℕ) → Each LeavesTurn (shut_by n ns)
-shut_left n [] = tt
-shut_left n (m ∷ ns) = each_either LeavesTurn (n == m) (Closes ∷ shut_by n ns) (shut_by n ns) (refl, shut_left n ns) (shut_left n ns)
-
 pub acts_left : (v : View) (n : ℕ) (a : Act) → takes_it a ≡ false → passes_it a ≡ false → Each LeavesTurn (topic_acts v n a)
-acts_left v n (Does who (TakeTurn m)) t p = absurd cc
-acts_left v n (Does who (PassTurn m)) t p = absurd cc
-acts_left v n (Comes (Rings (Batch m))) t p =
-    each_either LeavesTurn (n == m) (rung_by (rings v.now (Batch m) v.alarms)) [] (rung_left (rings v.now (Batch m) v.alarms)) tt
-acts_left v n (Does who (Store m e)) t p = each_either LeavesTurn (n == m) (Stores (taken_as who) e ∷ []) [] (refl, tt) tt
-acts_left v n (Does who (Flush m)) t p = each_either LeavesTurn (n == m) (Flushes (taken_as who) ∷ []) [] (refl, tt) tt
-acts_left v n (Does who (TakeBatch m)) t p = each_either LeavesTurn (n == m) (TakesBatch ∷ []) [] (refl, tt) tt
-acts_left v n (Does who StopAll) t p = (refl, tt)
-acts_left v n (Does who (Draw m)) t p = each_either LeavesTurn (n == m) (drawn_by (room_of v m)) [] (drawn_left (room_of v m)) tt
-acts_left v n (Does who (Remake r)) t p = each_either LeavesTurn (n == r.number) (Remakes r.link r.given ∷ []) [] (refl, tt) tt
-acts_left v n (Does who (Shut u)) t p = shut_left n (numbers_at (v.producers.built u))
-acts_left v n _ t p = tt
+acts_left v n a t p = acts_each LeavesTurn v n a left
+  where
+    left : (d : Deed) → CameFrom n a d → LeavesTurn d
+    left (Takes u) k = let e : true ≡ false = sym (ap takes_it k.1) ∙ t in absurd cc
+    left Passes k = let e : true ≡ false = sym (ap passes_it k.1) ∙ p in absurd cc
+    left d k = refl

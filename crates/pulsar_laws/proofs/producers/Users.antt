@@ -1,14 +1,12 @@
 -- Tickets at a topic producer: whoever waits there, or is told what becomes of a batch, took a turn there, stored a message or flushed it.
-use Rattle.std.proofs.Common.{◌≡◌, inl, inr, sym, subst, ℕ, ◌+◌, ◌==◌, List, [], ◌∷◌, ◌++◌, refl, map, Bool, true, false, cond, Option, Some, None}
+use Rattle.std.proofs.Common.{◌≡◌, inl, inr, sym, subst, ℕ, ◌+◌, List, [], ◌∷◌, refl, map, Bool, true, false, Option, Some, None}
 use Rattle.std.specs.BTreeSet.{insert_key}
-use Rattle.std.specs.Option.{is_some}
 use Rattle.std.specs.Ordering.{match_ordering, nat_cmp}
 use Rattle.std.specs.declared.cmp.Ordering.{Ordering}
 use Rattle.std.specs.declared.cmp.Ordering.TheVariants.{Less, Equal, Greater}
-use Rattle.pulsar_laws.proofs.ActWords.{Act, Action, Batch, Call, Comes, Consumer, Does, Draw, Flush, Notice, Outcome, PassTurn, Procedure, Producer, Remake, Rings, Shut, StopAll, Store, TakeBatch, TakeTurn, TellAll, Told, turn_of, Who}
-use Rattle.pulsar_laws.proofs.PlanWords.{action_of, Batches, Batching, Building as Build, Deed, Errand, Fate, Member, News, news_of, Order, Plan, Sending as Send, told_to, Ways}
-use Rattle.pulsar_laws.proofs.RunWords.{Begins, Each, each_append, each_either, Entry, In, IsRun, notice, Options, room_of, Then, View, view}
-use Rattle.pulsar_laws.proofs.LinkWords.{rings}
+use Rattle.pulsar_laws.proofs.ActWords.{Act, Action, Call, Consumer, Does, Flush, Notice, OfTopic, Outcome, Procedure, Producer, Store, TakeBatch, TakeTurn, TellAll, Told, Who, turn_of}
+use Rattle.pulsar_laws.proofs.PlanWords.{action_of, Batches, Batching, BuildingProducer as Build, Deed, Errand, Fate, Member, News, news_of, ProducerOrder, Plan, Sending as Send, told_to, Ways}
+use Rattle.pulsar_laws.proofs.RunWords.{Begins, Each, each_append, Entry, In, IsRun, notice, Options, Then, View, view}
 use Rattle.pulsar_messages.specs.Claims.{is_spent}
 use Rattle.pulsar_outgoing.specs.Batch.{cut_report, member_of, reports_from}
 use Rattle.pulsar_outgoing.specs.Storage.{Item, SingleMessage, Flush as FlushItem, is_ready, pushed, is_nothing, ticket_of}
@@ -25,11 +23,12 @@ use Rattle.pulsar_laws.proofs.Lists.{in_each}
 use Rattle.pulsar_laws.proofs.Cases.{cond_so}
 use Rattle.pulsar_plans.proofs.Arcs.{BatchArc, batch_sends, batch_settles, begun_arc, taken_settles, taken_starts, told_arc, Arc, Begun, batch_cuts, batches_go, begins_build, builds_on, part_sends, sends}
 use Rattle.pulsar_laws.proofs.plans.Standing.{run_older, stands_so}
-use Rattle.pulsar_laws.specs.ProducerLaws.{acts_on, drawn_by, rung_by, shut_by, topic_acts}
-use Rattle.pulsar_producer_table.specs.Producers.{next_batch_at, numbers_at}
+use Rattle.pulsar_laws.specs.ProducerLaws.{acts_on, topic_acts}
+use Rattle.pulsar_producer_table.specs.Producers.{next_batch_at}
 use Rattle.pulsar_laws.proofs.plans.Granted.{GivenBy, IsGrantedBy, IsLedSo, does_from, granted_by, grants_given}
 use Rattle.pulsar_producer.proofs.Arcs.{BuildArc, SendArc, draws, naming_rests}
-use Rattle.pulsar_laws.proofs.producers.Topics.{topics_alone_lem}
+use Rattle.pulsar_laws.proofs.producers.Topics.{topics_alone_lem, CameFrom, acts_each, each_since}
+use Rattle.pulsar_acts.specs.View.{topic_born}
 
 -- WHO TELLS NOBODY TOGETHER: all plans but those of batches
 
@@ -41,7 +40,7 @@ send_alone : {w : Ways} {e : Errand} {s q : Send} {y : News} {d : Deed} → Send
 send_alone draws = refl
 send_alone _ = refl
 
-build_alone : {w : Ways} {o : Order} {b q : Build} {y : News} {d : Deed} → BuildArc w o b y q d → is_tell (action_of d) ≡ false
+build_alone : {w : Ways} {o : ProducerOrder} {b q : Build} {y : News} {d : Deed} → BuildArc w o b y q d → is_tell (action_of d) ≡ false
 build_alone naming_rests = refl
 build_alone _ = refl
 
@@ -192,9 +191,9 @@ module _ (T P : ℕ → Type 0) where
   -- ALONG A LOG in which whoever uses a topic producer is so
 
   abbrev pub DoesSo : Act → Type 0
-  DoesSo (Does who (TakeTurn n)) = T (turn_of who)
-  DoesSo (Does who (Store n e)) = P (turn_of who)
-  DoesSo (Does who (Flush n)) = P (turn_of who)
+  DoesSo (Does who (OfTopic n TakeTurn)) = T (turn_of who)
+  DoesSo (Does who (OfTopic n (Store e))) = P (turn_of who)
+  DoesSo (Does who (OfTopic n Flush)) = P (turn_of who)
   DoesSo _ = Unit {0}
 
   abbrev pub LogSo : List Entry → Type 0
@@ -202,38 +201,20 @@ module _ (T P : ℕ → Type 0) where
   LogSo (Begins e ∷ log) = LogSo log
   LogSo (Then a ∷ log) = DoesSo a × LogSo log
 
-  shut_so : (n : ℕ) (ms : List ℕ) → Each ActSo (shut_by n ms)
-  shut_so n [] = tt
-  shut_so n (m ∷ ms) = each_either ActSo (n == m) (topic.Closes ∷ shut_by n ms) (shut_by n ms) (tt, shut_so n ms) (shut_so n ms)
-
-  one_act : (b : Bool) (act : TopicAct) → ActSo act → Each ActSo (cond b (act ∷ []) [])
-  one_act true act k = (k, tt)
-  one_act false act k = tt
-
   acts_by : (v : View) (n : ℕ) (a : Act) → DoesSo a → Each ActSo (topic_acts v n a)
-  acts_by v n (Comes (Rings (Batch m))) k =
-      each_either ActSo (n == m) (rung_by (rings v.now (Batch m) v.alarms)) [] (one_act (rings v.now (Batch m) v.alarms) topic.Cuts tt) tt
-  acts_by v n (Does who (TakeTurn m)) k = one_act (n == m) (topic.Takes (turn_of who)) k
-  acts_by v n (Does who (PassTurn m)) k = one_act (n == m) topic.Passes tt
-  acts_by v n (Does who (Draw m)) k = each_either ActSo (n == m) (drawn_by (room_of v m)) [] (drawn_so (room_of v m)) tt
+  acts_by v n a k = acts_each ActSo v n a so
     where
-      drawn_so : (r : Option Bool) → Each ActSo (drawn_by r)
-      drawn_so None = tt
-      drawn_so (Some room) = (tt, tt)
-  acts_by v n (Does who (Remake r)) k = one_act (n == r.number) (topic.Remakes r.link r.given) tt
-  acts_by v n (Does who (Store m e)) k = one_act (n == m) (topic.Stores (turn_of who) e) k
-  acts_by v n (Does who (Flush m)) k = one_act (n == m) (topic.Flushes (turn_of who)) k
-  acts_by v n (Does who (TakeBatch m)) k = one_act (n == m) topic.TakesBatch tt
-  acts_by v n (Does who StopAll) k = (tt, tt)
-  acts_by v n (Does who (Shut t)) k = shut_so n (numbers_at (v.producers.built t))
-  acts_by v n _ k = tt
+      so : (d : TopicAct) → CameFrom n a d → ActSo d
+      so (topic.Takes t) c = subst T (sym c.2) (subst DoesSo c.1 k)
+      so (topic.Stores t e) c = subst P (sym c.2) (subst DoesSo c.1 k)
+      so (topic.Flushes t) c = subst P (sym c.2) (subst DoesSo c.1 k)
+      so d c = tt
 
   acts_so : (o : Options) (n : ℕ) (log : List Entry) → LogSo log → Each ActSo (acts_on o n log)
   acts_so o n [] k = tt
   acts_so o n (Begins e ∷ log) k = acts_so o n log k
   acts_so o n (Then a ∷ log) k =
-      each_either ActSo (is_some ((view o log).producers.topics n)) (topic_acts (view o log) n a ++ acts_on o n log) []
-      (each_append ActSo (topic_acts (view o log) n a) (acts_on o n log) (acts_by (view o log) n a k.0) (acts_so o n log k.1)) tt
+      each_since ActSo (topic_born (view o log) n a) (topic_acts (view o log) n a) (acts_on o n log) (acts_by (view o log) n a k.0) (acts_so o n log k.1)
 
   -- a topic producer
   pub row_so : (o : Options) (n : ℕ) (log : List Entry) (row : Topic) → IsRun o log → LogSo log → (view o log).producers.topics n ≡ Some row →
@@ -254,7 +235,7 @@ module _ (T P : ℕ → Type 0) where
 
   given_so : (o : Options) (log : List Entry) (action : Action) (items : Option (List Item)) → IsRun o log → LogSo log →
       GivenBy (view o log) action (news.HasBatch items) → NewsSo (news.HasBatch items)
-  given_so o log (TakeBatch n) items run k h =
+  given_so o log (OfTopic n TakeBatch) items run k h =
       subst (λ x. NewsSo (news.HasBatch x)) h (taken_so o n log ((view o log).producers.topics n) run k refl)
   given_so o log _ items run k h = absurd h
 

@@ -7,7 +7,10 @@ use Rattle.pulsar_acts.specs.Reading.{made_due}
 use Rattle.pulsar_calls.specs.Order.{below}
 use Rattle.pulsar_agenda.specs.Agenda.{Agenda}
 use Rattle.pulsar_agenda.specs.Agenda.{agenda_of}
-use Rattle.pulsar_acts.specs.View.{View, consumers_left, consumers_made, producers_made}
+use Rattle.pulsar_acts.specs.View.{View, after, consumers_left, consumers_made, producers_left, producers_made}
+use Rattle.pulsar_calls.specs.declared.act.Act.TheVariants.{Answers}
+use Rattle.pulsar_acts.specs.Tables.{view_of}
+use Rattle.pulsar_acts.proofs.Granting.{left_is}
 use Rattle.pulsar_acts.proofs.tables.Tables.answers.Goals as goal
 
 pub returns-clause-left : goal.returns-clause-left
@@ -29,13 +32,15 @@ returns-clause-left c =
 
 pub returns-clause-sees : goal.returns-clause-sees
 returns-clause-sees c =
+    let v = view_of c.args.self.now in
     let who = c.args.who in
     let makes = c.args.verdict.makes in
     on_ok_weaker c.tell_end.result
     (λ told. c.frees.ensures.sees
-    ∙ ap (λ (x : View). record x { consumers = consumers_left who x.consumers }) c.in_ok-due.ensures.sees
+    ∙ ap (λ (x : View). record x { consumers = consumers_left who x.consumers; producers = producers_left who x.producers }) c.in_ok-due.ensures.sees
     ∙ ap (λ (x : View). record x {
       consumers = consumers_left who (consumers_made x.links.live who makes x.consumers);
-      producers = producers_made x.chosen who makes x.producers;
-    }) c.in_ok-builds.ensures.sees)
+      producers = producers_left who (producers_made x.chosen who makes x.producers);
+    }) c.in_ok-builds.ensures.sees
+    ∙ (λ i. record (after (Answers who c.args.verdict) v) { producers = left_is v.chosen who makes v.producers i }))
     c.tell_end.ensures

@@ -3,7 +3,9 @@ use Rattle.std.proofs.lemmas.Result.{on_ok_weaker}
 use Rattle.pulsar_calls.specs.declared.act.Alarm.TheVariants.{Retry, Wake, Batch, KeepAlive, CheckIdle}
 use Rattle.pulsar_links.specs.Alarms.{rings}
 use Rattle.pulsar_agenda.specs.Agenda.{agenda_of}
-use Rattle.pulsar_acts.specs.Tables.{view_of}
+use Rattle.pulsar_acts.specs.Tables.{rung_view, view_of}
+use Rattle.pulsar_producer.specs.Topic.{Cuts}
+use Rattle.pulsar_producer_table.proofs.Asking.{changed_is}
 use Rattle.pulsar_acts.proofs.Rings.{rest_left, rest_sees, ring_acts, ring_sees, ring_tells}
 use Rattle.pulsar_acts.proofs.tables.Tables.rings.Goals as goal
 
@@ -48,7 +50,11 @@ pub returns-in-Batch-clause-sees : goal.returns-in-Batch-clause-sees
 returns-in-Batch-clause-sees c =
     let v = view_of c.args.self.now in
     let h : rings v.now (Batch c.in-Batch.number) v.alarms ≡ true = ap (λ a. rings v.now a v.alarms) (sym c.in-Batch.is) ∙ sym c.rings.ensures ∙ c.if-not-rings.false in
-    rw c.in-Batch.is (on_ok_weaker c.cuts.result (λ sees. sees ∙ ring_sees v (Batch c.in-Batch.number) h) c.cuts.ensures.sees)
+    let n = c.in-Batch.number in
+    rw c.in-Batch.is
+    (on_ok_weaker c.cuts.result
+    (λ sees. sees ∙ (λ i. record (rung_view (Batch n) v) { producers = changed_is n Cuts v.producers i }) ∙ ring_sees v (Batch n) h)
+    c.cuts.ensures.sees)
 
 pub returns-in-KeepAlive-clause-left : goal.returns-in-KeepAlive-clause-left
 returns-in-KeepAlive-clause-left c =

@@ -101,7 +101,7 @@ came_from v t (Comes (ToLink l Reads)) = ((refl, refl), tt)
 came_from v t (Comes (ToLink l (Ends end))) = ((end, refl, refl), tt)
 came_from v t (Comes (Polls u)) =
     each_when (CameFrom v t (Comes (Polls u))) (t == u) (IsPolled v.now ∷ []) []
-    (λ e. (ap (λ x. Comes (Polls x)) (sym (eqb-true t u e)), refl), tt) (λ e. tt)
+    (λ e. ((ap (λ x. Comes (Polls x)) (sym (eqb-true t u e)), refl), tt)) (λ e. tt)
 came_from v t (Does who (Ask l request)) = ((who, request, refl, refl, refl), tt)
 came_from v t (Does who (OfConsumer ask)) =
     each_when (CameFrom v t (Does who (OfConsumer ask))) (t == ticket_asked who ask) (consumer_asked v who ask).acts []

@@ -22,3 +22,4 @@ pub mod IdleCalls
 pub mod Idlers
 pub mod Causes
 pub mod Tellers
+pub mod Untold

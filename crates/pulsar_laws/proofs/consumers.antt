@@ -15,3 +15,7 @@ pub mod Finished
 pub mod Due
 pub mod Rested
 pub mod Tended
+pub mod Rows
+pub mod Losses
+pub mod Halted
+pub mod Alert

@@ -37,9 +37,6 @@ use Rattle.pulsar_calls.specs.declared.act.Who.TheVariants.{Call, Consumer}
 use Rattle.pulsar_calls.specs.Content as content
 use Rattle.pulsar_calls.specs.Content.{Asked, Heard, Poll, Shown, Hands, Faults, FindsNothing, FindsEnd}
 use Rattle.pulsar_calls.specs.Who.{is_same, ticket_of}
-use Rattle.pulsar_plans.specs.declared.plan.Plan.{Plan}
-use Rattle.pulsar_plans.specs.declared.plan.Plan.TheVariants as plan
-use Rattle.pulsar_plans.specs.declared.service.Service.TheVariants as service
 use Rattle.pulsar_consumer_table.specs.Consumers as consumer
 use Rattle.pulsar_consumer_table.specs.Consumers.{Member, is_closed_by}
 use Rattle.pulsar_links.specs.Links.{line_places}
@@ -332,24 +329,17 @@ FlowsAreCounted = (o : Options) (log : List Entry) (t l : ℕ) (m : Member) (s :
     (permits_of (flows_since o t log) ≤ asked_since s (done_to o t log))
     × (Rests o log → permits_of (flows_since o t log) ≡ asked_since s (done_to o t log))
 
--- the plan of a consumer rests: its subscription is made, and nothing is under way
-abbrev pub is_resting : Plan → Bool
-is_resting (plan.Serving w n service.Resting) = true
-is_resting _ = false
-
--- At the end of a step no flow is due at a consumer whose plan rests: each one that fell due was taken and asked for (FlowsAreAsked).
+-- At the end of a step no flow is due at a consumer: each one that fell due was taken and asked for (FlowsAreAsked).
 abbrev pub NoFlowIsDue : Type 0
-NoFlowIsDue = (o : Options) (log : List Entry) (t : ℕ) (m : Member) (p : Plan) (l : Live) → IsRun o log → Rests o log →
-    (view o log).consumers.rows t ≡ Some m → (view o log).stand (consumer.who_of t m) ≡ Some p → is_resting p ≡ true → m.seen.engine.live ≡ Some l →
-    l.due ≡ []
+NoFlowIsDue = (o : Options) (log : List Entry) (t : ℕ) (m : Member) (l : Live) → IsRun o log → Rests o log → (view o log).consumers.rows t ≡ Some m →
+    m.seen.engine.live ≡ Some l → l.due ≡ []
 
 -- So what remains of its permits is then the sum of the flows that were asked for since its subscription was made, less what the frames weigh that were
 -- begun since then. It is at most the batch size; and where each arrival is finished, half of the batch size, rounded up, and all that was spent
 -- is at most all that was granted.
 abbrev pub PermitsAreGranted : Type 0
-PermitsAreGranted = (o : Options) (log : List Entry) (t : ℕ) (m : Member) (p : Plan) (l : Live) → IsRun o log → Rests o log →
-    (view o log).consumers.rows t ≡ Some m → (view o log).stand (consumer.who_of t m) ≡ Some p → is_resting p ≡ true → m.seen.is_raw ≡ false →
-    m.seen.engine.live ≡ Some l →
+PermitsAreGranted = (o : Options) (log : List Entry) (t : ℕ) (m : Member) (l : Live) → IsRun o log → Rests o log → (view o log).consumers.rows t ≡ Some m →
+    m.seen.is_raw ≡ false → m.seen.engine.live ≡ Some l →
     (s : Setup) × (made_with t log ≡ Some s)
     × (permits_of (flows_since o t log) + weighed_before s (done_to o t log) ≤ batch_size m.seen.config + weights (begun s (done_to o t log)))
     × (IsFinished s (done_to o t log) → half (batch_size m.seen.config) + weights (begun s (done_to o t log))

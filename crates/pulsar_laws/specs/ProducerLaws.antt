@@ -56,7 +56,6 @@ use Rattle.pulsar_producer_table.specs.declared.table.Topic.{Topic}
 use Rattle.pulsar_calls.specs.Content.{Said, Failed}
 use Rattle.pulsar_calls.specs.Parts.{sent_from}
 use Rattle.pulsar_producer_table.specs.Producers.{number_drawn}
-use Rattle.pulsar_plans.specs.Plan.{told}
 use Rattle.pulsar_acts.specs.Rules.{joins, notice}
 use Rattle.pulsar_acts.specs.Run.{Entry, Begins, Then, IsRun, Rests, rules, view}
 use Rattle.pulsar_run.specs.Things.{since}

@@ -32,7 +32,7 @@ pub fn consumers_end()
 {}
 
 /// What remains of the permits of a live subscription is within its bounds, and each flow that its plan asks for was taken from it, and is
-/// queued or stands in the line. At the end of a step none is due where its plan rests: what was granted is what was asked for.
+/// queued or stands in the line. At the end of a step none is due: what was granted is what was asked for.
 pub fn permits_are_kept()
     ensures bounds { PermitsAreKept }
     ensures flows { FlowsAreTaken }

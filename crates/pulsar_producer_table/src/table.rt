@@ -1,8 +1,8 @@
 //! The producers of a client, their topic producers, and the numbers of these.
 
-ghost use Rattle.std.specs.Prelude.{◌≡◌, ◌==◌, ◌&&◌, ◌+◌, ◌-◌, ◌^◌, nat_lt, ◌++◌, ℕ, IfOk, OnOk, Some, length, map, if◌then◌else◌};
+ghost use Rattle.std.specs.Prelude.{◌≡◌, ◌==◌, ◌&&◌, ◌+◌, ◌-◌, ◌^◌, nat_lt, ◌++◌, not, ℕ, IfOk, OnOk, Some, length, map, if◌then◌else◌};
 ghost use Rattle.std.specs.BTreeMap.{get};
-ghost use Rattle.std.specs.List.{flat_map, list_any};
+ghost use Rattle.std.specs.List.{filter, flat_map, list_any};
 ghost use Rattle.std.specs.Option.{is_some, option_map};
 ghost use Rattle.std.specs.Ordering.{nat_cmp};
 ghost use Rattle.pulsar_messages.specs.Content.{message_content};
@@ -137,7 +137,7 @@ impl Producers {
     pub fn is_used(&self, number: u64) -> bool
         ensures { result ≡ meaning.is_used (producers_of self.now) number }
     {
-        self.knows(number) || self.held.iter().any(|held| held.number == number)
+        self.knows(number) || has_number(&self.held, number)
     }
 
     /// A topic producer was made for a call, which still makes others.
@@ -156,7 +156,7 @@ impl Producers {
     pub fn free(&mut self, owner: u64)
         ensures { producers_of self.new ≡ meaning.freed owner (producers_of self.old) }
     {
-        self.held.retain(|held| held.owner != owner);
+        let_go(&mut self.held, owner);
     }
 
     /// A raw call has named a number.
@@ -383,7 +383,7 @@ impl Producers {
     pub fn holds(&self, link: u64) -> bool
         ensures { result ≡ meaning.is_held (producers_of self.now) link }
     {
-        is_held(&self.numbers, &self.topics, link) || self.held.iter().any(|held| held.link == link)
+        is_held(&self.numbers, &self.topics, link) || is_on_link(&self.held, link)
     }
 
     /// Those that wait for a turn, or for a batch that is not under way, are told that the client is stopped.
@@ -628,6 +628,27 @@ fn holds_at(topics: &BTreeMap<u64, Topic>, number: u64, link: u64) -> bool
         Some(topic) => !topic.seen.is_closed() && topic.seen.link() == link,
         None => false,
     }
+}
+
+/// One that is held has this number.
+fn has_number(held: &[Held], number: u64) -> bool
+    ensures { result ≡ list_any (λ h. h.number == number) held.now }
+{
+    held.iter().any(|one| one.number == number)
+}
+
+/// One that is held is on this link.
+fn is_on_link(held: &[Held], link: u64) -> bool
+    ensures { result ≡ list_any (λ h. h.link == link) held.now }
+{
+    held.iter().any(|one| one.link == link)
+}
+
+/// What a call has held is let go.
+fn let_go(held: &mut Vec<Held>, owner: u64)
+    ensures { held.new.items ≡ filter (λ h. not (h.owner == owner)) held.old.items }
+{
+    held.retain(|one| one.owner != owner);
 }
 
 /// Those that wait for a turn at this topic producer are told that the client is stopped.

@@ -126,13 +126,13 @@ pub record IsClear (g : Agenda) : Type 0 where
   pub behind : g.behind ≡ []
 
 -- no part of an event arises at once
-abbrev NoPart : Act → Type 0
+abbrev pub NoPart : Act → Type 0
 NoPart a = (kind a ≡ OfPart) → ⊥
 
 raised_no_part : (a b : Act) → IsRaised a b → NoPart b
 raised_no_part a b h is = (let f : true ≡ false = sym h ∙ ap (λ x. may x a) is in absurd cc)
 
-now_no_part : (o : Options) (log : List Entry) → Each NoPart (agenda o log).now
+pub now_no_part : (o : Options) (log : List Entry) → Each NoPart (agenda o log).now
 now_no_part o [] = tt
 now_no_part o (Begins e ∷ log) = tt
 now_no_part o (Then a ∷ log) =
@@ -140,7 +140,7 @@ now_no_part o (Then a ∷ log) =
     each_append NoPart (at_once (view o log) a) (rest g).now (each_map (IsRaised a) NoPart (at_once (view o log) a) (raised_no_part a) (raises (view o log) a))
     (each_rest NoPart g.now g.here g.behind g.parts (now_no_part o log))
 
-clear_part : (now : List Act) (here : List Notice) (behind : List (List Notice)) (ps : List Part) (p : Part) → kind (Comes p) ≡ OfPart → Each NoPart now →
+pub clear_part : (now : List Act) (here : List Notice) (behind : List (List Notice)) (ps : List Part) (p : Part) → kind (Comes p) ≡ OfPart → Each NoPart now →
     first_of rules now here behind ps ≡ Some (Comes p) → IsClear (rest_of now here behind ps)
 clear_part (a ∷ now) here behind ps p s k h = absurd (k.0 (let e : a ≡ Comes p = cc in ap kind e ∙ s))
 clear_part [] (n ∷ here) behind ps p s k h = absurd cc

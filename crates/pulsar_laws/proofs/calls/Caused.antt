@@ -62,7 +62,7 @@ none_told v a n never h =
     (let told : may OfNotice a ≡ true = in_each (IsRaised a) (Told n) (at_once v a) h (raises v a) in let f : true ≡ false = sym told ∙ never in absurd cc)
 
 -- what comes of a link is no notice
-mute_told : (n : Notice) (ps : List Part) → In (Told n) (map Comes ps) → ⊥
+pub mute_told : (n : Notice) (ps : List Part) → In (Told n) (map Comes ps) → ⊥
 mute_told n [] h = h
 mute_told n (p ∷ ps) (inl e) = absurd cc
 mute_told n (p ∷ ps) (inr h) = mute_told n ps h
@@ -721,7 +721,7 @@ module _ (o : Options) (who : Who) (u : Outcome) (older : List Entry) where
       ]
   cause_caused _ h = absurd h
 
-  is_caused : (e : Entry) → IsRun o (e ∷ older) → Arises rules o (Told it) e older → Cause o who u e older
+  pub is_caused : (e : Entry) → IsRun o (e ∷ older) → Arises rules o (Told it) e older → Cause o who u e older
   is_caused (Begins e) run h = absurd (mute_told it (parts o v e) h)
   is_caused (Then b) run (inl h) = once_caused b h
   is_caused (Then b) run (inr (inl h)) = joins_caused b run (in_told it (joins v b) h)

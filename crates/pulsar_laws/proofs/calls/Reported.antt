@@ -190,7 +190,7 @@ module _ (o : Options) (u : ℕ) where
   same_given (Then (Does who (OfTopic n (Store x)))) log m run lacks = elim (cases_Bool (is_same (Call u) who)) [
     | inl e ↦
         (let r : IsRun o (Then (Does (Call u) (OfTopic n (Store x))) ∷ log) =
-            subst (λ w. IsRun o (Then (Does w (OfTopic n (Store x))) ∷ log)) (sym (same_is (Call u) who e)) run in
+        subst (λ w. IsRun o (Then (Does w (OfTopic n (Store x))) ∷ log)) (sym (same_is (Call u) who e)) run in
         let k = storing_at log n x r in
         absurd (lacks k.0 k.1))
     | inr e ↦ (let z : stores_by u (Does who (OfTopic n (Store x))) ≡ 0 = ap (λ b. cond b 1 0) e in omega (arith, z))
@@ -208,7 +208,7 @@ module _ (o : Options) (u : ℕ) where
       elim (cases_Bool (is_same (Call u) who)) [
         | inl e ↦
             (let r : IsRun o (Then (Does (Call u) (OfTopic n (Store x))) ∷ log) =
-                subst (λ w. IsRun o (Then (Does w (OfTopic n (Store x))) ∷ log)) (sym (same_is (Call u) who e)) run in
+            subst (λ w. IsRun o (Then (Does w (OfTopic n (Store x))) ∷ log)) (sym (same_is (Call u) who e)) run in
             let begun : 1 ≤ counted (start_of u) log = acts_begun o log u (OfTopic n (Store x)) r in
             absurd (let no : ⊥ = omega (arith, begun, none) in no))
         | inr e ↦ (let z : stores_by u (Does who (OfTopic n (Store x))) ≡ 0 = ap (λ b. cond b 1 0) e in omega (arith, z, k))

@@ -239,7 +239,7 @@ none_built b (Producer building) is = absurd cc
 
 -- WHERE THE CLIENT IS STOPPED
 
-record Over (o : Options) (log : List Entry) : Type 0 where
+pub record Over (o : Options) (log : List Entry) : Type 0 where
   now : AreLast (view o log).stand (agenda o log).now
   here : Each (IsLate (view o log).stand) (agenda o log).here
   behind : Each (Each (IsLate (view o log).stand)) (agenda o log).behind
@@ -248,7 +248,7 @@ record Over (o : Options) (log : List Entry) : Type 0 where
   is_stopped : (view o log).calls.is_stopped ≡ true
   fine : (w : Who) → is_fine ((view o log).stand w) ≡ true
   bare : (m : ℕ) → next_batch_at ((view o log).producers.topics m) ≡ None
-  gone : (t : ℕ) → Gone ((view o log).consumers.rows t)
+  pub gone : (t : ℕ) → Gone ((view o log).consumers.rows t)
   links : (l : ℕ) → ((view o log).links.live l ≡ None) ⊎ In (Comes (ToLink l (Ends Stops))) (agenda o log).now
 
 -- a part that comes, where nothing else is left at once
@@ -643,7 +643,7 @@ over_starts o log who run fits =
         inr (in_left (Comes (ToLink l (Ends Stops))) (over_links stop_act ls ++ tells who outcome.Stopped) (rest (agenda o log)).now
         (in_left (Comes (ToLink l (Ends Stops))) (over_links stop_act ls) (tells who outcome.Stopped) (in_over ls l seat e (is_started o log l seat e))))
 
-over_run : (o : Options) (log : List Entry) → IsRun o log → stopped log ≡ true → Over o log
+pub over_run : (o : Options) (log : List Entry) → IsRun o log → stopped log ≡ true → Over o log
 over_run o [] run h = absurd cc
 over_run o (Begins e ∷ log) run h = over_begins o log run.0 (over_run o log run.0 h) e run.1
 over_run o (Then (Does who StopAll) ∷ log) run h = over_starts o log who run.0 run.1

@@ -81,7 +81,7 @@ after_ends (Polled clock) s =
 after_ends Asks s = or_false (is_ended s)
 
 -- one act or none
-abbrev EndsSo : List Done → Seen → Bool → Type 0
+abbrev pub EndsSo : List Done → Seen → Bool → Type 0
 EndsSo xs s b = is_ended (applied xs s) ≡ (is_ended s || b)
 
 none_ends : (s : Seen) → EndsSo [] s false
@@ -122,7 +122,7 @@ subscription_end : (l : ℕ) (url : Option Parts) (s : Seen) → EndsSo (subscri
 subscription_end l None s = none_ends s
 subscription_end l (Some url) s = after_ends (Lives l url) s
 
-does_end : (v : View) (t : ℕ) (m : Member) (a : Act) → EndsSo (does_to v t m a) m.seen (ends_by v t m a)
+pub does_end : (v : View) (t : ℕ) (m : Member) (a : Act) → EndsSo (does_to v t m a) m.seen (ends_by v t m a)
 does_end v t m (Comes (ToLink l Reads)) = arrival_end l (arrival_at (v.links.live l)) m.seen
 does_end v t m (Comes (ToLink l (Ends end))) = loss_end l (closing end v.now (v.links.live l)) m.seen
 does_end v t m (Comes (Polls u)) = plain_ends (t == u) (Polled v.now ∷ []) m.seen (after_ends (Polled v.now) m.seen)

@@ -28,7 +28,11 @@ use Rattle.pulsar_laws.proofs.producers.BatchRun.{fits_first}
 use Rattle.pulsar_laws.proofs.producers.Drawing.{answers_from}
 use Rattle.pulsar_laws.proofs.consumers.Flows.{first_at, start_serves}
 use Rattle.pulsar_laws.proofs.consumers.Placed.{is_taking}
-use Rattle.pulsar_laws.specs.ConsumerLaws.{is_resting}
+
+-- its subscription is made, and nothing is under way
+abbrev pub is_resting : Plan → Bool
+is_resting (Serving w n service.Resting) = true
+is_resting _ = false
 
 -- ONE STEP OF A PLAN
 
@@ -89,7 +93,7 @@ module _ (o : Options) (n t : ℕ) where
   abbrev answer : List Entry → Act
   answer older = Told (notice who (outcome.Word (revived_said (is_ended_at ((view o older).consumers.rows t)))))
 
-  told_revived : (older : List Entry) (l : ℕ) → first (agenda o (Then (Does who (OfConsumer (Revive l))) ∷ older)) ≡ Some (answer older)
+  pub told_revived : (older : List Entry) (l : ℕ) → first (agenda o (Then (Does who (OfConsumer (Revive l))) ∷ older)) ≡ Some (answer older)
   told_revived older l = first_at o older (Does who (OfConsumer (Revive l))) (answer older) refl
 
   abbrev RevivedAt : List Entry → Plan → Type 0

@@ -212,7 +212,7 @@ begun_stays e v k h =
 
 -- HOW IT WAS MADE stays
 
-applied_raw : (xs : List Done) (s : Seen) → (applied xs s).is_raw ≡ s.is_raw
+pub applied_raw : (xs : List Done) (s : Seen) → (applied xs s).is_raw ≡ s.is_raw
 applied_raw [] s = refl
 applied_raw (x ∷ xs) s = (after_made x (applied xs s)).0 ∙ applied_raw xs s
 

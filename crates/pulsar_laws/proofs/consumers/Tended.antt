@@ -1,14 +1,12 @@
--- Where the plan of a consumer rests, and a flow is due, it is to be told so still; so none is due at the end of a step.
-use Rattle.std.proofs.Common.{◌≡◌, inl, inr, ◌∙◌, sym, ap, subst, ℕ, ◌==◌, List, [], ◌∷◌, refl, arith, Bool, true, false, cond, eq-eqb, Option, Some, None}
+-- Where the plan of a consumer rests, and a flow is due, it is to be told so still, so none is due there at the end of a step.
+use Rattle.std.proofs.Common.{◌≡◌, inl, inr, ◌∙◌, sym, ap, subst, ℕ, ◌==◌, List, [], ◌∷◌, refl, Bool, true, false, cond, eq-eqb, Option, Some, None}
 use Rattle.std.proofs.lemmas.Bool.{cases_Bool}
-use Rattle.std.specs.List.{sum}
 use Rattle.std.specs.Option.{is_some, option_map}
 use Rattle.pulsar_laws.proofs.ActWords.{Act, Action, Answers, Call, Consumer, Does, is_same, Notice, Outcome, Procedure, Revive, Starts, TakeFlow, Told, Verdict, Who, OfConsumer}
 use Rattle.pulsar_laws.proofs.PlanWords.{Gives, Plan, Stays, told, Turn}
 use Rattle.pulsar_laws.proofs.RunWords.{agenda, Agenda, Begins, begun_same, EndsOnce, Entry, first, IsRun, notice, Options, stays, stays_some, Then, told_some, view, View}
 use Rattle.pulsar_laws.proofs.LinkWords.{url_at}
-use Rattle.pulsar_consumer.specs.Laws.{asked_since}
-use Rattle.pulsar_consumer.specs.Topic.{Live, Seen, Asks, asked, behind, first_due, first_in, is_due, link_of}
+use Rattle.pulsar_consumer.specs.Topic.{Live, Seen, Asks, asked, behind, first_due, first_in, is_due}
 use Rattle.pulsar_calls.specs.declared.act.Outcome.TheVariants as outcome
 use Rattle.pulsar_calls.specs.declared.act.Word.TheVariants as word
 use Rattle.pulsar_run.specs.Things.{row_by}
@@ -19,13 +17,12 @@ use Rattle.pulsar_laws.proofs.calls.Done.{IsLeftIn, arises, first_done, none_lef
 use Rattle.pulsar_laws.proofs.calls.Same.{same_self, same_who}
 use Rattle.pulsar_laws.proofs.calls.Ticketed.{consumer_ticket}
 use Rattle.pulsar_laws.proofs.consumers.Due.{applied_number, built_due, due_to_plan, falls_due, is_waker, made_due_so, revived_due, rises}
-use Rattle.pulsar_laws.proofs.consumers.Ended.{permits_are_kept_lem}
 use Rattle.pulsar_laws.proofs.consumers.Lone.{IsKept, IsMade, IsNone, RowFrom, applied, begun_rows, none_after, row_from}
 use Rattle.pulsar_laws.proofs.consumers.Placed.{Takes, takes_run, told_flow}
-use Rattle.pulsar_laws.proofs.consumers.Rested.{IsMadeBy, arc_rests, begins_made, due_is_taken, revived_run}
-use Rattle.pulsar_laws.proofs.consumers.Taken.{flow_none, flows_are_counted_lem}
+use Rattle.pulsar_laws.proofs.consumers.Rested.{IsMadeBy, arc_rests, begins_made, due_is_taken, is_resting, revived_run}
+use Rattle.pulsar_laws.proofs.consumers.Taken.{flow_none}
 use Rattle.pulsar_plans.proofs.Arcs.{told_arc}
-use Rattle.pulsar_laws.specs.ConsumerLaws.{NoFlowIsDue, PermitsAreGranted, does_to, done_to, flows_since, is_resting, permits_of, subscription_does}
+use Rattle.pulsar_laws.specs.ConsumerLaws.{does_to, subscription_does}
 
 abbrev said : Act → Outcome
 said (Told n) = n.outcome
@@ -240,28 +237,12 @@ no_due l h = by l.due h
     by [] k = refl
     by (n ∷ ns) k = absurd cc
 
-pub no_flow_is_due_lem : EndsOnce → NoFlowIsDue
-no_flow_is_due_lem once o log t m p l run ends is stood rests live = elim (cases_Bool (is_due m.seen)) [
+pub resting_none : EndsOnce → (o : Options) (log : List Entry) (t : ℕ) (m : Member) (p : Plan) (l : Live) → IsRun o log → first (agenda o log) ≡ None →
+    (view o log).consumers.rows t ≡ Some m → (view o log).stand (Consumer m.seen.number t) ≡ Some p → is_resting p ≡ true → m.seen.engine.live ≡ Some l →
+    l.due ≡ []
+resting_none once o log t m p l run ends is stood rests live = elim (cases_Bool (is_due m.seen)) [
   | inl due ↦
       (let g : Agenda = agenda o log in
       absurd (none_left (due_to_plan m.seen.number t) g.now g.here g.behind g.parts ends (tended_run once o log t run m p is due stood rests)))
   | inr none ↦ no_due l (sym (ap (λ x. is_some (first_due x)) live) ∙ none)
 ]
-
--- SO WHAT REMAINS is what was asked for less what was begun
-
-pub permits_are_granted_lem : EndsOnce → PermitsAreGranted
-permits_are_granted_lem once o log t m p l run ends is stood rests raw live =
-    let none : l.due ≡ [] = no_flow_is_due_lem once o log t m p l run ends is stood rests live in
-    let k = permits_are_kept_lem once o log t m l run is raw live in
-    let on : link_of m.seen ≡ Some l.link = ap (option_map (λ (y : Live). y.link)) live in
-    let all : permits_of (flows_since o t log) ≡ asked_since k.0 (done_to o t log) =
-    (flows_are_counted_lem once o log t l.link m k.0 run is on k.1).1 ends in
-    let zero : sum l.due ≡ 0 = ap sum none in
-    let most = k.2 in
-    let counted = k.4 in (
-      k.0,
-      k.1,
-      omega (arith, all, zero, most, counted),
-      λ done. (let least = k.3 done in omega (arith, all, zero, least, counted)),
-    )

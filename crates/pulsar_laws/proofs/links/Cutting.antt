@@ -31,7 +31,7 @@ use Rattle.pulsar_laws.specs.Laws.{AreActs}
 use Rattle.pulsar_laws.specs.LinkLaws.{PiecesDontMatter, end_in, fed, is_end}
 use Rattle.pulsar_laws.proofs.Cases.{none_some, some_is}
 use Rattle.pulsar_laws.proofs.calls.Ticketed.{older_run}
-use Rattle.pulsar_laws.proofs.links.Ahead.{after_by, after_same, came_same, fits, holding, is_read, other, read_ruled, ruled, Ruled, ruled_same, seat_read_same, taken_open}
+use Rattle.pulsar_laws.proofs.links.Ahead.{after_by, after_same, came_same, fits, holding, is_read, other, read_ruled, ruled, ruled_same, seat_read_same, taken_open}
 use Rattle.pulsar_laws.proofs.links.Ahead as ahead
 use Rattle.pulsar_laws.proofs.links.Clocked.{again_after, again_ruled, clocked, moved, none_after, none_ruled, on, own_row, read_on, rows_with, turned_as}
 use Rattle.pulsar_laws.proofs.links.Ending.{ended_so, started, up}

@@ -1,18 +1,20 @@
--- Only the plan of a consumer serves one, and only that takes flows.
-use Rattle.std.proofs.Common.{◌≡◌, inl, inr, ◌∙◌, sym, subst, ℕ, List, ◌∷◌, refl, true, false, Some}
-use Rattle.pulsar_laws.proofs.ActWords.{Action, Call, Consumer, Does, Outcome, Procedure, Producer, TakeFlow, Told, Verdict, Who, OfConsumer}
+-- Only the plan of a consumer serves one, and only that takes flows, and subscribes a consumer again, where it is told a reply.
+use Rattle.std.proofs.Common.{◌≡◌, inl, inr, ◌∙◌, sym, ap, subst, ℕ, List, ◌∷◌, refl, Bool, true, false, Some}
+use Rattle.pulsar_laws.proofs.ActWords.{Action, Call, Consumer, Does, Outcome, Procedure, Producer, Revive, TakeFlow, Told, Verdict, Who, OfConsumer}
 use Rattle.pulsar_laws.proofs.PlanWords.{action_of, Deed, Plan, Stays, told, Turn}
 use Rattle.pulsar_laws.proofs.RunWords.{Entry, IsRun, notice, Options, Then, view}
+use Rattle.pulsar_laws.proofs.LinkWords.{Reply}
+use Rattle.pulsar_calls.specs.declared.act.Outcome.TheVariants as outcome
 use Rattle.pulsar_searches.specs.declared.turn.Action.TheVariants as wish
 use Rattle.pulsar_producer.specs.declared.deed.Deed.TheVariants as deed
-use Rattle.pulsar_plans.proofs.Arcs.{begun_arc, told_arc, Arc, Begun, begins_build, got_asks}
+use Rattle.pulsar_plans.proofs.Arcs.{begun_arc, told_arc, Arc, batches_go, Begun, begins_build, builds_on, got_asks, part_sends, recalled_revives, resumed_revives, sends}
 use Rattle.pulsar_laws.proofs.plans.Standing.{run_older, stands_so}
 use Rattle.pulsar_laws.proofs.plans.Batchers.{batcher_does}
 use Rattle.pulsar_laws.proofs.plans.Granted.{BeginsSo, IsLedSo, does_from}
 use Rattle.pulsar_laws.proofs.plans.Parted.{is_batches, starts_part}
 use Rattle.pulsar_laws.proofs.consumers.Reached.{reached_run}
 use Rattle.pulsar_laws.proofs.plans.Servers.{is_server}
-use Rattle.pulsar_laws.proofs.plans.Subscribed.{Plain, TurnSo, begins_plain, told_on}
+use Rattle.pulsar_laws.proofs.plans.Subscribed.{Plain, TurnSo, begins_plain, is_reply, is_reviving, told_on}
 
 -- OTHER PLANS serve no consumer
 
@@ -57,3 +59,80 @@ flow_takers o log (Call t) run = elim (does_from o log (Call t) (OfConsumer Take
         let f : is_server k.before ≡ true = takes_by (told k.before k.outcome) k.before k.plan k.outcome so k.leads in
         let g : is_server k.before ≡ false = calls_serve_none o k.older t k.before r.0 k.stood in
         let x : true ≡ false = sym f ∙ g in cc
+
+-- A CONSUMER IS SUBSCRIBED AGAIN
+
+abbrev is_revive : Action → Bool
+is_revive (OfConsumer (Revive l)) = true
+is_revive _ = false
+
+deed_not : (d : Deed) → is_revive (action_of d) ≡ true → ⊥
+deed_not (deed.Does (wish.Get p)) h = cc
+deed_not (deed.Does (wish.Ask l request)) h = cc
+deed_not (deed.Does (wish.Wait delay)) h = cc
+deed_not _ h = cc
+
+arc_revived : {p q : Plan} {u : Outcome} {a : Action} → Arc p u q a → is_revive a ≡ true → is_reviving q ≡ true
+arc_revived recalled_revives h = refl
+arc_revived resumed_revives h = refl
+arc_revived (builds_on d k) h = absurd (deed_not d h)
+arc_revived (sends d k) h = absurd (deed_not d h)
+arc_revived (part_sends d k b) h = absurd (deed_not d h)
+arc_revived (batches_go d k) h = absurd (deed_not d h)
+arc_revived _ h = absurd cc
+
+-- its plan was told a reply right before, and stands so then
+pub record IsRevived (o : Options) (log : List Entry) (w : Who) (l : ℕ) : Type 0 where
+  pub reply : Reply
+  pub older : List Entry
+  pub is_there : log ≡ Then (Told (notice w (outcome.Replied reply))) ∷ older
+  pub before : Plan
+  pub stood : (view o older).stand w ≡ Some before
+  pub is_server : is_server before ≡ true
+  pub plan : Plan
+  pub leads : told before (outcome.Replied reply) ≡ Stays plan (OfConsumer (Revive l))
+  pub revives : is_reviving plan ≡ true
+
+revives_by : (t : Turn Plan Verdict) (p q : Plan) (u : Outcome) (l : ℕ) → TurnSo p u t → t ≡ Stays q (OfConsumer (Revive l)) →
+    (is_reply u ≡ true) × (is_server p ≡ true)
+revives_by t p q u l k e = let x = (subst (TurnSo p u) e k).2 in (x.1, x.2)
+
+pub is_revived : (o : Options) (log : List Entry) (w : Who) (l : ℕ) → IsRun o (Then (Does w (OfConsumer (Revive l))) ∷ log) → IsRevived o log w l
+is_revived o log w l run = elim (does_from o log w (OfConsumer (Revive l)) run) [ inl k ↦ absurd (begun k) | inr k ↦ led k ]
+  where
+    begun : BeginsSo o log w (OfConsumer (Revive l)) → ⊥
+    begun k = let f : true ≡ false = (subst Plain k.leads (begins_plain k.procedure)).2 in cc
+
+    led : IsLedSo o log w (OfConsumer (Revive l)) → IsRevived o log w l
+    led k =
+        let r : IsRun o (Then (Told (notice w k.outcome)) ∷ k.older) = subst (IsRun o) k.is_there run.0 in
+        let so : TurnSo k.before k.outcome (told k.before k.outcome) = told_on k.before k.outcome ((reached_run o k.older r.0).waits w k.before k.stood) in
+        let x = revives_by (told k.before k.outcome) k.before k.plan k.outcome l so k.leads in
+        by k.outcome k.is_there k.leads x.0 x.1
+      where
+        by : (u : Outcome) → log ≡ Then (Told (notice w u)) ∷ k.older → told k.before u ≡ Stays k.plan (OfConsumer (Revive l)) → is_reply u ≡ true →
+            is_server k.before ≡ true → IsRevived o log w l
+        by (outcome.Replied r) there leads reply server = record {
+          reply = r;
+          older = k.older;
+          is_there = there;
+          before = k.before;
+          stood = k.stood;
+          is_server = server;
+          plan = k.plan;
+          leads = leads;
+          revives = arc_revived {p = k.before} {q = k.plan} {u = outcome.Replied r} {a = OfConsumer (Revive l)} (told_arc leads) refl;
+        }
+        by u there leads reply server = absurd cc
+
+no_revive : (l : ℕ) (d : Deed) → OfConsumer (Revive l) ≡ action_of d → ⊥
+no_revive l d h = deed_not d (sym (ap is_revive h))
+
+pub revivers : (o : Options) (log : List Entry) (w : Who) (l : ℕ) → IsRun o (Then (Does w (OfConsumer (Revive l))) ∷ log) → (n t : ℕ) × (w ≡ Consumer n t)
+revivers o log (Consumer n t) l run = (n, t, refl)
+revivers o log (Producer n) l run = let k = batcher_does o log n (OfConsumer (Revive l)) run in absurd (no_revive l k.0 k.1)
+revivers o log (Call t) l run =
+    let k : IsRevived o log (Call t) l = is_revived o log (Call t) l run in
+    let r : IsRun o (Then (Told (notice (Call t) (outcome.Replied k.reply))) ∷ k.older) = subst (IsRun o) k.is_there run.0 in
+    let f : true ≡ false = sym k.is_server ∙ calls_serve_none o k.older t k.before r.0 k.stood in
+    absurd cc

@@ -93,8 +93,13 @@ abbrev pub LinkSo : Plan → Outcome → Option ℕ → Plan → Action → Type
 LinkSo p u None q a = Unit {0}
 LinkSo p u (Some l) q a = From p u l ⊎ ((r : Words) × (a ≡ Ask l r) × (is_reviving q ≡ false))
 
+-- and to subscribe a consumer again, it is told a reply
+abbrev pub is_reply : Outcome → Bool
+is_reply (outcome.Replied r) = true
+is_reply _ = false
+
 abbrev pub ActSo : Plan → Outcome → Action → Type 0
-ActSo p u (OfConsumer (Revive l)) = From p u l
+ActSo p u (OfConsumer (Revive l)) = From p u l × (is_reply u ≡ true) × (is_server p ≡ true)
 ActSo p u (OfConsumer TakeFlow) = is_server p ≡ true
 ActSo p u _ = Unit {0}
 
@@ -196,6 +201,10 @@ replied_so : (u : Outcome) → is_replied (news_in u) ≡ true → is_refused u 
 replied_so (outcome.Refused cause) h = absurd cc
 replied_so _ h = refl
 
+reply_so : (u : Outcome) → is_replied (news_in u) ≡ true → is_reply u ≡ true
+reply_so (outcome.Replied r) h = refl
+reply_so _ h = absurd cc
+
 -- A CONSUMER IS BUILT
 
 module _ (w : Ways) (o : ConsumerOrder) (b : ConsumerBuild) (u : Outcome) where
@@ -275,14 +284,15 @@ module _ (w : Ways) (n : ℕ) (s : Service) (u : Outcome) where
   q = Serving w n s
 
   resumes_on : (c : Command) (k : Option ℕ) (x : News) (t : SearchTurn Making (Result Served Failure)) →
-      ((l : ℕ) → k ≡ Some l → is_replied x ≡ true → From q u l) → MadeSo k x t → TurnSo q u (resubscribes w n c (consume.resume_makes t))
-  resumes_on c k x (search_turn.Stays m a) from h = (tt, by (made_on m) h, plain_act q u (wished a) (wish_plain a))
+      ((l : ℕ) → k ≡ Some l → is_replied x ≡ true → From q u l) → (is_replied x ≡ true → is_reply u ≡ true) → MadeSo k x t →
+      TurnSo q u (resubscribes w n c (consume.resume_makes t))
+  resumes_on c k x (search_turn.Stays m a) from reply h = (tt, by (made_on m) h, plain_act q u (wished a) (wish_plain a))
     where
       by : (j : Option ℕ) → WishSo j a → LinkSo q u j (Serving w n (service.Resuming (record { command = c; resuming = resume.Making m }))) (wished a)
       by None f = tt
       by (Some l) f = inr (f.0, ap wished f.1, refl)
-  resumes_on c k x (search_turn.Gives (Ok r)) from h = let f = from r.link h.0 h.1 in (tt, inl f, f)
-  resumes_on c k x (search_turn.Gives (Err f)) from h = (tt, tt, tt)
+  resumes_on c k x (search_turn.Gives (Ok r)) from reply h = let f = from r.link h.0 h.1 in (tt, inl f, (f, reply h.1, refl))
+  resumes_on c k x (search_turn.Gives (Err f)) from reply h = (tt, tt, tt)
 
   looks_on : (c : Command) (t : SearchTurn Looking (Result Place Failure)) → TurnSo q u (resubscribes w n c (consume.resume_looks t))
   looks_on c (search_turn.Stays l a) = (tt, tt, plain_act q u (wished a) (wish_plain a))
@@ -298,7 +308,7 @@ resumed_told : (w : Ways) (n : ℕ) (s : Resubscribing) (r : Resuming) (u : Outc
 resumed_told w n s (resume.Looking l) u e = looks_on w n (service.Resuming s) u s.command (search.look_told w s.command.topic l (news_in u))
 resumed_told w n s (resume.Making m) u e =
     resumes_on w n (service.Resuming s) u s.command (made_on m) (news_in u) (search.made_told w s.command m (news_in u))
-    (λ l k h. (ap resumed_on e ∙ k, free (Serving w n (service.Resuming s)) u (replied_so u h))) (made_so w s.command m (news_in u))
+    (λ l k h. (ap resumed_on e ∙ k, free (Serving w n (service.Resuming s)) u (replied_so u h))) (reply_so u) (made_so w s.command m (news_in u))
 
 resuming_on : (w : Ways) (n : ℕ) (s : Resubscribing) (u : Outcome) → TurnSo (Serving w n (service.Resuming s)) u (in_resuming w n s u)
 resuming_on w n s outcome.Queued = (tt, stays_on w n (service.Resuming s) outcome.Queued (resumed_on s.resuming) refl refl, tt)

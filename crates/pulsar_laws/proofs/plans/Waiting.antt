@@ -195,7 +195,7 @@ module _ (w : Ways) where
 
 -- ONE STEP OF A PLAN
 
-abbrev ways_at : Plan → Option Ways
+abbrev pub ways_at : Plan → Option Ways
 ways_at (Searching w s) = Some w
 ways_at (Producing w o b) = Some w
 ways_at (Sending w e share s) = Some w
@@ -258,7 +258,7 @@ begins_ways p = begins_by (WaysSo (ways_in p)) p (λ q a k. begun_ways k)
 -- ALONG A LOG
 
 module _ (o : Options) where
-  abbrev given : Option Ways
+  abbrev pub given : Option Ways
   given = ways_of o.chosen
 
   -- what begins has no ways, or those of the options: so those that it has are these
@@ -267,7 +267,7 @@ module _ (o : Options) where
   by_given p w (inr same) h = sym same ∙ h
 
   -- a plan stands by them
-  stands_by : (log : List Entry) (who : Who) (q : Plan) (w : Ways) → IsRun o log → (view o log).stand who ≡ Some q → ways_at q ≡ Some w → given ≡ Some w
+  pub stands_by : (log : List Entry) (who : Who) (q : Plan) (w : Ways) → IsRun o log → (view o log).stand who ≡ Some q → ways_at q ≡ Some w → given ≡ Some w
   stands_by log who q w run h is =
       stands_so o who (IsRun o) (run_older o) (λ log q. (w : Ways) → ways_at q ≡ Some w → given ≡ Some w)
       (λ e log q m r s k. k)

@@ -1,10 +1,10 @@
 use Rattle.pulsar_laws.proofs.consumers.Ended.{permits_are_kept_lem}
 use Rattle.pulsar_laws.proofs.consumers.Flows.{flows_are_asked_lem, flows_are_taken_lem}
 use Rattle.pulsar_laws.proofs.calls.Once.{ends_once_lem}
+use Rattle.pulsar_laws.proofs.consumers.Alert.{no_flow_is_due_lem, permits_are_granted_lem}
 use Rattle.pulsar_laws.proofs.consumers.Placed.{flows_are_placed_lem}
 use Rattle.pulsar_laws.proofs.consumers.Queueing.{flows_are_queued_lem}
 use Rattle.pulsar_laws.proofs.consumers.Taken.{flows_are_counted_lem}
-use Rattle.pulsar_laws.proofs.consumers.Tended.{no_flow_is_due_lem, permits_are_granted_lem}
 use Rattle.pulsar_laws.proofs.consumers.permits_are_kept.Goals as goal
 
 pub returns-clause-bounds : goal.returns-clause-bounds
@@ -26,8 +26,7 @@ pub returns-clause-counted : goal.returns-clause-counted
 returns-clause-counted c = λ o log t l m s run is on made. flows_are_counted_lem ends_once_lem o log t l m s run is on made
 
 pub returns-clause-none_due : goal.returns-clause-none_due
-returns-clause-none_due c = λ o log t m p l run ends is stood rests live. no_flow_is_due_lem ends_once_lem o log t m p l run ends is stood rests live
+returns-clause-none_due c = λ o log t m l run ends is live. no_flow_is_due_lem ends_once_lem o log t m l run ends is live
 
 pub returns-clause-granted : goal.returns-clause-granted
-returns-clause-granted c = λ o log t m p l run ends is stood rests raw live.
-    permits_are_granted_lem ends_once_lem o log t m p l run ends is stood rests raw live
+returns-clause-granted c = λ o log t m l run ends is raw live. permits_are_granted_lem ends_once_lem o log t m l run ends is raw live

@@ -6,15 +6,15 @@ use Rattle.pulsar_producer.specs.Topic.{Takes}
 use Rattle.pulsar_producer_table.proofs.Asking.{changed_is, no_topic, none_done, turn_had, turn_lost, turn_waits}
 use Rattle.pulsar_producer_table.proofs.table.Producers.gives_turn.Goals as goal
 
-pub returns-then-not-is_used-clause-says : goal.returns-then-not-is_used-clause-says
-returns-then-not-is_used-clause-says c =
+pub returns-then-not-knows-clause-says : goal.returns-then-not-knows-clause-says
+returns-then-not-knows-clause-says c =
     let row = (producers_of c.args.self.now).topics c.args.number in
-    c.lost.ensures.says ∙ turn_lost row (no_topic row (sym c.is_used.ensures ∙ c.if-not-is_used.true))
+    c.lost.ensures.says ∙ turn_lost row (no_topic row (sym c.knows.ensures ∙ c.if-not-knows.true))
 
-pub returns-then-not-is_used-clause-after : goal.returns-then-not-is_used-clause-after
-returns-then-not-is_used-clause-after c =
+pub returns-then-not-knows-clause-after : goal.returns-then-not-knows-clause-after
+returns-then-not-knows-clause-after c =
     let ps = producers_of c.args.self.now in
-    none_done c.args.number (Takes c.args.turn ∷ []) ps (no_topic (ps.topics c.args.number) (sym c.is_used.ensures ∙ c.if-not-is_used.true))
+    none_done c.args.number (Takes c.args.turn ∷ []) ps (no_topic (ps.topics c.args.number) (sym c.knows.ensures ∙ c.if-not-knows.true))
 
 pub returns-in-Some-clause-says : goal.returns-in-Some-clause-says
 returns-in-Some-clause-says c =
@@ -31,7 +31,7 @@ returns-in-Some-clause-after c =
 pub returns-in-None-clause-says : goal.returns-in-None-clause-says
 returns-in-None-clause-says c =
     let row = (producers_of c.args.self.now).topics c.args.number in
-    c.waits.ensures.says ∙ turn_waits row (sym c.is_used.ensures ∙ c.if-not-is_used.false) (sym c.in_ok-version.ensures.version ∙ c.in-None.is)
+    c.waits.ensures.says ∙ turn_waits row (sym c.knows.ensures ∙ c.if-not-knows.false) (sym c.in_ok-version.ensures.version ∙ c.in-None.is)
 
 pub returns-in-None-clause-after : goal.returns-in-None-clause-after
 returns-in-None-clause-after c =

@@ -8,7 +8,7 @@ use Rattle.std.specs.Option.{option_map}
 use Rattle.std.specs.Ordering.{match_ordering}
 use Rattle.std.specs.declared.cmp.Ordering.{Ordering}
 use Rattle.std.specs.declared.cmp.Ordering.TheVariants.{Less, Equal, Greater}
-use Rattle.pulsar_laws.proofs.ActWords.{Act, Action, Alarm, Answers, Arrival, Ask, Batch, Bytes, Call, CheckIdle, Comes, Consumer, Dials, Does, Drains, Draw, Ends, Find, FindConsumer, Flush, Get, Heard, KeepAlive, LinkAct, Makes, Number, OfTopic, Opens, Outcome, Pings, Producer, Reads, Recall, RecallConsumer, Rest, Retry, Rings, Shut, StopAll, Store, TakeTurn, Tell, TellAll, ToLink, Told, Wait, Wake, Who, Word, is_same, ticket_of, turn_of, OfConsumer}
+use Rattle.pulsar_laws.proofs.ActWords.{Act, Action, Alarm, Answers, Arrival, Ask, Batch, Bytes, Call, CheckIdle, Comes, Consumer, Dials, Does, Drains, Draw, Ends, Find, FindConsumer, Flush, Get, Heard, KeepAlive, LinkAct, Makes, Number, OfTopic, Opens, Outcome, Pings, Producer, Reads, Recall, RecallConsumer, Rest, Retry, Rings, Shut, StopAll, Store, TakeNumber, TakeTurn, Tell, TellAll, ToLink, Told, Wait, Wake, Who, Word, is_same, ticket_of, turn_of, OfConsumer}
 use Rattle.pulsar_laws.proofs.PlanWords.{News}
 use Rattle.pulsar_laws.proofs.RunWords.{after, Begins, begun_live, Cause, Chosen, consumers_after, counted, Each, Entry, In, InThisStep, is_live, IsRun, link_got, live_begun, notice, Options, setup_of, start_of, Then, turned, Turned, view, View}
 use Rattle.pulsar_laws.proofs.LinkWords.{Addresses, Base, Becomes, Change, Exhausted, Failure, Fault, got_at, is_body, IsOver, Nobody, Pause, Pauses, Place, Remains, Reply, rings, Runs, Seat, seat_asked, seat_fed, seat_got, Series, Serves, took_end, took_some, url_at, Words}
@@ -313,9 +313,9 @@ none_seeks t i = i
 -- one that joins has none, and no deed adds this one
 joins_seeks : (t : ℕ) (live : ℕ → Option Seat) (x : Makes) (m : Member) → member_made live x ≡ Some m → NotIn t m.seekers
 joins_seeks t live (makes.Consumer j) m e =
-    subst (λ n. NotIn t n.seekers) (some_is e) (on_seeks t j.link (url_at (live j.link)) (reader.fresh (setup_of j)) (none_seeks t))
+    subst (λ n. NotIn t n.seekers) (some_is e) (on_seeks t j.link (url_at (live j.link)) (reader.fresh (setup_of j)))
 joins_seeks t live (makes.RawConsumer l made) m e =
-    subst (λ n. NotIn t n.seekers) (some_is e) (on_seeks t l (url_at (live l)) (reader.fresh (reader.of_raw made)) (none_seeks t))
+    subst (λ n. NotIn t n.seekers) (some_is e) (on_seeks t l (url_at (live l)) (reader.fresh (reader.of_raw made)))
 joins_seeks t live makes.Nothing m e = absurd cc
 joins_seeks t live makes.Client m e = absurd cc
 joins_seeks t live (makes.Producer b) m e = absurd cc

@@ -15,6 +15,9 @@ returns-in-OfTopic-clause-sees c = rw c.in-OfTopic.is c.asks_topic.ensures.sees
 pub returns-in-Number-clause-sees : goal.returns-in-Number-clause-sees
 returns-in-Number-clause-sees c = rw c.in-Number.is c.numbers.ensures.sees
 
+pub returns-in-Hold-clause-sees : goal.returns-in-Hold-clause-sees
+returns-in-Hold-clause-sees c = rw c.in-Hold.is c.holds.ensures.sees
+
 pub returns-in-Shut-clause-sees : goal.returns-in-Shut-clause-sees
 returns-in-Shut-clause-sees c = rw c.in-Shut.is c.shuts.ensures.sees
 

@@ -427,11 +427,12 @@ consumers_left (who.Producer n) cs = cs
 
 -- WHAT IS DONE TO A CONSUMER
 
--- what one gives that is asked
+-- where a link goes that an ask names, where that has not ended
 abbrev pub url_on : (ℕ → Option Seat) → Option ℕ → Option Parts
 url_on live None = None
 url_on live (Some l) = url_at (live l)
 
+-- and what one gives that is asked
 abbrev pub consumer_asked : View → Who → ConsumerAsk → of_consumer.Given
 consumer_asked v who ask = of_consumer.asked_in v.consumers (ticket_asked who ask) who (url_on v.links.live (link_asked ask)) ask
 

@@ -1,6 +1,6 @@
 -- What arises from acts for the consumers of a client: what calls on them begin, what plans are told at once, and whom an act serves.
 -- (Pulsar binary protocol, Consumer)
-use Rattle.std.specs.Prelude.{ℕ, Bool, if◌then◌else◌, List, [], ◌∷◌, map, Option, Some, None}
+use Rattle.std.specs.Prelude.{ℕ, List, [], ◌∷◌, map, Option, Some, None}
 use Rattle.std.specs.Option.{option_to_list}
 use Rattle.pulsar_messages.specs.Words.{Words}
 use Rattle.pulsar_wire.specs.Failures.{Exhausted}

@@ -53,6 +53,10 @@ pub record StandsFor {X : Type 0} {d : X → Type 0} (routes : DynBox X Global d
   pub drawn : (t : ℕ) → is_in t taken ≡ true → t < tickets_in history
   pub whole : c.failed ≡ false
 
+-- A client that is recorded stands for its history, whichever answers were taken: they stand in the record.
+abbrev pub IsRecorded : {X : Type 0} {d : X → Type 0} → (routes : DynBox X Global d → Policy) → Options → Pulsar X d → List Step → Type 0
+IsRecorded routes o c h = (taken : List ℕ) × StandsFor routes o c h taken
+
 -- so it is for each history that the client stands for
 abbrev pub Always : {X : Type 0} {d : X → Type 0} → (routes : DynBox X Global d → Policy) → Pulsar X d → (Options → List Step → List ℕ → Type 0) → Type 0
 Always routes c P = (o : Options) (h : List Step) (taken : List ℕ) → StandsFor routes o c h taken → P o h taken

@@ -1,11 +1,13 @@
 //! The client as whoever records it sees it.
 
-ghost use Rattle.std.specs.Prelude.{[], ◌≡◌, ◌↔◌, IsTrue, map};
+ghost use Rattle.std.specs.Prelude.{◌≡◌, ◌↔◌, ℕ, IsTrue, List, map};
 ghost use Rattle.pulsar_acts.specs.Run.{Good, view};
 ghost use Rattle.pulsar_acts.specs.View.{Waits};
 ghost use Rattle.pulsar_links.specs.Seats.{has_ended};
+ghost use Rattle.pulsar_machine.specs.Options.{Options};
 ghost use Rattle.pulsar_client.specs.Client as meaning;
-ghost use Rattle.pulsar_client.specs.Client.{StandsFor, options_of};
+ghost use Rattle.pulsar_client.specs.Client.{IsRecorded, options_of};
+ghost use Rattle.pulsar_calls.specs.Steps.{Step};
 
 use crate::options::ClientOptions;
 use crate::pulsar::Pulsar;
@@ -32,15 +34,16 @@ impl Machine for Pulsar {
 
     ghost says_waits = { λ o h link b. (g : Good o h) → IsTrue b ↔ Waits link (view o g.log) };
 
-    // nobody takes answers of a client that is recorded
-    ghost stands = { λ o c h. StandsFor (λ p. (CustomRoutingPolicy-box p).routes p.value) o c h [] };
+    ghost stands = { λ o c h. IsRecorded (λ p. (CustomRoutingPolicy-box p).routes p.value) o c h };
 
     fn new(alloc: Global, options: ClientOptions) -> Result<Pulsar, NoMemory> {
         Pulsar::new(alloc, options)
     }
 
     fn step(&mut self, event: Event) -> Result<Vec<Effect>, NoMemory> {
-        Pulsar::step(self, event)
+        let effects = Pulsar::step(self, event)?;
+        self.let_go(&effects);
+        Ok(effects)
     }
 
     fn options(&self) -> &ClientOptions {
@@ -55,9 +58,31 @@ impl Machine for Pulsar {
         Pulsar::link_waits(self, link)
     }
 
-    ghost made = { λ o c h s. s.made };
+    ghost made = { λ o c h s. s.1.made };
 
-    ghost legal = { λ o c h s. record { log = s.stands.log; run = s.stands.run; rests = s.stands.rests; same = s.stands.same } };
+    ghost legal = { λ o c h s. record { log = s.1.stands.log; run = s.1.stands.run; rests = s.1.stands.rests; same = s.1.stands.same } };
+}
+
+impl Pulsar {
+    /// The answers of these effects are let go: whoever records a client has them in the effects.
+    fn let_go(&mut self, effects: &[Effect])
+        ensures stands { (o : Options) (h : List Step) → IsRecorded (λ p. routes p) o self.old h → IsRecorded (λ p. routes p) o self.new h }
+        ensures options { options_of self.new ≡ options_of self.old }
+    {
+        for effect in effects {
+            self.forget(effect);
+        }
+    }
+
+    /// The answer of a call that has ended is let go.
+    fn forget(&mut self, effect: &Effect)
+        ensures stands { (o : Options) (h : List Step) → IsRecorded (λ p. routes p) o self.old h → IsRecorded (λ p. routes p) o self.new h }
+        ensures options { options_of self.new ≡ options_of self.old }
+    {
+        if let Effect::Ended { ticket, answer: _ } = effect {
+            drop(self.take_answer(*ticket));
+        }
+    }
 }
 
 impl FromUrl for Pulsar {

@@ -97,17 +97,40 @@ fn another_host_is_no_broker(rt: HostRuntime) -> Result<(), Fail> {
 #[test]
 fn a_port_where_nobody_listens(rt: HostRuntime) -> Result<(), Fail> {
     let alloc = rt.alloc();
-    let edge = MemoryEdge::new(alloc, Vec::new(alloc), 0, 60_000);
-    let mut edge = FailingEdge::new(edge, Vec::new(alloc), Some(IoKind::ConnectionRefused));
-    let (status, out) = printed(
-        &rt,
-        alloc,
+    for line in [
         "produce pulsar://127.0.0.1:6650 t",
-        b"a\nb\n",
-        &mut edge,
-    )?;
-    assert_eq!(rt; out.as_str(), "failed connection.io refused\n");
-    assert_eq!(rt; status, FAILED);
+        "consume pulsar://127.0.0.1:6650 t s 1",
+    ] {
+        let edge = MemoryEdge::new(alloc, Vec::new(alloc), 0, 60_000);
+        let mut edge = FailingEdge::new(edge, Vec::new(alloc), Some(IoKind::ConnectionRefused));
+        let (status, out) = printed(&rt, alloc, line, b"a\nb\n", &mut edge)?;
+        assert_eq!(rt; out.as_str(), "failed connection.io refused\n");
+        assert_eq!(rt; status, FAILED);
+    }
+    Ok(())
+}
+
+/// Three lines, of which the third waits until another has its receipt.
+fn long_lines(alloc: Global) -> Result<Vec<u8>, AllocError> {
+    let mut text = Vec::new(alloc);
+    for _ in 0..3 {
+        let end = text.len().saturating_add(2_097_152);
+        text.resize(end, b'a')?;
+        text.push(b'\n')?;
+    }
+    Ok(text)
+}
+
+#[test]
+fn a_line_waits_for_those_on_their_way(rt: HostRuntime) -> Result<(), Fail> {
+    let alloc = rt.alloc();
+    let host = Host::new(alloc, URL, "127.0.0.1", 6650)?;
+    let mut edge = BrokerEdge::new(&rt, alloc, &host);
+    let text = long_lines(alloc)?;
+    let line = "produce pulsar://127.0.0.1:6650 t";
+    let (status, out) = printed(&rt, alloc, line, &text, &mut edge)?;
+    assert_eq!(rt; out.as_str(), "sent 0:0\nsent 0:1\nsent 0:2\ndone 3\n");
+    assert_eq!(rt; status, DONE);
     Ok(())
 }
 

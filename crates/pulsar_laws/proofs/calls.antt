@@ -23,3 +23,4 @@ pub mod Idlers
 pub mod Causes
 pub mod Tellers
 pub mod Untold
+pub mod Whereabouts

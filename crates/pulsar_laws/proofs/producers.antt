@@ -20,6 +20,10 @@ pub mod OnceSent
 pub mod Rise
 pub mod TurnActs
 pub mod TurnRun
+pub mod OneAtATime
+pub mod Owed
+pub mod Since
+pub mod Spotting
 pub mod Users
 pub mod Reread
 pub mod Texts

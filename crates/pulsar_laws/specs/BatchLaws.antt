@@ -8,6 +8,7 @@ use Rattle.pulsar_wire.specs.Sink.{capped}
 use Rattle.pulsar_wire.specs.declared.key.RequestKey.TheVariants as key
 use Rattle.pulsar_messages.specs.Content.{ProducerMessageValues}
 use Rattle.pulsar_messages.specs.Words as words
+use Rattle.pulsar_messages.specs.Words.{Words}
 use Rattle.pulsar_searches.specs.declared.turn.Ways.{Ways}
 use Rattle.pulsar_wire.specs.Failures.{Failure, Shutdown}
 use Rattle.pulsar_wire.specs.declared.error.Reason.{Reason}
@@ -25,7 +26,9 @@ use Rattle.pulsar_outgoing.specs.declared.news.News.TheVariants as news
 use Rattle.pulsar_outgoing.specs.declared.orders.Errand.{Errand}
 use Rattle.pulsar_outgoing.specs.declared.orders.ProducerOrder.{ProducerOrder}
 use Rattle.pulsar_calls.specs.declared.act.Act.TheVariants.{Answers, Comes, Starts, Told, Does}
-use Rattle.pulsar_calls.specs.declared.act.Action.TheVariants.{OfTopic, Ask, Shut, TellAll}
+use Rattle.pulsar_calls.specs.declared.act.Action.{Action}
+use Rattle.pulsar_calls.specs.declared.act.Action.TheVariants.{OfTopic, Ask, Get, Shut, TellAll, Wait}
+use Rattle.pulsar_calls.specs.declared.act.Alarm.TheVariants.{Wake}
 use Rattle.pulsar_calls.specs.declared.act.TopicAsk.TheVariants.{Store, TakeBatch}
 use Rattle.pulsar_calls.specs.declared.act.Makes.TheVariants.{Nothing}
 use Rattle.pulsar_calls.specs.declared.act.Notice.{Notice}
@@ -46,6 +49,9 @@ use Rattle.pulsar_laws.specs.ProducerLaws.{acts_on, asks_in, is_queued, queued_t
 use Rattle.pulsar_producer_table.specs.Producers.{is_bare, next_batch_at, numbers_at, stored_at, timeout_at}
 use Rattle.pulsar_acts.specs.Rules.{call_part, notice, ready_notice}
 use Rattle.pulsar_acts.specs.Run.{Entry, Then, IsRun, Rests, view}
+use Rattle.pulsar_acts.specs.View.{View}
+use Rattle.pulsar_links.specs.Alarms.{moment_of}
+use Rattle.pulsar_links.specs.Seats.{Seat}
 use Rattle.pulsar_machine.specs.Options.{Options}
 use Rattle.pulsar_calls.specs.Who.{behind_all, is_same}
 
@@ -73,6 +79,26 @@ abbrev pub BatchesOneByOne : Type 0
 BatchesOneByOne = (o : Options) (log : List Entry) (n m : ℕ) → IsRun o (Then (Does (Producer n) (OfTopic m TakeBatch)) ∷ log) →
     (m ≡ n) × (under_way o n log ≡ None) × MayTake n log
 
+-- ONE THING AT A TIME
+
+-- it waits for no reply, for the link of no address, and for no moment
+abbrev pub WaitsForNothing : Who → View → Type 0
+WaitsForNothing who v =
+    ((l place : ℕ) (seat : Seat) → v.links.live l ≡ Some seat → seat.askers place ≡ Some who → ⊥)
+    × ((key : List ℕ) → In who (v.addresses.base key).waiting → ⊥) × (moment_of (Wake who) v.alarms ≡ None)
+
+-- what comes from others, or with time
+abbrev pub asks_others : Action → Bool
+asks_others (Get p) = true
+asks_others (Ask l request) = true
+asks_others (Wait delay) = true
+asks_others _ = false
+
+-- A topic producer waits for one thing at a time: as it asks for something it waits for nothing else.
+abbrev pub OneThingAtATime : Type 0
+OneThingAtATime = (o : Options) (log : List Entry) (n : ℕ) (a : Action) → IsRun o (Then (Does (Producer n) a) ∷ log) → asks_others a ≡ true →
+    WaitsForNothing (Producer n) (view o log)
+
 -- WHAT BECOMES OF A BATCH
 
 -- how often a frame was queued for the batch that was taken last
@@ -88,11 +114,16 @@ frames_queued o n (Then (Told x) ∷ log) =
 frames_queued o n (Then (Does who (OfTopic m TakeBatch)) ∷ log) = if is_same (Producer n) who then 0 else frames_queued o n log
 frames_queued o n (_ ∷ log) = frames_queued o n log
 
--- the one who is told what becomes of a batch asked for a frame that bears this number
-abbrev pub AskedAs : (number sequence : ℕ) → List Entry → Type 0
-AskedAs n s log =
-    (l : ℕ) × (name : List ℕ) × (m : ProducerMessageValues) × (block : Bool)
-    × In (Then (Does (Producer n) (Ask l (words.Send n name s m block)))) log
+-- what a topic producer asked for last, since it took a batch
+abbrev pub asked_last : (number : ℕ) → List Entry → Option Words
+asked_last n [] = None
+asked_last n (Then (Does who (Ask l request)) ∷ log) = if is_same (Producer n) who then Some request else asked_last n log
+asked_last n (Then (Does who (OfTopic m TakeBatch)) ∷ log) = if is_same (Producer n) who then None else asked_last n log
+asked_last n (_ ∷ log) = asked_last n log
+
+-- since it took this batch it asked for a frame that bears this number, and for nothing behind that
+abbrev pub AskedSince : (number sequence : ℕ) → List Entry → Type 0
+AskedSince n s log = (name : List ℕ) × (m : ProducerMessageValues) × (block : Bool) × (asked_last n log ≡ Some (words.Send n name s m block))
 
 -- what a topic producer was told since it took a batch, newest first
 abbrev pub told_since : (number : ℕ) → List Entry → List Outcome
@@ -108,16 +139,21 @@ FailedSo n log items cause =
     (w : Ways) × (e : Errand) × (m : ProducerMessageValues) × (e.producer ≡ n) × (batch_of (entries_in items) ≡ Ok m)
     × FailsSo (procedure.Send w e None m) (told_since n log) cause
 
--- its frame was queued, once, and a receipt came for one that its topic producer asked for; or its send failed, for this cause; or it could not be
--- written; or the client was stopped; or there was no message in it
+-- its frame was queued, once, and its receipt came: that of the one that its topic producer asked for since it took this batch; or its send
+-- failed, for this cause; or it could not be written; or the client was stopped; or there was no message in it
 abbrev pub IsFateOf : Options → (number : ℕ) → List Entry → List Item → Outcome → Fate → Type 0
 IsFateOf o n log items u f =
     ((r : Reply) × (s : ℕ) × (u ≡ outcome.Replied r) × (is_body 7 r.content.body ≡ true) × (r.content.key ≡ Some (key.ProducerSend n s))
-    × AskedAs n s log × (frames_queued o n log ≡ 1) × (f ≡ receipt_fate r.content))
+    × AskedSince n s log × (frames_queued o n log ≡ 1) × (f ≡ receipt_fate r.content))
     ⊎ ((cause : Failure) × FailedSo n log items cause × (f ≡ failed cause))
     ⊎ ((r : Reason) × (batch_of (entries_in items) ≡ Err r) × (f ≡ not_written r))
     ⊎ ((overrides u ≡ true) × (f ≡ fate.Halted))
     ⊎ ((entries_in items ≡ []) × (f ≡ fate.Flushed))
+
+-- A receipt that a topic producer is told is that of the frame that it asked for since it took its batch. So none of an earlier batch settles it.
+abbrev pub ReceiptsOfBatches : Type 0
+ReceiptsOfBatches = (o : Options) (log : List Entry) (n : ℕ) (r : Reply) → IsRun o (Then (Told (notice (Producer n) (outcome.Replied r))) ∷ log) →
+    is_body 7 r.content.body ≡ true → (s : ℕ) × (r.content.key ≡ Some (key.ProducerSend n s)) × AskedSince n s log
 
 -- Those of a batch are told together, right behind what its producer is told of it: each what became of its message, with its place in the
 -- batch and the count of its messages. Where the client is stopped while its frame waits for a receipt, its messages are lost.

@@ -1,15 +1,25 @@
 //! What follows of the batches of producers from the definition of a good run: each contract is a law, and its body is empty.
 
-ghost use Rattle.pulsar_laws.specs.BatchLaws.{BatchSentOnce, BatchesByItsOptions, BatchesOneByOne, ClosedWithTheProducer, EachSentOnce, FlushesWait, FramesOfBatches, MembersAreTold, NumbersOfAllFramesRise, QueuedIsWaitedFor, StoredAtOnce, StoredEndsByItsBatch};
+ghost use Rattle.pulsar_laws.specs.BatchLaws.{BatchSentOnce, BatchesByItsOptions, BatchesOneByOne, ClosedWithTheProducer, EachSentOnce, FlushesWait, FramesOfBatches, MembersAreTold, NumbersOfAllFramesRise, OneThingAtATime, QueuedIsWaitedFor, ReceiptsOfBatches, StoredAtOnce, StoredEndsByItsBatch};
 
 /// A topic producer takes its next batch once all of the one before were told, so that one is under way at a time.
 pub fn batches_one_by_one()
     ensures { BatchesOneByOne }
 {}
 
+/// A topic producer waits for one thing at a time: as it asks for something it waits for nothing else.
+pub fn one_thing_at_a_time()
+    ensures { OneThingAtATime }
+{}
+
 /// Those of a batch are told what became of it, each with its place in the batch and the count of its messages.
 pub fn members_are_told()
     ensures { MembersAreTold }
+{}
+
+/// A receipt that a topic producer is told is that of the frame that it asked for since it took its batch: none of an earlier batch settles it.
+pub fn receipts_of_batches()
+    ensures { ReceiptsOfBatches }
 {}
 
 /// A batch whose frame was queued is settled by what becomes of that, and by nothing that its topic producer is granted.

@@ -81,7 +81,8 @@ fn copy_handed(handed: &Handed) -> Result<Handed, NoMemory>
 pub fn copy_effects(alloc: Global, effects: &[Effect]) -> Result<Vec<Effect>, NoMemory>
     ensures { IfOk result (λ v. map shown v.items ≡ map shown effects.now) }
 {
-    let mut all = Vec::new(alloc);
+    // a trace keeps it, so it takes no room that is not used
+    let mut all = Vec::with_capacity(alloc, effects.len())?;
     for effect in effects {
         all.push(copy_effect(alloc, effect)?)?;
     }

@@ -59,13 +59,13 @@ IsNext w p next.Poll = Unit {0}
 IsNext w p next.Stop = Stops w p
 IsNext w p next.Nothing = Unit {0}
 
--- the next line is sent, or the end has come
-abbrev pub IsSend : List (List ℕ) → (calls : ℕ) → (have_all_ended : Bool) → Next → Type 0
-IsSend lines calls have_all_ended (next.Call c) = slice_get (sends lines) (calls - 2) ≡ Some (asked c)
-IsSend lines calls have_all_ended next.Stop = (length lines ≤ calls - 2) × (have_all_ended ≡ true)
-IsSend lines calls have_all_ended next.Nothing = Unit {0}
-IsSend lines calls have_all_ended (next.Ack c) = ⊥
-IsSend lines calls have_all_ended next.Poll = ⊥
+-- the next line is sent, or the end has come; a line waits only while others that were sent have not ended
+abbrev pub IsSend : List (List ℕ) → (calls waiting : ℕ) → (have_all_ended : Bool) → Next → Type 0
+IsSend lines calls waiting have_all_ended (next.Call c) = slice_get (sends lines) (calls - 2) ≡ Some (asked c)
+IsSend lines calls waiting have_all_ended next.Stop = (length lines ≤ calls - 2) × (have_all_ended ≡ true)
+IsSend lines calls waiting have_all_ended next.Nothing = (length lines ≤ calls - 2) ⊎ (1 ≤ waiting)
+IsSend lines calls waiting have_all_ended (next.Ack c) = ⊥
+IsSend lines calls waiting have_all_ended next.Poll = ⊥
 
 -- an item is acknowledged, or the next one is asked for, or the end has come
 abbrev pub IsTake : (count : ℕ) → Progress → Next → Type 0

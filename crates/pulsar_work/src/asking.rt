@@ -1,6 +1,6 @@
 //! The calls of `produce` and of `consume`.
 
-ghost use Rattle.std.specs.Prelude.{◌≡◌, ◌∷◌, [], if◌then◌else◌, IfOk, Some, map};
+ghost use Rattle.std.specs.Prelude.{◌≡◌, ◌∷◌, [], if◌then◌else◌, IfOk, Some, map, true};
 ghost use Rattle.pulsar_outgoing.specs.Wanted.{producer_wanted};
 ghost use Rattle.pulsar_incoming.specs.Content.{consumer_wanted};
 ghost use Rattle.pulsar_calls.specs.Content.{asked};
@@ -37,6 +37,12 @@ pub enum Task {
 
 /// The ticket of the producer, or of the consumer. The Build has ticket 0.
 pub const MADE: u64 = 1;
+
+/// So many bytes are on their way to the broker at most, of lines of one length.
+const ON_THE_WAY: usize = 4 * 1024 * 1024;
+
+/// What a line takes on its way, beside its bytes.
+const FIELDS: usize = 1024;
 
 /// What a job does next.
 #[derive(Debug, Drop)]
@@ -75,7 +81,13 @@ pub fn what_next(alloc: Global, task: &Task, progress: &Progress) -> Result<Next
         return Ok(Next::Nothing);
     }
     match task {
-        Task::Produce { topic: _, lines } => send(alloc, lines, calls, progress.have_all_ended()),
+        Task::Produce { topic: _, lines } => send(
+            alloc,
+            lines,
+            calls,
+            progress.waiting(),
+            progress.have_all_ended(),
+        ),
         Task::Consume {
             topic: _,
             subscription: _,
@@ -126,24 +138,37 @@ fn consumer(alloc: Global, topic: &str, subscription: &str) -> Result<ConsumerBu
     )
 }
 
-/// The next line is sent. When all have ended, the work is done.
+/// The next line is sent, while so many have no receipt yet. When all have ended, the work is done.
 fn send(
     alloc: Global,
     lines: &[Vec<u8>],
     calls: u64,
+    waiting: usize,
     have_all_ended: bool,
 ) -> Result<Next, NoMemory>
-    ensures { IfOk result (λ n. IsSend (map (λ line. line.items) lines.now) calls have_all_ended n) }
+    ensures { IfOk result (λ n. IsSend (map (λ line. line.items) lines.now) calls waiting have_all_ended n) }
 {
     let sent = calls.saturating_sub(2) as usize;
     if sent < lines.len() {
-        let message = message_from_bytes(alloc, &lines[sent])?;
+        let line = &lines[sent];
+        if !has_room(waiting, line.len()) {
+            return Ok(Next::Nothing);
+        }
+        let message = message_from_bytes(alloc, line)?;
         return Ok(Next::Call(Call::Send {
             producer: MADE,
             message,
         }));
     }
     Ok(stop_at_the_end(have_all_ended))
+}
+
+/// A line of this length may join so many that are on their way. So what waits is bounded, and so is the time of a turn, in which the deadlines
+/// of what was sent already run.
+fn has_room(waiting: usize, length: usize) -> bool
+    ensures { (waiting ≡ 0) → result ≡ true }
+{
+    waiting == 0 || waiting.saturating_mul(length.saturating_add(FIELDS)) <= ON_THE_WAY
 }
 
 /// The item that was given is acknowledged, or the next one is asked for. There are never more items than were asked for.

@@ -1,6 +1,6 @@
 //! How far a job is, by the effects of its client.
 
-ghost use Rattle.std.specs.Prelude.{◌≡◌, ◌↔◌, ◌+◌, ◌<◌, ◌≤◌, ◌++◌, ◌∷◌, [], ℕ, Bool, true, false, List, None, Some, Ok, IfOk, IsTrue, OnOk, length, map, slice_get, string_bytes};
+ghost use Rattle.std.specs.Prelude.{◌≡◌, ◌↔◌, ◌+◌, ◌-◌, ◌<◌, ◌≤◌, ◌++◌, ◌∷◌, [], ℕ, Bool, true, false, List, None, Some, Ok, IfOk, IsTrue, OnOk, length, map, slice_get, string_bytes};
 ghost use Rattle.pulsar_calls.specs.Content.{Asked, Connect, Ends, Said, Shown, hands, shown};
 ghost use Rattle.pulsar_wire.specs.Failures.{Failure};
 ghost use Rattle.pulsar_work.specs.Calls.{ack_of, is_failure, item_of};
@@ -127,6 +127,13 @@ impl Progress {
         ensures { IsTrue result ↔ (length self.now.ended.items ≤ self.now.first_open) }
     {
         self.first_open >= self.ended.len()
+    }
+
+    /// So many calls have not ended, where they end in the order in which they were made.
+    pub fn waiting(&self) -> usize
+        ensures { result ≡ length self.now.ended.items - self.now.first_open }
+    {
+        self.ended.len().saturating_sub(self.first_open)
     }
 
     /// A call is made: it has the next ticket.

@@ -1,57 +1,39 @@
 -- One that does nothing but to store and to tell waits for no link, request or moment. One that does nothing at all is told only what parts of
 -- calls say.
-use Rattle.std.proofs.Common.{◌≡◌, ◌⊎◌, inl, inr, ◌∙◌, sym, ap, subst, ℕ, ◌≤◌, ◌==◌, List, [], ◌∷◌, ◌++◌, refl, Bool, true, false, cond, not, Option, Some, None, ◌&&◌}
+use Rattle.std.proofs.Common.{◌≡◌, ◌⊎◌, inl, inr, ◌∙◌, sym, ap, subst, ℕ, ◌≤◌, ◌==◌, arith, List, [], ◌∷◌, refl, Bool, true, false, not, Option, Some, None}
 use Rattle.std.proofs.lemmas.Bool.{cases_Bool}
-use Rattle.std.specs.BTreeMap.{insert_entry}
-use Rattle.std.specs.Map.{lookup}
 use Rattle.std.specs.Option.{option_map}
-use Rattle.std.specs.Ordering.{match_ordering}
-use Rattle.std.specs.declared.cmp.Ordering.{Ordering}
-use Rattle.std.specs.declared.cmp.Ordering.TheVariants.{Less, Equal, Greater}
-use Rattle.pulsar_laws.proofs.ActWords.{Act, Action, Alarm, Answers, Arrival, Ask, Batch, Bytes, Call, CheckIdle, Comes, Consumer, Dials, Does, Drains, Draw, Ends, Find, FindConsumer, Flush, Get, Heard, KeepAlive, LinkAct, Makes, Number, OfTopic, Opens, Outcome, Pings, Producer, Reads, Recall, RecallConsumer, Rest, Retry, Rings, Shut, StopAll, Store, TakeNumber, TakeTurn, Tell, TellAll, ToLink, Told, Wait, Wake, Who, Word, is_same, ticket_of, turn_of, OfConsumer}
+use Rattle.pulsar_laws.proofs.ActWords.{Act, Action, Ask, Call, Consumer, Does, Draw, Find, FindConsumer, Flush, Get, Number, OfTopic, Outcome, Producer, Recall, RecallConsumer, Rest, Store, TakeNumber, TakeTurn, Tell, TellAll, Told, Wait, Who, Word, is_same, ticket_of, turn_of, OfConsumer}
 use Rattle.pulsar_laws.proofs.PlanWords.{News}
-use Rattle.pulsar_laws.proofs.RunWords.{after, Begins, begun_live, Cause, Chosen, consumers_after, counted, Each, Entry, In, InThisStep, is_live, IsRun, link_got, live_begun, notice, Options, setup_of, start_of, Then, turned, Turned, view, View}
-use Rattle.pulsar_laws.proofs.LinkWords.{Addresses, Base, Becomes, Change, Exhausted, Failure, Fault, got_at, is_body, IsOver, Nobody, Pause, Pauses, Place, Remains, Reply, rings, Runs, Seat, seat_asked, seat_fed, seat_got, Series, Serves, took_end, took_some, url_at, Words}
+use Rattle.pulsar_laws.proofs.RunWords.{Begins, begun_same, Cause, counted, Entry, In, InThisStep, IsRun, notice, Options, start_of, Then, view, View}
+use Rattle.pulsar_laws.proofs.LinkWords.{Exhausted, Failure, Fault, Place, Seat, Words}
 use Rattle.pulsar_wire.specs.Failures.{Disconnected}
 use Rattle.pulsar_messages.specs.Claims.{is_spent}
 use Rattle.pulsar_producer.specs.Topic as topic
-use Rattle.pulsar_producer.specs.Topic.{Act as TopicAct}
 use Rattle.pulsar_outgoing.specs.declared.news.News.TheVariants as news
 use Rattle.pulsar_requests.specs.Soonest.{has_come}
 use Rattle.pulsar_calls.specs.declared.act.Outcome.TheVariants as outcome
 use Rattle.pulsar_calls.specs.declared.act.Procedure.TheVariants as procedure
 use Rattle.pulsar_producer_table.specs.declared.table.Topic.{Topic}
-use Rattle.pulsar_links.specs.Alarms.{alarm_cmp, clear, is_same_alarm, moment_of, set}
-use Rattle.pulsar_laws.proofs.Lists.{in_append, in_each}
-use Rattle.pulsar_laws.proofs.Cases.{cond_so, none_some, some_is}
+use Rattle.pulsar_laws.proofs.Lists.{in_each}
+use Rattle.pulsar_laws.proofs.Cases.{none_some}
 use Rattle.pulsar_laws.proofs.calls.Causes.{IsToldBy}
 use Rattle.pulsar_laws.specs.Laws.{Acts, AttemptEnds, BecomesReady, DrawsNone, Finds, GetsTurn, GrantsSo, IsDropped, IsReady, IsReplied, IsUnknown, IsWoken, LineEnds, MovesUp, RequestEnds, IsServedAs, SaysSo, WordComes}
-use Rattle.pulsar_producer_table.specs.Producers.{is_bare, numbers_at, stored_at, timeout_at, topic_after, turn_passed}
-use Rattle.pulsar_acts.specs.View.{alarms_after, alarms_on, alarms_on_topic, alarms_over, alarms_rung, alarms_turned, alarms_waiting, base_after, base_on, clear_all, live_after, waits_for, waits_from, waits_on, member_made}
-use Rattle.pulsar_links.specs.Seats.{asker_at, base_turned, nobody}
+use Rattle.pulsar_producer_table.specs.Producers.{stored_at, turn_passed}
 use Rattle.pulsar_calls.specs.Who.{behind_all, in_turn}
 use Rattle.pulsar_laws.proofs.calls.Caused.{outcomes_are_caused_lem}
 use Rattle.pulsar_laws.proofs.plans.Fitting.{is_said}
 use Rattle.pulsar_laws.proofs.calls.Gathered.{GatherTold}
 use Rattle.pulsar_laws.proofs.plans.Granted.{tell_said}
 use Rattle.pulsar_laws.proofs.calls.Once.{ends_once_lem}
-use Rattle.pulsar_links.proofs.Ringing.{is_this}
 use Rattle.pulsar_laws.proofs.calls.Sources.{step_some}
+use Rattle.pulsar_laws.proofs.calls.Whereabouts.{ApartBy, Asker, Away, NoFind, Somewhere, begun_there, goes_nowhere, moment_none, not_among, seekers_absent, then_there}
 use Rattle.pulsar_laws.proofs.plans.Spots.{same_self}
 use Rattle.pulsar_laws.proofs.calls.Begun.{has_begun}
 use Rattle.pulsar_laws.proofs.producers.Users.{DoesSo, LogSo, NoticeSo, stored_so, tells_so, waits_so}
-use Rattle.pulsar_calls.specs.declared.act.Arrival.TheVariants as arrivals
-use Rattle.pulsar_calls.specs.declared.act.Makes.TheVariants as makes
 use Rattle.pulsar_calls.specs.declared.act.Word.TheVariants as word
-use Rattle.url.specs.Parts.{Parts}
-use Rattle.pulsar_consumer.specs.Frames.{frame_in}
-use Rattle.pulsar_consumer.specs.Topic as reader
-use Rattle.pulsar_incoming.specs.declared.polled.Ending.TheVariants.{Closed, TopicEnded}
 use Rattle.pulsar_consumer_table.specs.Consumers as consumer
-use Rattle.pulsar_consumer_table.specs.Consumers.{Arrives, ClientStops, CloseAsked, Deed, FlowTaken, IsPolled, IsSought, LinkEnds, Member, NotRevived, Revived, member_by}
-use Rattle.pulsar_consumer_table.specs.declared.row.Sought.{Sought}
-use Rattle.pulsar_consumer_table.specs.declared.row.Sought.TheVariants.{Found, Gone, Later}
-use Rattle.pulsar_laws.proofs.consumers.Members.{CameFrom, after_holds}
+use Rattle.pulsar_consumer_table.specs.Consumers.{Member}
 use Rattle.pulsar_laws.proofs.calls.IdleCalls.{Mute, MuteBy, mute_older, only_start, mute_run}
 
 -- ONE THAT IS IDLE
@@ -88,21 +70,9 @@ mute_idle t (Then a ∷ log) k = (idle_by t a k.0, mute_idle t log k.1)
 
 -- WHERE IT DOES NOT WAIT
 
-abbrev NotIn : ℕ → List Who → Type 0
-NotIn t ws = In (Call t) ws → ⊥
-
-abbrev AskerFree : ℕ → Option Seat → Type 0
-AskerFree t None = Unit {0}
-AskerFree t (Some seat) = (place : ℕ) → seat.askers place ≡ Some (Call t) → ⊥
-
-abbrev NotWake : ℕ → Alarm × ℕ → Type 0
-NotWake t e = is_same_alarm (Wake (Call t)) e.0 ≡ false
-
 record Absent (t : ℕ) (v : View) : Type 0 where
-  base : (key : List ℕ) → NotIn t (v.addresses.base key).waiting
-  asker : (l : ℕ) → AskerFree t (v.links.live l)
-  alarm : Each (NotWake t) v.alarms
-  seeker : (u : ℕ) → NotIn t (consumer.seekers_at (v.consumers.rows u))
+  place : Somewhere (Call t) (λ l p. ⊥) (λ key. 0) ⊥ v
+  seeker : (u : ℕ) → Away (Call t) (consumer.seekers_at (v.consumers.rows u))
 
 other_does : (t : ℕ) (who : Who) (a : Action) → MuteBy t (Does who a) → (a ≡ Rest → ⊥) → Call t ≡ who → ⊥
 other_does t who a mute not same = not (mute (subst (λ w. is_same (Call t) w ≡ true) same (same_self (Call t))))
@@ -112,251 +82,40 @@ other_idle t who a idle not same =
     let f : false ≡ true = sym not ∙ idle (subst (λ w. is_same (Call t) w ≡ true) same (same_self (Call t))) in
     absurd cc
 
--- addresses
-turned_absent : (t l : ℕ) (c : Change) (pause : Option Pause) (b : Base) → NotIn t b.waiting → NotIn t (base_turned l c pause b).waiting
-turned_absent t l Remains pause b h = h
-turned_absent t l Becomes pause b h = λ i. i
-turned_absent t l IsOver None b h = λ i. i
-turned_absent t l IsOver (Some p) b h = h
+idle_stays : (a : Action) → is_idle a ≡ true → goes_nowhere a ≡ true
+idle_stays (Get p) h = absurd cc
+idle_stays (Ask l request) h = absurd cc
+idle_stays (Wait delay) h = absurd cc
+idle_stays (OfConsumer (FindConsumer u)) h = absurd cc
+idle_stays _ h = refl
 
-on_absent : (t : ℕ) (r : Option Turned) (key : List ℕ) (b : Base) → NotIn t b.waiting → NotIn t (base_on r key b).waiting
-on_absent t None key b h = h
-on_absent t (Some x) key b h = cond_so (λ z. NotIn t z.waiting) _ (base_turned x.link x.change x.pause b) b (turned_absent t x.link x.change x.pause b h) h
+idle_apart : (t : ℕ) (a : Act) → IdleBy t a → ApartBy (Call t) a
+idle_apart t (Does who a) k = λ same. idle_stays a (k same)
+idle_apart t _ k = tt
 
-end_absent : (t : ℕ) (who : Who) (ws : List Who) → (Call t ≡ who → ⊥) → NotIn t ws → NotIn t (ws ++ who ∷ [])
-end_absent t who ws other h i = elim (in_append (Call t) ws (who ∷ []) i) [ inl j ↦ h j | inr j ↦ last j ]
-  where
-    last : In (Call t) (who ∷ []) → ⊥
-    last (inl e) = other e
-    last (inr j) = j
-
-waits_absent : (t : ℕ) (s : Series) (who : Who) (ws : List Who) → (Call t ≡ who → ⊥) → NotIn t ws → NotIn t (waits_for s who ws)
-waits_absent t Nobody who ws other h = end_absent t who ws other h
-waits_absent t (Runs starter retries l) who ws other h = end_absent t who ws other h
-waits_absent t (Pauses l) who ws other h = end_absent t who ws other h
-waits_absent t (Serves l) who ws other h = h
-
-base_absent : (t : ℕ) (v : View) (a : Act) (key : List ℕ) (b : Base) → IdleBy t a → NotIn t b.waiting → NotIn t (base_after v a key b).waiting
-base_absent t v (Comes (ToLink l x)) key b idle h = on_absent t (turned v (Comes (ToLink l x))) key b h
-base_absent t v (Does who (Get p)) key b idle h =
-    cond_so (λ z. NotIn t z.waiting) _ (record { series = b.series; waiting = waits_for b.series who b.waiting }) b
-    (waits_absent t b.series who b.waiting (other_idle t who (Get p) idle refl) h) h
-base_absent t v (Does who StopAll) key b idle h = cond_so (λ z. NotIn t z.waiting) (waits_on v.addresses v.alarms key) nobody b (λ i. i) h
-base_absent t v (Dials p starter retries) key b idle h = cond_so (λ z. NotIn t z.waiting) _ _ b h h
-base_absent t v _ key b idle h = h
-
--- links
-
-left_free : (c : Bool) (r : Option Who) (w : Who) → (r ≡ Some w → ⊥) → cond c None r ≡ Some w → ⊥
-left_free true r w h e = none_some e
-left_free false r w h e = h e
-
-end_free : (t : ℕ) (cause : Option Fault) (seat : Seat) → AskerFree t (Some seat) → AskerFree t (took_end cause seat)
-end_free t None seat h = h
-end_free t (Some cause) seat h = tt
-
-took_free : (t : ℕ) (x : LinkAct) (now : ℕ) (row : Option Seat) → AskerFree t row → AskerFree t (took_some x now row)
-took_free t x now None h = tt
-took_free t Opens now (Some seat) h = h
-took_free t Reads now (Some seat) h = λ place e. left_free _ (seat.askers place) (Call t) (h place) e
-took_free t (Drains most) now (Some seat) h = h
-took_free t Pings now (Some seat) h = h
-took_free t (Ends end) now (Some seat) h = end_free t _ seat h
-
-got_free : (t : ℕ) (k : Option ℕ) (now l : ℕ) (row : Option Seat) → AskerFree t row → AskerFree t (got_at k now l row)
-got_free t None now l row h = h
-got_free t (Some k) now l row h = cond_so (AskerFree t) (l == k) (option_map (seat_got now) row) row (by row h) h
-  where
-    by : (r : Option Seat) → AskerFree t r → AskerFree t (option_map (seat_got now) r)
-    by None h = tt
-    by (Some seat) h = h
-
-at_free : (t : ℕ) (is : Bool) (who : Who) (place : Option ℕ) (askers : ℕ → Option Who) → (Call t ≡ who → ⊥) → ((p : ℕ) → askers p ≡ Some (Call t) → ⊥) →
-    (p : ℕ) → asker_at is who place askers p ≡ Some (Call t) → ⊥
-at_free t is who None askers other h p e = h p e
-at_free t false who (Some place) askers other h p e = h p e
-at_free t true who (Some place) askers other h p e = elim (cases_Bool (p == place)) [
-  | inl q ↦ (let f : Some who ≡ Some (Call t) = rw q at e in other (let g : Call t ≡ who = cc in g))
-  | inr q ↦ h p (rw q at e)
-]
-
-live_absent : (t : ℕ) (o : Chosen) (known : Addresses) (now n : ℕ) (a : Act) (l : ℕ) (row : Option Seat) → IdleBy t a → AskerFree t row →
-    AskerFree t (live_after o known now n a l row)
-live_absent t o known now n (Comes (ToLink k x)) l row idle h = cond_so (AskerFree t) (l == k) (took_some x now row) row (took_free t x now row h) h
-live_absent t o known now n (Does who (Get p)) l row idle h = got_free t (link_got known (Does who (Get p))) now l row h
-live_absent t o known now n (Does who (Ask k request)) l row idle h =
-    cond_so (AskerFree t) (l == k) (option_map (seat_asked who now request) row) row (by row h) h
-  where
-    by : (r : Option Seat) → AskerFree t r → AskerFree t (option_map (seat_asked who now request) r)
-    by None h = tt
-    by (Some seat) h = at_free t _ who _ seat.askers (other_idle t who (Ask k request) idle refl) h
-live_absent t o known now n (Dials p starter retries) l row idle h = cond_so (AskerFree t) (l == n) _ row (λ place e. none_some e) h
-live_absent t o known now n _ l row idle h = h
-
-begun_free : (t : ℕ) (e : Heard) (l : ℕ) (row : Option Seat) → AskerFree t row → AskerFree t (live_begun e l row)
-begun_free t (Bytes k piece) l row h = cond_so (AskerFree t) (l == k) (option_map (seat_fed piece) row) row (by row h) h
-  where
-    by : (r : Option Seat) → AskerFree t r → AskerFree t (option_map (seat_fed piece) r)
-    by None h = tt
-    by (Some seat) h = h
-begun_free t _ l row h = h
-
--- alarms
-set_absent : (t : ℕ) (a : Alarm) (moment : ℕ) (es : List (Alarm × ℕ)) → is_same_alarm (Wake (Call t)) a ≡ false → Each (NotWake t) es →
-    Each (NotWake t) (set a moment es)
-set_absent t a moment [] n k = (n, tt)
-set_absent t a moment (e ∷ es) n k = by (alarm_cmp a e.0) (set_absent t a moment es n k.1)
-  where
-    by : (c : Ordering) → Each (NotWake t) (insert_entry alarm_cmp es a moment) →
-        Each (NotWake t) (match_ordering c ((a, moment) ∷ e ∷ es) ((e.0, moment) ∷ es) (e ∷ insert_entry alarm_cmp es a moment))
-    by Less more = (n, k)
-    by Equal more = (k.0, k.1)
-    by Greater more = (k.0, more)
-
-clear_absent : (t : ℕ) (a : Alarm) (es : List (Alarm × ℕ)) → Each (NotWake t) es → Each (NotWake t) (clear a es)
-clear_absent t a [] k = tt
-clear_absent t a (e ∷ es) k = elim (not (is_same_alarm a e.0)) as (λ b. Each (NotWake t) (cond b (e ∷ clear a es) (clear a es))) [
-  | true ↦ (k.0, clear_absent t a es k.1)
-  | false ↦ clear_absent t a es k.1
-]
-
-other_wake : (t : ℕ) (who : Who) → (Call t ≡ who → ⊥) → is_same_alarm (Wake (Call t)) (Wake who) ≡ false
-other_wake t who other = elim (cases_Bool (is_same_alarm (Wake (Call t)) (Wake who))) [
-  | inl e ↦ absurd (other (let f : Wake (Call t) ≡ Wake who = is_this (Wake (Call t)) (Wake who) e in let g : Call t ≡ who = cc in g))
-  | inr e ↦ e
-]
-
-over_absent : (t : ℕ) (o : Chosen) (now l : ℕ) (pause : Option Pause) (es : List (Alarm × ℕ)) → Each (NotWake t) es →
-    Each (NotWake t) (alarms_over o now l pause es)
-over_absent t o now l None es k = k
-over_absent t o now l (Some p) es k = set_absent t (Retry l) _ es refl k
-
-change_absent : (t : ℕ) (o : Chosen) (now l : ℕ) (c : Change) (pause : Option Pause) (es : List (Alarm × ℕ)) → Each (NotWake t) es →
-    Each (NotWake t) (alarms_turned o now l c pause es)
-change_absent t o now l Remains pause es k = k
-change_absent t o now l Becomes pause es k = set_absent t (KeepAlive l) _ es refl k
-change_absent t o now l IsOver pause es k = over_absent t o now l pause (clear (KeepAlive l) es) (clear_absent t (KeepAlive l) es k)
-
-alarms_on_absent : (t : ℕ) (o : Chosen) (now : ℕ) (r : Option Turned) (es : List (Alarm × ℕ)) → Each (NotWake t) es → Each (NotWake t) (alarms_on o now r es)
-alarms_on_absent t o now None es k = k
-alarms_on_absent t o now (Some x) es k = change_absent t o now x.link x.change x.pause es k
-
-rung_absent : (t : ℕ) (o : Chosen) (now : ℕ) (a : Alarm) (es : List (Alarm × ℕ)) → Each (NotWake t) es → Each (NotWake t) (alarms_rung o now a es)
-rung_absent t o now (Retry l) es k = clear_absent t (Retry l) es k
-rung_absent t o now (Wake who) es k = clear_absent t (Wake who) es k
-rung_absent t o now (Batch n) es k = clear_absent t (Batch n) es k
-rung_absent t o now (KeepAlive l) es k = set_absent t (KeepAlive l) _ es refl k
-rung_absent t o now CheckIdle es k = set_absent t CheckIdle _ es refl k
-
--- what is stored waits, or nothing is stored any longer
-from_absent : (t now : ℕ) (timeout : Option ℕ) (n : ℕ) (es : List (Alarm × ℕ)) → Each (NotWake t) es → Each (NotWake t) (waits_from now timeout n es)
-from_absent t now None n es k = k
-from_absent t now (Some delay) n es k = set_absent t (Batch n) _ es refl k
-
-waiting_absent : (t now : ℕ) (timeout : Option ℕ) (n : ℕ) (was is : Bool) (es : List (Alarm × ℕ)) → Each (NotWake t) es →
-    Each (NotWake t) (alarms_waiting now timeout n was is es)
-waiting_absent t now timeout n was true es k = clear_absent t (Batch n) es k
-waiting_absent t now timeout n true false es k = from_absent t now timeout n es k
-waiting_absent t now timeout n false false es k = k
-
-topic_absent : (t : ℕ) (v : View) (n : ℕ) (act : TopicAct) → Each (NotWake t) v.alarms → Each (NotWake t) (alarms_on_topic v n act)
-topic_absent t v n act k =
-    let row : Option Topic = v.producers.topics n in
-    waiting_absent t v.now (timeout_at v.producers row) n (is_bare row) (is_bare (option_map (topic_after act) row)) v.alarms k
-
-all_absent : (t : ℕ) (ns : List ℕ) (es : List (Alarm × ℕ)) → Each (NotWake t) es → Each (NotWake t) (clear_all ns es)
-all_absent t [] es k = k
-all_absent t (n ∷ ns) es k = all_absent t ns (clear (Batch n) es) (clear_absent t (Batch n) es k)
-
-alarms_absent : (t : ℕ) (v : View) (a : Act) → IdleBy t a → Each (NotWake t) v.alarms → Each (NotWake t) (alarms_after v a)
-alarms_absent t v (Comes (ToLink l x)) idle k = alarms_on_absent t v.chosen v.now (turned v (Comes (ToLink l x))) v.alarms k
-alarms_absent t v (Comes (Rings a)) idle k =
-    cond_so (Each (NotWake t)) (rings v.now a v.alarms) (alarms_rung v.chosen v.now a v.alarms) v.alarms (rung_absent t v.chosen v.now a v.alarms k) k
-alarms_absent t v (Does who (Wait delay)) idle k =
-    set_absent t (Wake who) _ v.alarms (other_wake t who (other_idle t who (Wait delay) idle refl)) k
-alarms_absent t v (Does who (OfTopic n (Store x))) idle k = topic_absent t v n (topic.Stores (turn_of who) x) k
-alarms_absent t v (Does who (OfTopic n Flush)) idle k = topic_absent t v n (topic.Flushes (turn_of who)) k
-alarms_absent t v (Does who (Shut u)) idle k = all_absent t (numbers_at (v.producers.built u)) v.alarms k
-alarms_absent t v (Does who StopAll) idle k = tt
-alarms_absent t v (Answers who verdict) idle k = cond_so (Each (NotWake t)) _ _ v.alarms (set_absent t CheckIdle _ v.alarms refl k) k
-alarms_absent t v _ idle k = k
-
--- those who wait for the link of a consumer
-
-frame_seeks : (t l : ℕ) (r : Reply) (m : Member) → NotIn t m.seekers → NotIn t (consumer.hears_frame l r m).seekers
-frame_seeks t l r m h =
-    cond_so (λ z. NotIn t z.seekers) (is_body 9 r.content.body) (consumer.member_after (reader.Hears l (frame_in r)) m) _ h
-    (cond_so (λ z. NotIn t z.seekers) (is_body 27 r.content.body) (consumer.ends_on l TopicEnded m) _
-    (cond_so (λ z. NotIn t z.seekers) (reader.lives_on l m.seen) (consumer.member_after (reader.Ends TopicEnded) m) m h h)
-    (cond_so (λ z. NotIn t z.seekers) (is_body 16 r.content.body) (consumer.member_after (reader.Loses l) m) m h h))
-
-hears_seeks : (t l : ℕ) (a : Arrival) (m : Member) → NotIn t m.seekers → NotIn t (consumer.hears l a m).seekers
-hears_seeks t l (arrivals.Gives n r) m h = cond_so (λ z. NotIn t z.seekers) (m.seen.number == n) (consumer.hears_frame l r m) m (frame_seeks t l r m h) h
-hears_seeks t l _ m h = h
-
-loses_seeks : (t l : ℕ) (cause : Option Fault) (m : Member) → NotIn t m.seekers → NotIn t (consumer.loses_by l cause m).seekers
-loses_seeks t l None m h = h
-loses_seeks t l (Some cause) m h = h
-
-finds_seeks : (t : ℕ) (x : Sought) (w : Who) (m : Member) → (Call t ≡ w → ⊥) → NotIn t m.seekers → NotIn t (consumer.waits_so x w m).seekers
-finds_seeks t (Found l) w m other h = h
-finds_seeks t Gone w m other h = h
-finds_seeks t Later w m other h = end_absent t w m.seekers other h
-
-on_seeks : (t l : ℕ) (url : Option Parts) (s : reader.Seen) → NotIn t (consumer.subscribed_on l url (record { seen = s; seekers = [] })).seekers
-on_seeks t l None s i = i
-on_seeks t l (Some url) s i = i
-
-none_seeks : (t : ℕ) → NotIn t []
-none_seeks t i = i
-
--- one that joins has none, and no deed adds this one
-joins_seeks : (t : ℕ) (live : ℕ → Option Seat) (x : Makes) (m : Member) → member_made live x ≡ Some m → NotIn t m.seekers
-joins_seeks t live (makes.Consumer j) m e =
-    subst (λ n. NotIn t n.seekers) (some_is e) (on_seeks t j.link (url_at (live j.link)) (reader.fresh (setup_of j)))
-joins_seeks t live (makes.RawConsumer l made) m e =
-    subst (λ n. NotIn t n.seekers) (some_is e) (on_seeks t l (url_at (live l)) (reader.fresh (reader.of_raw made)))
-joins_seeks t live makes.Nothing m e = absurd cc
-joins_seeks t live makes.Client m e = absurd cc
-joins_seeks t live (makes.Producer b) m e = absurd cc
-
-deed_seeks : (t : ℕ) (v : View) (a : Act) (u : ℕ) (d : Deed) → CameFrom v u a d → IdleBy t a → (m : Member) → NotIn t m.seekers →
-    NotIn t (member_by d m).seekers
-deed_seeks t v a u (Arrives l x) c idle m h = hears_seeks t l x m h
-deed_seeks t v a u (LinkEnds l cause) c idle m h = loses_seeks t l cause m h
-deed_seeks t v a u (CloseAsked closed l b) c idle m h =
-    cond_so (λ z. NotIn t z.seekers) (b && consumer.is_closed_by closed l m) (consumer.member_after (reader.Ends Closed) m) m h h
-deed_seeks t v a u (IsPolled clock) c idle m h = h
-deed_seeks t v a u (IsSought w) c idle m h =
-    finds_seeks t (consumer.sought (Some m)) w m (other_idle t w (OfConsumer (FindConsumer u)) (subst (IdleBy t) c idle) refl) h
-deed_seeks t v a u FlowTaken c idle m h = h
-deed_seeks t v a u (Revived l url) c idle m h = none_seeks t
-deed_seeks t v a u (NotRevived f) c idle m h = none_seeks t
-deed_seeks t v a u ClientStops c idle m h = none_seeks t
-
-seekers_absent : (t : ℕ) (v : View) (a : Act) (u : ℕ) → IdleBy t a → NotIn t (consumer.seekers_at (v.consumers.rows u)) →
-    NotIn t (consumer.seekers_at ((consumers_after v a).rows u))
-seekers_absent t v a u idle h =
-    after_holds (λ row. NotIn t (consumer.seekers_at row)) v u a (λ m j. joins_seeks t v.links.live j.verdict.makes m j.makes)
-    (λ d c m k. deed_seeks t v a u d c idle m k) h
-
-then_absent : (t : ℕ) (v : View) (a : Act) → IdleBy t a → Absent t v → Absent t (after a v)
-then_absent t v a idle k = record {
-  base = λ key. base_absent t v a key (v.addresses.base key) idle (k.base key);
-  asker = λ l. live_absent t v.chosen v.addresses v.now v.links.started a l (v.links.live l) idle (k.asker l);
-  alarm = alarms_absent t v a idle k.alarm;
-  seeker = λ u. seekers_absent t v a u idle (k.seeker u);
-}
+idle_finds : (t : ℕ) (a : Act) → IdleBy t a → NoFind (Call t) a
+idle_finds t (Does who (OfConsumer (FindConsumer u))) k = other_idle t who (OfConsumer (FindConsumer u)) k refl
+idle_finds t (Does who _) k = tt
+idle_finds t _ k = tt
 
 absent_run : (o : Options) (t : ℕ) (log : List Entry) → Idle t log → Absent t (view o log)
-absent_run o t [] idle = record { base = λ key i. i; asker = λ l. tt; alarm = tt; seeker = λ u i. i }
+absent_run o t [] idle = record {
+  place = record { base = λ key. omega arith; asker = λ l. tt; alarm = tt };
+  seeker = λ u i. i;
+}
 absent_run o t (Begins e ∷ log) idle =
     let k : Absent t (view o log) = absent_run o t log idle in
-    elim (is_live (view o log) e) as (λ b. Absent t (cond b (begun_live e (view o log)) (view o log))) [
-      | true ↦ record { base = k.base; asker = λ l. begun_free t e l ((view o log).links.live l) (k.asker l); alarm = k.alarm; seeker = k.seeker }
-      | false ↦ k
-    ]
-absent_run o t (Then a ∷ log) idle = then_absent t (view o log) a idle.0 (absent_run o t log idle.1)
+    record {
+      place = begun_there (Call t) (λ l p. ⊥) (λ key. 0) ⊥ (view o log) e k.place;
+      seeker = λ u.
+          subst (λ cs. Away (Call t) (consumer.seekers_at (cs.rows u))) (sym (begun_same (λ v. v.consumers) e (view o log) refl)) (k.seeker u);
+    }
+absent_run o t (Then a ∷ log) idle =
+    let k : Absent t (view o log) = absent_run o t log idle.1 in
+    record {
+      place = then_there (Call t) (λ l p. ⊥) (λ key. 0) ⊥ (view o log) a (idle_apart t a idle.0) k.place;
+      seeker = λ u. seekers_absent (Call t) (view o log) a u (idle_finds t a idle.0) (k.seeker u);
+    }
 
 -- TURNS AND BATCHES
 
@@ -413,10 +172,6 @@ passed_waits ticket version (Some row) h = (row, refl, by row.seen.waiting h)
     by (w ∷ ws) e = inl (let f : with_version row.seen.given.version w ≡ with_version version ticket = cc in sym (ap (λ x. x.0) f))
 
 -- WHAT IT IS TOLD
-
-moment_none : (t : ℕ) (es : List (Alarm × ℕ)) → Each (NotWake t) es → moment_of (Wake (Call t)) es ≡ None
-moment_none t [] k = refl
-moment_none t (e ∷ es) k = ap (λ b. cond b (Some e.1) (lookup (is_same_alarm (Wake (Call t))) es)) k.0 ∙ moment_none t es k.1
 
 no_grant : (n : News) (v : View) → GrantsSo n Rest v → ⊥
 no_grant (news.HasTurn version) v h = h
@@ -519,13 +274,13 @@ module _ (o : Options) (t : ℕ) (e : Entry) (older : List Entry) (idle : Idle t
   no_act P none (a, is, h) = none a (did_idle a is) h
 
   no_asker : (l place : ℕ) (seat : Seat) → v.links.live l ≡ Some seat → seat.askers place ≡ Some (Call t) → ⊥
-  no_asker l place seat live h = (subst (AskerFree t) live (absent.asker l)) place h
+  no_asker l place seat live h = (subst (Asker (Call t) (λ p. ⊥)) live (absent.place.asker l)) place h
 
   no_ready : (l : ℕ) → BecomesReady o (Call t) l e older → ⊥
-  no_ready l (seat, is, live, a, i) = absent.base _ i
+  no_ready l (seat, is, live, a, i) = not_among (Call t) _ (absent.place.base _) i
 
   no_attempt : (u : Outcome) → AttemptEnds o (Call t) u e older → ⊥
-  no_attempt u (l, end, cause, seat, is, live, c, (starter, retries, link, s, p, i, d)) = absent.base _ i
+  no_attempt u (l, end, cause, seat, is, live, c, (starter, retries, link, s, p, i, d)) = not_among (Call t) _ (absent.place.base _) i
 
   no_request : (u : Outcome) → RequestEnds o (Call t) u e older → ⊥
   no_request u (l, end, cause, seat, is, live, c, (place, i, asker, d)) = no_asker l place seat live asker
@@ -540,7 +295,7 @@ module _ (o : Options) (t : ℕ) (e : Entry) (older : List Entry) (idle : Idle t
   no_reply r (l, seat, places, m, place, is, live, c, i, asker, d) = no_asker l place seat live asker
 
   no_wake : IsWoken o (Call t) e older → ⊥
-  no_wake (is, r) = let f : false ≡ true = sym (ap (has_come v.now) (moment_none t v.alarms absent.alarm)) ∙ r in cc
+  no_wake (is, r) = let f : false ≡ true = sym (ap (has_come v.now) (moment_none (Call t) v.alarms absent.place.alarm)) ∙ r in cc
 
   pub no_batch : (n : News) → IsReady o (Call t) n e older → ⊥
   no_batch n k = let f : Call t ≡ Producer k.0 = k.2 in cc

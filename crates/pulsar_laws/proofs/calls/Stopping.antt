@@ -6,10 +6,10 @@ use Rattle.std.proofs.lemmas.Bool.{cases_Bool, eqb-true}
 use Rattle.std.proofs.lemmas.Bool.Decides.{nat_tests}
 use Rattle.std.specs.List.{filter_map, flat_map}
 use Rattle.std.specs.Option.{option_map, is_some}
-use Rattle.pulsar_laws.proofs.ActWords.{Act, Alarm, Answers, Ask, Asked, Batch, Bytes, Call, Calls, CheckIdle, Comes, Dials, Does, Drains, Ends, Get, Heard, KeepAlive, LinkAct, Makes, Nothing, Notice, OfTopic, Opens, Outcome, Part, Pings, Polls, Procedure, Reads, CallRefusal, Retry, Rings, Starts, StopAll, Stops, TakeBatch, Tell, TellAll, ToLink, Told, Wake, Who, below, is_same, lacks_tickets, next_advice, numbers_from, opens, shares}
-use Rattle.pulsar_laws.proofs.PlanWords.{fails, Plan, verdict, Ways}
+use Rattle.pulsar_laws.proofs.ActWords.{Act, Action, Alarm, Answers, Ask, Asked, Batch, below, Bytes, Call, CallRefusal, Calls, CheckIdle, Comes, Dials, Does, Drains, Ends, FindConsumer, Get, Heard, is_same, KeepAlive, lacks_tickets, LinkAct, Makes, next_advice, Nothing, Notice, numbers_from, OfTopic, Opens, opens, Outcome, Part, Pings, Polls, Procedure, Reads, Retry, Rings, shares, Starts, StopAll, Stops, TakeBatch, Tell, TellAll, Told, ToLink, Wait, Wake, Who, OfConsumer}
+use Rattle.pulsar_laws.proofs.PlanWords.{Batching, fails, Plan, verdict, Ways}
 use Rattle.pulsar_laws.proofs.RunWords.{after, agenda, Agenda, arranged, asks_raw, asks_topics, at_once, Begins, begun, begun_live, begun_same, builds_with, called, causes, checks, Chosen, closes, consumers_after, consumers_made, Each, each_append, each_either, each_flat, each_map, Entry, first, first_case, first_of, flushes, follows_some, from_base, gathers, In, is_live, IsRun, joins, left_with, link_got, live_begun, lost_on, may_call, none_now, notice, Options, over_each, parts_of, procedure_for, produces, rest, rest_of, rules, searches, sends, shares_unless, starts, stays_some, stopped_on, tells, Then, Tickets, told_some, turned_by, unless_refused, view, View, ways_of, why_no_sends}
-use Rattle.pulsar_laws.proofs.LinkWords.{address_key, Addresses, arrival_at, Base, closing, Exhausted, got_at, Nobody, over_links, Pause, Pauses, Place, rings, Runs, Seat, Series, Serves, stop_act, tells_asker, took_some}
+use Rattle.pulsar_laws.proofs.LinkWords.{address_key, Addresses, arrival_at, Base, closing, Exhausted, got_at, Nobody, over_links, Pause, Pauses, Place, Reply, rings, Runs, Seat, Series, Serves, stop_act, tells_asker, took_some}
 use Rattle.pulsar_session.specs.Link.{ends}
 use Rattle.pulsar_calls.specs.declared.act.Makes.TheVariants.{Client, Consumer, Producer, RawConsumer}
 use Rattle.pulsar_links.specs.Alarms.{clear}
@@ -29,6 +29,7 @@ use Rattle.pulsar_outgoing.specs.declared.news.News.TheVariants as news
 use Rattle.pulsar_messages.specs.Content.{ProducerMessageValues}
 use Rattle.pulsar_producer_table.specs.Producers.{Producers, next_batch_at, topic_after, unsent, waiting, why_not}
 use Rattle.pulsar_calls.specs.declared.act.CallRefusal.TheVariants as refusal
+use Rattle.pulsar_producer.specs.declared.batching.Batching.TheVariants as batching
 use Rattle.pulsar_calls.specs.declared.act.Outcome.TheVariants as outcome
 use Rattle.pulsar_calls.specs.declared.act.Procedure.TheVariants as procedure
 use Rattle.pulsar_searches.specs.declared.plan.Sought.TheVariants as sought
@@ -37,6 +38,7 @@ use Rattle.pulsar_laws.proofs.calls.Asked.{stop_clear}
 use Rattle.pulsar_laws.proofs.links.Attempts.{is_dial}
 use Rattle.pulsar_laws.proofs.producers.Keepers.{Keeps, RowSo, batch_keeps, ends_settled, settled_some}
 use Rattle.pulsar_laws.proofs.plans.Spots.{calm_stop, same_self, same_who, spot_of}
+use Rattle.pulsar_laws.proofs.calls.Whereabouts.{goes_nowhere}
 use Rattle.pulsar_laws.proofs.plans.LastWords.{AreLast, batch_fine, batch_some, batch_told, calm_fine, each_last, ends_fine, ends_some, is_fine, is_last_word, is_leaving, IsLast, IsLastNotice, IsLate, IsParting, last_append, last_rest, last_some, left_fine, left_some, makes_nothing, settling_told, some_fine, taking_told}
 use Rattle.pulsar_consumer_table.specs.Notices.{heard_at, lost_at}
 use Rattle.pulsar_acts.specs.Reading.{acknowledges, leaves, made_due, subscribes}
@@ -663,3 +665,42 @@ none_after_stop_lem o log p starter n run = elim (cases_Bool (stopped log)) [
       ])
   | inr e ↦ e
 ]
+
+-- then a plan is told a reply only where it leaves
+pub never_replied : (o : Options) (log : List Entry) (w : Who) (r : Reply) → IsRun o (Then (Told (notice w (outcome.Replied r))) ∷ log) →
+    stopped log ≡ true → is_leaving (spot_of ((view o log).stand w)) ≡ true
+never_replied o log w r run h =
+    let k = over_run o log run.0 h in
+    let g = agenda o log in
+    elim (last_first (view o log).stand g.now g.here g.behind g.parts (Told (notice w (outcome.Replied r))) k.now k.here k.behind run.1) [
+      | inl is ↦ (let f : false ≡ true = is in absurd cc)
+      | inr q ↦ elim q [
+        | inl p ↦ elim p [
+          | inl leaves ↦ leaves
+          | inr x ↦ elim x [ inl b ↦ absurd (none ((view o log).stand w) b) | inr s ↦ (let f : false ≡ true = s.0 in absurd cc) ]
+        ]
+        | inr c ↦ (let f : Told (notice w (outcome.Replied r)) ≡ Comes c.part = c.is_it in absurd cc)
+      ]
+    ]
+  where
+    none : (row : Option Plan) → batch_told row (outcome.Replied r) ≡ true → ⊥
+    none (Some (Batching ways e batching.Settling)) b = absurd cc
+    none (Some (Batching ways e batching.Taking)) b = absurd cc
+    none row b = absurd cc
+
+-- and none asks for anything
+pub never_asks : (o : Options) (log : List Entry) (w : Who) (a : Action) → IsRun o (Then (Does w a) ∷ log) → stopped log ≡ true → goes_nowhere a ≡ true
+never_asks o log w a run h =
+    let k = over_run o log run.0 h in
+    let g = agenda o log in
+    elim (last_first (view o log).stand g.now g.here g.behind g.parts (Does w a) k.now k.here k.behind run.1) [
+      | inl is ↦ (let f : false ≡ true = is in absurd cc)
+      | inr q ↦ elim q [ inl p ↦ by a p | inr c ↦ (let f : Does w a ≡ Comes c.part = c.is_it in absurd cc) ]
+    ]
+  where
+    by : (a : Action) → IsParting (view o log).stand (Does w a) → goes_nowhere a ≡ true
+    by (Get p) left = absurd left
+    by (Ask l request) left = absurd left
+    by (Wait delay) left = absurd left
+    by (OfConsumer (FindConsumer t)) left = absurd left
+    by _ left = refl

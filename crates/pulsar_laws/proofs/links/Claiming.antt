@@ -366,20 +366,20 @@ module _ (A : Who → Awaited → Type 0) where
 
 -- MORE IS KNOWN
 
-module _ (A B : Who → Awaited → Type 0) (more : (w : Who) (a : Awaited) → A w a → B w a) where
-  line_known : (f : ℕ → Option Who) (n : ℕ) (xs : List Standing) → LineSo A f n xs → LineSo B f n xs
-  line_known f n [] h = tt
-  line_known f n (x ∷ xs) h = (one x.claim h.0, line_known f (n + 1) xs h.1)
+module _ (A B : Who → Awaited → Type 0) (f : ℕ → Option Who) (more : (p : ℕ) (w : Who) (a : Awaited) → f p ≡ Some w → A w a → B w a) where
+  line_known : (n : ℕ) (xs : List Standing) → LineSo A f n xs → LineSo B f n xs
+  line_known n [] h = tt
+  line_known n (x ∷ xs) h = (one x.claim h.0, line_known (n + 1) xs h.1)
     where
       one : (c : Option Claim) → ClaimOf A f n c → ClaimOf B f n c
       one None k = tt
-      one (Some c) k = λ w e. more w c.awaits (k w e)
+      one (Some c) k = λ w e. more n w c.awaits e (k w e)
 
-  pub known : (v : Seen) (f : ℕ → Option Who) (b : ℕ) → Claimed A v f b → Claimed B v f b
-  known v f b k = record {
-    waiting = each_map (PendsSo A f) (PendsSo B f) v.waits.waiting (λ p h w e. more w p.awaits (h w e)) k.waiting;
+  pub known : (v : Seen) (b : ℕ) → Claimed A v f b → Claimed B v f b
+  known v b k = record {
+    waiting = each_map (PendsSo A f) (PendsSo B f) v.waits.waiting (λ p h w e. more p.place w p.awaits e (h w e)) k.waiting;
     low = k.low;
-    line = line_known f v.waits.queued v.line k.line;
+    line = line_known v.waits.queued v.line k.line;
     few = k.few;
   }
 

@@ -47,26 +47,24 @@ use Rattle.pulsar_laws.proofs.plans.Granted.{does_from}
 use Rattle.pulsar_laws.proofs.producers.InTurn.{self_same, stood_begun}
 use Rattle.pulsar_laws.proofs.calls.Once.{ends_once_lem}
 
--- ONE ASKED FOR WHAT WAITS FOR THIS
+-- ONE ASKED FOR WHAT WAITS FOR THIS: `B` is what is known of its request
 
-abbrev AskedFor : List Entry → (link : ℕ) → Who → Awaited → Type 0
-AskedFor log l who a =
-    (request : Words) × (id : ℕ) × (c : Claim) × (claim id request ≡ Some c) × (c.awaits ≡ a) × In (Then (Does who (Ask l request))) log
+abbrev Awaits : (Words → Type 0) → Awaited → Type 0
+Awaits B a = (request : Words) × (id : ℕ) × (c : Claim) × (claim id request ≡ Some c) × (c.awaits ≡ a) × B request
 
-asked_more : (e : Entry) (log : List Entry) (l : ℕ) (who : Who) (a : Awaited) → AskedFor log l who a → AskedFor (e ∷ log) l who a
-asked_more e log l who a k = (k.0, k.1, k.2, k.3, k.4, inr k.5)
+abbrev Awaiting : (Who → Words → Type 0) → Who → Awaited → Type 0
+Awaiting B w = Awaits (B w)
 
-abbrev Sits : List Entry → ℕ → Seat → Type 0
-Sits log l seat = IsClaimed (AskedFor log l) seat.seen seat.askers
+abbrev SitsAt : (Who → Words → Type 0) → Option Seat → Type 0
+SitsAt B None = Unit {0}
+SitsAt B (Some seat) = IsClaimed (Awaiting B) seat.seen seat.askers
 
-abbrev SitsAt : List Entry → ℕ → Option Seat → Type 0
-SitsAt log l None = Unit {0}
-SitsAt log l (Some seat) = Sits log l seat
-
-sits_more : (e : Entry) (log : List Entry) (l : ℕ) (row : Option Seat) → SitsAt log l row → SitsAt (e ∷ log) l row
-sits_more e log l None k = tt
-sits_more e log l (Some seat) k =
-    known (AskedFor log l) (AskedFor (e ∷ log) l) (λ w a h. asked_more e log l w a h) seat.seen seat.askers (seat.seen.waits.queued + length seat.seen.line) k
+sits_more : (B C : Who → Words → Type 0) (row : Option Seat) →
+    ((seat : Seat) → row ≡ Some seat → (p : ℕ) (w : Who) (r : Words) → seat.askers p ≡ Some w → B w r → C w r) → SitsAt B row → SitsAt C row
+sits_more B C None more k = tt
+sits_more B C (Some seat) more k =
+    known (Awaiting B) (Awaiting C) seat.askers (λ p w a e h. (h.0, h.1, h.2, h.3, h.4, more seat refl p w h.0 e h.5)) seat.seen
+    (seat.seen.waits.queued + length seat.seen.line) k
 
 -- what is seen of a live link
 record Lives (seat : Seat) : Type 0 where
@@ -87,89 +85,75 @@ left_before settled f p w h = elim (cases_Bool (list_any (λ q. q == p) settled)
   | inr e ↦ rw e at h
 ]
 
-module _ (log : List Entry) (l now : ℕ) where
-  took_sits : (x : LinkAct) (seat : Seat) → Lives seat → Sits log l seat → SitsAt log l (took x now seat)
-  took_sits Opens seat h k = opened (AskedFor log l) now seat.seen seat.askers h.soon k
+module _ (B : Who → Words → Type 0) (now : ℕ) where
+  took_sits : (x : LinkAct) (seat : Seat) → Lives seat → SitsAt B (Some seat) → SitsAt B (took x now seat)
+  took_sits Opens seat h k = opened (Awaiting B) now seat.seen seat.askers h.soon k
   took_sits Reads seat h k =
-      fewer (AskedFor log l) (session.after (session.Takes now) seat.seen) seat.askers (askers_left (settled_in (came seat.seen)) seat.askers) _
-      (left_before (settled_in (came seat.seen)) seat.askers) (taken (AskedFor log l) now seat.seen seat.askers h.room k)
-  took_sits (Drains most) seat h k = drained_so (AskedFor log l) most now seat.seen seat.askers k
-  took_sits Pings seat h k = pinged (AskedFor log l) now seat.seen seat.askers h.room k
-  took_sits (Ends end) seat h k = elim (closed_by end now seat.seen) as (λ c. SitsAt log l (took_end c seat)) [ None ↦ k | Some cause ↦ tt ]
+      fewer (Awaiting B) (session.after (session.Takes now) seat.seen) seat.askers (askers_left (settled_in (came seat.seen)) seat.askers) _
+      (left_before (settled_in (came seat.seen)) seat.askers) (taken (Awaiting B) now seat.seen seat.askers h.room k)
+  took_sits (Drains most) seat h k = drained_so (Awaiting B) most now seat.seen seat.askers k
+  took_sits Pings seat h k = pinged (Awaiting B) now seat.seen seat.askers h.room k
+  took_sits (Ends end) seat h k = elim (closed_by end now seat.seen) as (λ c. SitsAt B (took_end c seat)) [ None ↦ k | Some cause ↦ tt ]
 
-  some_sits : (x : LinkAct) (row : Option Seat) → ((seat : Seat) → row ≡ Some seat → Lives seat) → SitsAt log l row → SitsAt log l (took_some x now row)
+  some_sits : (x : LinkAct) (row : Option Seat) → ((seat : Seat) → row ≡ Some seat → Lives seat) → SitsAt B row → SitsAt B (took_some x now row)
   some_sits x None h k = tt
   some_sits x (Some seat) h k = took_sits x seat (h seat refl) k
 
-  got_sits : (row : Option Seat) → SitsAt log l row → SitsAt log l (option_map (seat_got now) row)
+  got_sits : (row : Option Seat) → SitsAt B row → SitsAt B (option_map (seat_got now) row)
   got_sits None k = tt
   got_sits (Some seat) k = k
 
-either_sits : (log : List Entry) (l : ℕ) (b : Bool) (x y : Option Seat) → (b ≡ true → SitsAt log l x) → (b ≡ false → SitsAt log l y) → SitsAt log l (cond b x y)
-either_sits log l true x y p q = p refl
-either_sits log l false x y p q = q refl
+either_sits : (B : Who → Words → Type 0) (b : Bool) (x y : Option Seat) → (b ≡ true → SitsAt B x) → (b ≡ false → SitsAt B y) → SitsAt B (cond b x y)
+either_sits B true x y p q = p refl
+either_sits B false x y p q = q refl
 
-asks_sits : (log : List Entry) (l now : ℕ) (who : Who) (request : Words) (row : Option Seat) → ((seat : Seat) → row ≡ Some seat → Lives seat) →
-    SitsAt (Then (Does who (Ask l request)) ∷ log) l row → SitsAt (Then (Does who (Ask l request)) ∷ log) l (option_map (seat_asked who now request) row)
-asks_sits log l now who request None h k = tt
-asks_sits log l now who request (Some seat) h k =
-    asked_so (AskedFor (Then (Does who (Ask l request)) ∷ log) l) request who seat.askers now seat.seen (λ id c e. (request, id, c, e, refl, inl refl))
-    (h seat refl).room k
+asks_sits : (B : Who → Words → Type 0) (now : ℕ) (who : Who) (request : Words) (row : Option Seat) → ((seat : Seat) → row ≡ Some seat → Lives seat) →
+    B who request → SitsAt B row → SitsAt B (option_map (seat_asked who now request) row)
+asks_sits B now who request None h new k = tt
+asks_sits B now who request (Some seat) h new k =
+    asked_so (Awaiting B) request who seat.askers now seat.seen (λ id c e. (request, id, c, e, refl, new)) (h seat refl).room k
 
-got_at_sits : (log : List Entry) (now l : ℕ) (got : Option ℕ) (row : Option Seat) → SitsAt log l row → SitsAt log l (got_at got now l row)
-got_at_sits log now l None row k = k
-got_at_sits log now l (Some j) row k = either_sits log l (l == j) (option_map (seat_got now) row) row (λ e. got_sits log l now row k) (λ e. k)
+got_at_sits : (B : Who → Words → Type 0) (now l : ℕ) (got : Option ℕ) (row : Option Seat) → SitsAt B row → SitsAt B (got_at got now l row)
+got_at_sits B now l None row k = k
+got_at_sits B now l (Some j) row k = either_sits B (l == j) (option_map (seat_got now) row) row (λ e. got_sits B now row k) (λ e. k)
 
-after_sits : (o : Options) (log : List Entry) (a : Act) (l : ℕ) → SitsAt log l ((view o log).links.live l) →
-    SitsAt (Then a ∷ log) l ((view o (Then a ∷ log)).links.live l)
-after_sits o log (Comes (ToLink j x)) l k =
+after_sits : (o : Options) (log : List Entry) (a : Act) (l : ℕ) (B : Who → Words → Type 0) →
+    ((who : Who) (request : Words) → a ≡ Does who (Ask l request) → B who request) → SitsAt B ((view o log).links.live l) →
+    SitsAt B ((view o (Then a ∷ log)).links.live l)
+after_sits o log (Comes (ToLink j x)) l B new k =
     let row : Option Seat = (view o log).links.live l in
     let now : ℕ = (view o log).now in
-    let more : SitsAt (Then (Comes (ToLink j x)) ∷ log) l row = sits_more (Then (Comes (ToLink j x))) log l row k in
-    either_sits (Then (Comes (ToLink j x)) ∷ log) l (l == j) (took_some x now row) row
-    (λ e. some_sits (Then (Comes (ToLink j x)) ∷ log) l now x row (λ seat h. lives o log l seat h) more) (λ e. more)
-after_sits o log (Does who (Get p)) l k =
-    let v : View = view o log in
-    got_at_sits (Then (Does who (Get p)) ∷ log) v.now l (link_got v.addresses (Does who (Get p))) (v.links.live l)
-    (sits_more (Then (Does who (Get p))) log l (v.links.live l) k)
-after_sits o log (Does who (Ask j request)) l k =
+    either_sits B (l == j) (took_some x now row) row (λ e. some_sits B now x row (λ seat h. lives o log l seat h) k) (λ e. k)
+after_sits o log (Does who (Get p)) l B new k =
+    let v : View = view o log in got_at_sits B v.now l (link_got v.addresses (Does who (Get p))) (v.links.live l) k
+after_sits o log (Does who (Ask j request)) l B new k =
     let row : Option Seat = (view o log).links.live l in
     let now : ℕ = (view o log).now in
-    let more : SitsAt (Then (Does who (Ask j request)) ∷ log) l row = sits_more (Then (Does who (Ask j request))) log l row k in
-    either_sits (Then (Does who (Ask j request)) ∷ log) l (l == j) (option_map (seat_asked who now request) row) row
-    (λ e. (let q : l ≡ j = eqb-true l j e in
-    subst (λ i. SitsAt (Then (Does who (Ask i request)) ∷ log) l (option_map (seat_asked who now request) row)) q
-    (asks_sits log l now who request row (λ seat h. lives o log l seat h) (sits_more (Then (Does who (Ask l request))) log l row k))))
-    (λ e. more)
-after_sits o log (Dials p starter retries) l k =
+    either_sits B (l == j) (option_map (seat_asked who now request) row) row
+    (λ e. asks_sits B now who request row (λ seat h. lives o log l seat h)
+    (new who request (ap (λ i. Does who (Ask i request)) (sym (eqb-true l j e)))) k)
+    (λ e. k)
+after_sits o log (Dials p starter retries) l B new k =
     let v : View = view o log in
-    either_sits (Then (Dials p starter retries) ∷ log) l (l == v.links.started) _ (v.links.live l)
-    (λ e. record { waiting = tt; low = tt; line = tt; few = λ q w h. absurd (none_some h) })
-    (λ e. sits_more (Then (Dials p starter retries)) log l (v.links.live l) k)
-after_sits o log a l k = sits_more (Then a) log l ((view o log).links.live l) k
+    either_sits B (l == v.links.started) _ (v.links.live l) (λ e. record { waiting = tt; low = tt; line = tt; few = λ q w h. absurd (none_some h) })
+    (λ e. k)
+after_sits o log a l B new k = k
 
-fed_sits : (log : List Entry) (l : ℕ) (piece : List ℕ) (row : Option Seat) → SitsAt log l row → SitsAt log l (option_map (seat_fed piece) row)
-fed_sits log l piece None k = tt
-fed_sits log l piece (Some seat) k = fed (AskedFor log l) piece seat.seen seat.askers k
+fed_sits : (B : Who → Words → Type 0) (piece : List ℕ) (row : Option Seat) → SitsAt B row → SitsAt B (option_map (seat_fed piece) row)
+fed_sits B piece None k = tt
+fed_sits B piece (Some seat) k = fed (Awaiting B) piece seat.seen seat.askers k
 
-heard_sits : (log : List Entry) (l : ℕ) (e : Heard) (row : Option Seat) → SitsAt log l row → SitsAt log l (live_begun e l row)
-heard_sits log l (Bytes j piece) row k = either_sits log l (l == j) (option_map (seat_fed piece) row) row (λ q. fed_sits log l piece row k) (λ q. k)
-heard_sits log l _ row k = k
+heard_sits : (B : Who → Words → Type 0) (l : ℕ) (e : Heard) (row : Option Seat) → SitsAt B row → SitsAt B (live_begun e l row)
+heard_sits B l (Bytes j piece) row k = either_sits B (l == j) (option_map (seat_fed piece) row) row (λ q. fed_sits B piece row k) (λ q. k)
+heard_sits B l _ row k = k
 
-begun_sits : (o : Options) (log : List Entry) (e : Heard) (l : ℕ) → SitsAt log l ((view o log).links.live l) →
-    SitsAt (Begins e ∷ log) l ((view o (Begins e ∷ log)).links.live l)
-begun_sits o log e l k =
-    let row : Option Seat = (view o log).links.live l in
-    let more : SitsAt (Begins e ∷ log) l row = sits_more (Begins e) log l row k in
-    elim (is_live (view o log) e) as (λ b. SitsAt (Begins e ∷ log) l ((cond b (begun_live e (view o log)) (view o log)).links.live l)) [
-      | true ↦ heard_sits (Begins e ∷ log) l e row more
-      | false ↦ more
+begun_sits : (o : Options) (log : List Entry) (e : Heard) (l : ℕ) (B : Who → Words → Type 0) → SitsAt B ((view o log).links.live l) →
+    SitsAt B ((view o (Begins e ∷ log)).links.live l)
+begun_sits o log e l B k =
+    elim (is_live (view o log) e) as (λ b. SitsAt B ((cond b (begun_live e (view o log)) (view o log)).links.live l)) [
+      | true ↦ heard_sits B l e ((view o log).links.live l) k
+      | false ↦ k
     ]
-
-sits : (o : Options) (log : List Entry) (l : ℕ) → SitsAt log l ((view o log).links.live l)
-sits o [] l = tt
-sits o (Begins e ∷ log) l = begun_sits o log e l (sits o log l)
-sits o (Then a ∷ log) l = after_sits o log a l (sits o log l)
 
 -- WHAT A FRAME SETTLES
 
@@ -191,7 +175,7 @@ unasked_not m = elim (is 36 m) as (λ b. is_settling (cond b session.Challenged 
 not_settling : (c : Came) (ps : List ℕ) (m : MessageValues) → is_settling c ≡ false → c ≡ Settles ps m → ⊥
 not_settling c ps m h e = let f : true ≡ false = sym (ap is_settling e) ∙ h in cc
 
-settles_these : (stage : Stage) (f : Front) (v : Seen) (ps : List ℕ) (m : MessageValues) → came_in stage f v ≡ Settles ps m → ps ≡ places (settled_by m v)
+pub settles_these : (stage : Stage) (f : Front) (v : Seen) (ps : List ℕ) (m : MessageValues) → came_in stage f v ≡ Settles ps m → ps ≡ places (settled_by m v)
 settles_these Dialing f v ps m h = absurd cc
 settles_these Over f v ps m h = absurd cc
 settles_these Handshaking Short v ps m h = absurd cc
@@ -382,37 +366,26 @@ acts_begun o older t action run = elim (does_from o older (Call t) action run) [
 ]
 
 -- an entry of this step, with those before it
-pub in_step : (P : Entry → List Entry → Type 0) (log : List Entry) → InThisStep P log →
+in_step : (P : Entry → List Entry → Type 0) (log : List Entry) → InThisStep P log →
     (e : Entry) × (older : List Entry) × P e older × ((x : Entry) → In x older → In x log)
 in_step P [] h = absurd h
 in_step P (Begins e ∷ log) h = (Begins e, log, h, λ x i. inr i)
 in_step P (Then a ∷ log) (inl h) = (Then a, log, h, λ x i. inr i)
 in_step P (Then a ∷ log) (inr h) = let k = in_step P log h in (k.0, k.1, k.2, λ x i. inr (k.3 x i))
 
--- what settles was asked for
-replied_for : (o : Options) (older : List Entry) (who : Who) (l : ℕ) (seat : Seat) (ps : List ℕ) (m : MessageValues) (place : ℕ) →
-    (view o older).links.live l ≡ Some seat →
-    came seat.seen ≡ Settles ps m → In place ps → seat.askers place ≡ Some who → (a : Awaited) × (answers m a ≡ true) × AskedFor older l who a
-replied_for o older who l seat ps m place h c i w =
-    let k : Sits older l seat = subst (SitsAt older l) h (sits o older l) in
-    let these : ps ≡ places (settled_by m seat.seen) = settles_these seat.seen.stage (front seat.seen.unread) seat.seen ps m c in
-    let s = settled_one (AskedFor older l) seat.askers m place seat.seen.waits.waiting k.waiting (subst (In place) these i) in
-    (s.awaits, s.answered, s.known_of who w)
-
 -- the message whose receipt this is
-pub record IsSentFor (log : List Entry) (who : Who) (l : ℕ) (k : Option RequestKey) : Type 0 where
+pub record IsSentFor (B : Words → Type 0) (k : Option RequestKey) : Type 0 where
   pub producer : ℕ
   pub sequence : ℕ
   pub name : List ℕ
   pub message : ProducerMessageValues
   pub block : Bool
-  pub listed : In (Then (Does who (Ask l (words.Send producer name sequence message block)))) log
+  pub listed : B (words.Send producer name sequence message block)
   pub bears : k ≡ Some (keys.ProducerSend producer sequence)
 
-sent_for : (older : List Entry) (who : Who) (l : ℕ) (m : MessageValues) (b : BodyValues) (a : Awaited) (request : Words) (id : ℕ) (c : Claim) →
-    m.command.body ≡ Some b → b.number ≡ 7 → answers m a ≡ true → claim id request ≡ Some c → c.awaits ≡ a →
-    In (Then (Does who (Ask l request))) older → IsSentFor older who l (key m)
-sent_for older who l m b a request id c e n answered is awaits i =
+sent_for : (B : Words → Type 0) (m : MessageValues) (b : BodyValues) (a : Awaited) (request : Words) (id : ℕ) (c : Claim) →
+    m.command.body ≡ Some b → b.number ≡ 7 → answers m a ≡ true → claim id request ≡ Some c → c.awaits ≡ a → B request → IsSentFor B (key m)
+sent_for B m b a request id c e n answered is awaits i =
     let q = receipt_of m b a e n answered in
     let x = claimed_send request id c q.producer q.sequence is (awaits ∙ q.is_it) in
     record {
@@ -421,28 +394,63 @@ sent_for older who l m b a request id c e n answered is awaits i =
       name = x.name;
       message = x.message;
       block = x.block;
-      listed = subst (λ (y : Words). In (Then (Does who (Ask l y))) older) x.is_it i;
+      listed = subst B x.is_it i;
       bears = q.bears;
     }
 
-replied_send : (o : Options) (older : List Entry) (who : Who) (l : ℕ) (seat : Seat) (ps : List ℕ) (m : MessageValues) (place : ℕ) (b : BodyValues) →
-    (view o older).links.live l ≡ Some seat → came seat.seen ≡ Settles ps m → In place ps → seat.askers place ≡ Some who → m.command.body ≡ Some b →
-    b.number ≡ 7 → IsSentFor older who l (key m)
-replied_send o older who l seat ps m place b live c i w e n =
-    let f = replied_for o older who l seat ps m place live c i w in
-    sent_for older who l m b f.0 f.2.0 f.2.1 f.2.2 e n f.1 f.2.3 f.2.4 f.2.5
+-- along the logs that are so, each of which behind one that is
+module _ (o : Options) (P : List Entry → Type 0) (B : List Entry → (link : ℕ) → Who → Words → Type 0)
+    (older : (e : Entry) (log : List Entry) → P (e ∷ log) → P log)
+    (more : (e : Entry) (log : List Entry) → P (e ∷ log) → (l : ℕ) (seat : Seat) → (view o log).links.live l ≡ Some seat → (p : ℕ) (w : Who) →
+    seat.askers p ≡ Some w → (r : Words) → B log l w r → B (e ∷ log) l w r)
+    (new : (log : List Entry) (l : ℕ) (w : Who) (r : Words) → B (Then (Does w (Ask l r)) ∷ log) l w r) where
+  sits : (log : List Entry) → P log → (l : ℕ) → SitsAt (B log l) ((view o log).links.live l)
+  sits [] ok l = tt
+  sits (Begins e ∷ log) ok l =
+      begun_sits o log e l (B (Begins e ∷ log) l)
+      (sits_more (B log l) (B (Begins e ∷ log) l) ((view o log).links.live l) (λ seat h p w r i k. more (Begins e) log ok l seat h p w i r k)
+      (sits log (older (Begins e) log ok) l))
+  sits (Then a ∷ log) ok l =
+      after_sits o log a l (B (Then a ∷ log) l) (λ w r is. subst (λ (x : Act). B (Then x ∷ log) l w r) (sym is) (new log l w r))
+      (sits_more (B log l) (B (Then a ∷ log) l) ((view o log).links.live l) (λ seat h p w r i k. more (Then a) log ok l seat h p w i r k)
+      (sits log (older (Then a) log ok) l))
 
-pub receipt_for : (o : Options) (older : List Entry) (who : Who) (r : Reply) (e : Entry) → Cause o who (outcome.Replied r) e older →
-    is_body 7 r.content.body ≡ true →
-    (l : ℕ) × IsSentFor older who l r.content.key
-receipt_for o older who r e c body = by c.0 c.1 c.2 c.3 c.4 c.6 c.7 c.8 c.9 c.10
-  where
-    by : (l : ℕ) (seat : Seat) (ps : List ℕ) (m : MessageValues) (place : ℕ) → (view o older).links.live l ≡ Some seat → came seat.seen ≡ Settles ps m →
-        In place ps → seat.askers place ≡ Some who → r ≡ read m → (l : ℕ) × IsSentFor older who l r.content.key
-    by l seat ps m place live settles i w is =
-        let b = body_seven m m.command.body refl (subst (λ y. is_body 7 y.content.body ≡ true) is body) in
-        let k : r.content.key ≡ key m = ap (λ y. y.content.key) is ∙ key_of_read m m.command.body refl in
-        (l, subst (IsSentFor older who l) (sym k) (replied_send o older who l seat ps m place b.0 live settles i w b.1 b.2))
+  -- what settles was asked for
+  replied_for : (log : List Entry) → P log → (who : Who) (l : ℕ) (seat : Seat) (ps : List ℕ) (m : MessageValues) (place : ℕ) →
+      (view o log).links.live l ≡ Some seat → came seat.seen ≡ Settles ps m → In place ps → seat.askers place ≡ Some who →
+      (a : Awaited) × (answers m a ≡ true) × Awaits (B log l who) a
+  replied_for log ok who l seat ps m place h c i w =
+      let k : SitsAt (B log l) (Some seat) = subst (SitsAt (B log l)) h (sits log ok l) in
+      let these : ps ≡ places (settled_by m seat.seen) = settles_these seat.seen.stage (front seat.seen.unread) seat.seen ps m c in
+      let s = settled_one (Awaiting (B log l)) seat.askers m place seat.seen.waits.waiting k.waiting (subst (In place) these i) in
+      (s.awaits, s.answered, s.known_of who w)
+
+  replied_send : (log : List Entry) → P log → (who : Who) (l : ℕ) (seat : Seat) (ps : List ℕ) (m : MessageValues) (place : ℕ) (b : BodyValues) →
+      (view o log).links.live l ≡ Some seat → came seat.seen ≡ Settles ps m → In place ps → seat.askers place ≡ Some who → m.command.body ≡ Some b →
+      b.number ≡ 7 → IsSentFor (B log l who) (key m)
+  replied_send log ok who l seat ps m place b live c i w e n =
+      let f = replied_for log ok who l seat ps m place live c i w in
+      sent_for (B log l who) m b f.0 f.2.0 f.2.1 f.2.2 e n f.1 f.2.3 f.2.4 f.2.5
+
+  pub receipt_so : (log : List Entry) → P log → (who : Who) (r : Reply) (e : Entry) → Cause o who (outcome.Replied r) e log →
+      is_body 7 r.content.body ≡ true → (l : ℕ) × IsSentFor (B log l who) r.content.key
+  receipt_so log ok who r e c body = by c.0 c.1 c.2 c.3 c.4 c.6 c.7 c.8 c.9 c.10
+    where
+      by : (l : ℕ) (seat : Seat) (ps : List ℕ) (m : MessageValues) (place : ℕ) → (view o log).links.live l ≡ Some seat →
+          came seat.seen ≡ Settles ps m → In place ps → seat.askers place ≡ Some who → r ≡ read m → (l : ℕ) × IsSentFor (B log l who) r.content.key
+      by l seat ps m place live settles i w is =
+          let b = body_seven m m.command.body refl (subst (λ y. is_body 7 y.content.body ≡ true) is body) in
+          let k : r.content.key ≡ key m = ap (λ y. y.content.key) is ∙ key_of_read m m.command.body refl in
+          (l, subst (IsSentFor (B log l who)) (sym k) (replied_send log ok who l seat ps m place b.0 live settles i w b.1 b.2))
+
+-- it asked for this somewhere in a log
+abbrev Asked : List Entry → (link : ℕ) → Who → Words → Type 0
+Asked log l w r = In (Then (Does w (Ask l r))) log
+
+receipt_for : (o : Options) (older : List Entry) (who : Who) (r : Reply) (e : Entry) → Cause o who (outcome.Replied r) e older →
+    is_body 7 r.content.body ≡ true → (l : ℕ) × IsSentFor (Asked older l who) r.content.key
+receipt_for o older who r e c body =
+    receipt_so o (λ log. Unit {0}) Asked (λ e log ok. tt) (λ e log ok l seat h p w i r k. inr k) (λ log l w r. inl refl) older tt who r e c body
 
 -- a message that a send asked for is of its errand
 sent_own : (o : Options) (log : List Entry) (t l n s : ℕ) (name : List ℕ) (message : ProducerMessageValues) (block : Bool) (w : Ways) (e : Errand)
@@ -473,7 +481,7 @@ receipts_are_own_lem o log t r w e share m run h body = by step.1 step.3 (receip
     step : (x : Entry) × (older : List Entry) × Cause o (Call t) (outcome.Replied r) x older × ((y : Entry) → In y older → In y log)
     step = in_step (Cause o (Call t) (outcome.Replied r)) log (outcomes_are_caused_lem o log (Call t) (outcome.Replied r) run)
 
-    by : (older : List Entry) → ((y : Entry) → In y older → In y log) → (l : ℕ) × IsSentFor older (Call t) l r.content.key → (l s : ℕ) × (name : List ℕ)
+    by : (older : List Entry) → ((y : Entry) → In y older → In y log) → (l : ℕ) × IsSentFor (Asked older l (Call t)) r.content.key → (l s : ℕ) × (name : List ℕ)
         × (sent : ProducerMessageValues) × In (Then (Does (Call t) (Ask l (words.Send e.producer name s sent e.block)))) log
         × (r.content.key ≡ Some (keys.ProducerSend e.producer s))
     by older more k =

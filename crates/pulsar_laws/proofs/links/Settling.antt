@@ -249,7 +249,7 @@ module _ (l place : ℕ) where
       more zs (steps_done rules o log) ∙ ap (λ xs. and_then xs (settled_at l place (steps_done rules o log))) q
       ∙ no_more (settled_at l place (steps_done rules o log)) ∙ so
 
-  live_rises : (o : Options) (log : List Entry) (k : ℕ) (seat : Seat) → (view o log).links.live k ≡ Some seat →
+  pub live_rises : (o : Options) (log : List Entry) (k : ℕ) (seat : Seat) → (view o log).links.live k ≡ Some seat →
       Rises 0 seat.seen.waits.waiting seat.seen.waits.queued
   live_rises o log k seat h =
       let m : Made (dialed_with o k log) (calls_of o k log) seat.seen = alone o log k seat h in

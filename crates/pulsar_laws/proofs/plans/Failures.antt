@@ -240,7 +240,7 @@ module _ (o : Options) (caused : OutcomesAreCaused) where
       IsToldBy who (Granted (granting.Told x)) e older → X
   not_told who x e older run (other, inl is) =
       let n = notice who (Granted (granting.Told x)) in
-      let k : true ≡ false = tells_so o older other (Tell n) (subst (λ y. IsRun o (y ∷ older)) is run) in
+      let k : true ≡ false = (tells_so o older other (Tell n) (subst (λ y. IsRun o (y ∷ older)) is run)).1 in
       absurd cc
   not_told who x e older run (other, inr (ns, is, i)) =
       let k : Each IsOfBatch ns = tells_so o older other (TellAll ns) (subst (λ y. IsRun o (y ∷ older)) is run) in

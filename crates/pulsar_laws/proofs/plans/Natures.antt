@@ -27,7 +27,7 @@ abbrev pub is_batching : Plan → Bool
 is_batching (Batching w e b) = true
 is_batching _ = false
 
--- WHAT A PLAN TELLS: nobody is granted anything by a plan, but by the plan of batches, which tells calls what became of a batch, and that
+-- WHAT A PLAN TELLS is told to a call; and nobody is granted anything by a plan, but by the plan of batches, which tells calls what became of a batch, and that
 -- their flush is done.
 abbrev pub is_granted : Outcome → Bool
 is_granted (outcome.Granted n) = true
@@ -47,7 +47,7 @@ abbrev pub IsOfBatch : Notice → Type 0
 IsOfBatch n = (is_call n.who ≡ true) × (is_of_batch n.outcome ≡ true)
 
 abbrev pub TellsSo : Action → Type 0
-TellsSo (Tell n) = is_granted n.outcome ≡ false
+TellsSo (Tell n) = (is_call n.who ≡ true) × (is_granted n.outcome ≡ false)
 TellsSo (TellAll ns) = Each IsOfBatch ns
 TellsSo _ = Unit {0}
 
@@ -79,14 +79,14 @@ pub arc_tells : {p q : Plan} {u : Outcome} {a : Action} → Arc p u q a → Tell
 arc_tells (builds_on d k) = build_tells k
 arc_tells (sends d k) = send_tells k
 arc_tells (part_sends d k b) = send_tells k
-arc_tells (part_tells q d k b) = refl
-arc_tells part_fails = refl
-arc_tells (part_halts b) = refl
-arc_tells part_stores = refl
+arc_tells (part_tells q d k b) = (refl, refl)
+arc_tells part_fails = (refl, refl)
+arc_tells (part_halts b) = (refl, refl)
+arc_tells part_stores = (refl, refl)
 arc_tells (batches_go d k) = batch_tells k
 arc_tells (batch_cuts rs i b) = reports_tell rs
 arc_tells _ = tt
 
 pub begun_tells : {p : Procedure} {q : Plan} {a : Action} → Begun p q a → TellsSo a
-begun_tells begins_leaving = refl
+begun_tells begins_leaving = (refl, refl)
 begun_tells _ = tt

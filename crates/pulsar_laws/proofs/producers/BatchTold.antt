@@ -1,11 +1,10 @@
 -- What those of a batch are told.
 use Rattle.std.proofs.Common.{◌≡◌, ◌⊎◌, inl, inr, ◌∙◌, sym, ap, subst, ℕ, List, ◌∷◌, refl, length, map, Bool, true, false, cond, Option, Some, None, Result, Ok, Err}
 use Rattle.std.proofs.lemmas.Bool.{cases_Bool}
-use Rattle.pulsar_laws.proofs.ActWords.{Action, Ask, Does, Notice, Outcome, Producer, Rest, TellAll, Told}
+use Rattle.pulsar_laws.proofs.ActWords.{Action, Does, Notice, Outcome, Producer, Rest, TellAll, Told}
 use Rattle.pulsar_laws.proofs.PlanWords.{Batches, Batching, Command, Errand, Fate, Heard, Looking, Making, Member, News, news_in, news_of, overrides, SearchTurn, Sending as Send, Served, told_to, Ways}
-use Rattle.pulsar_laws.proofs.RunWords.{Cause, Entry, In, IsRun, notice, Options, Then, view}
+use Rattle.pulsar_laws.proofs.RunWords.{Entry, IsRun, notice, Options, Then, view}
 use Rattle.pulsar_laws.proofs.LinkWords.{Failure, Fault, Place, Reply}
-use Rattle.pulsar_messages.specs.Words as words
 use Rattle.pulsar_messages.specs.Content.{ProducerMessageValues}
 use Rattle.pulsar_frame.specs.Reply.{Reply as Content, is_body}
 use Rattle.pulsar_wire.specs.declared.key.RequestKey.TheVariants as keys
@@ -24,16 +23,14 @@ use Rattle.pulsar_producer.specs.declared.deed.Step.TheVariants as step
 use Rattle.pulsar_producer.specs.declared.sending.Sending.TheVariants as send
 use Rattle.pulsar_calls.specs.declared.act.Outcome.TheVariants as outcome
 use Rattle.pulsar_laws.proofs.Cases.{cond_so}
-use Rattle.pulsar_laws.specs.BatchLaws.{AskedAs, IsFateOf, MembersAreTold, frames_queued, under_way}
+use Rattle.pulsar_laws.specs.BatchLaws.{AskedSince, asked_last, IsFateOf, MembersAreTold, frames_queued, under_way}
 use Rattle.pulsar_laws.proofs.producers.BatchQueued.{queued_once}
 use Rattle.pulsar_laws.proofs.plans.Batched.{Comes, IsSettling, Unsent, tells_where}
 use Rattle.pulsar_laws.proofs.producers.BatchFailing.{Kept, KeepsSo, Why, fails_so, is_told_news, kept_run, never_told}
-use Rattle.pulsar_laws.proofs.producers.BatchFrames.{asked_own}
 use Rattle.pulsar_laws.proofs.producers.BatchRun.{PromptSo, StateSo, batched_run, deed_at, some_batch, was_done}
-use Rattle.pulsar_laws.proofs.calls.Caused.{outcomes_are_caused_lem}
 use Rattle.pulsar_laws.proofs.producers.Drawing.{here}
 use Rattle.pulsar_laws.proofs.plans.Productions.{SendKeeps}
-use Rattle.pulsar_laws.proofs.links.Receipts.{IsSentFor, in_step, receipt_for}
+use Rattle.pulsar_laws.proofs.producers.Since.{receipts_of_batches_lem}
 
 -- A SEND THAT GIVES A RECEIPT was told its reply
 
@@ -154,34 +151,11 @@ notices_in ns _ = ns
 
 module _ (o : Options) (log : List Entry) (n : ℕ) (ns : List Notice) (run : IsRun o (Then (Does (Producer n) (TellAll ns)) ∷ log)) where
   -- the one whose receipt came
-  receipt_from : (older before : List Entry) (reply : Reply) (l : ℕ) (k : IsSentFor before (Producer n) l reply.content.key) →
-      log ≡ Then (Told (notice (Producer n) (outcome.Replied reply))) ∷ older →
-      In (Then (Does (Producer n) (Ask l (words.Send k.producer k.name k.sequence k.message k.block)))) older →
-      (s : ℕ) × (reply.content.key ≡ Some (keys.ProducerSend n s)) × AskedAs n s log
-  receipt_from older before reply l k there i =
-      let r : IsRun o (Then (Told (notice (Producer n) (outcome.Replied reply))) ∷ older) = subst (IsRun o) there run.0 in
-      let own : k.producer ≡ n = asked_own o older n l k.producer k.sequence k.name k.message k.block r.0 i in
-      let j : In (Then (Does (Producer n) (Ask l (words.Send k.producer k.name k.sequence k.message k.block)))) log =
-      subst (In (Then (Does (Producer n) (Ask l (words.Send k.producer k.name k.sequence k.message k.block))))) (sym there) (inr i) in (
-        k.sequence,
-        k.bears ∙ ap (λ m. Some (keys.ProducerSend m k.sequence)) own,
-        (
-          l,
-          k.name,
-          k.message,
-          k.block,
-          subst (λ m. In (Then (Does (Producer n) (Ask l (words.Send m k.name k.sequence k.message k.block)))) log) own j,
-        ),
-      )
-
   receipt_bears : (older : List Entry) (reply : Reply) → log ≡ Then (Told (notice (Producer n) (outcome.Replied reply))) ∷ older →
-      is_body 7 reply.content.body ≡ true → (s : ℕ) × (reply.content.key ≡ Some (keys.ProducerSend n s)) × AskedAs n s log
+      is_body 7 reply.content.body ≡ true → (s : ℕ) × (reply.content.key ≡ Some (keys.ProducerSend n s)) × AskedSince n s log
   receipt_bears older reply there body =
-      let r : IsRun o (Then (Told (notice (Producer n) (outcome.Replied reply))) ∷ older) = subst (IsRun o) there run.0 in
-      let step = in_step (Cause o (Producer n) (outcome.Replied reply)) older (outcomes_are_caused_lem o older (Producer n) (outcome.Replied reply) r) in
-      let x = receipt_for o step.1 (Producer n) reply step.0 step.2 body in
-      receipt_from older step.1 reply x.0 x.1 there
-      (step.3 (Then (Does (Producer n) (Ask x.0 (words.Send x.1.producer x.1.name x.1.sequence x.1.message x.1.block)))) x.1.listed)
+      let k = receipts_of_batches_lem o older n reply (subst (IsRun o) there run.0) body in
+      (k.0, k.1, (k.2.0, k.2.1, k.2.2, ap (asked_last n) there ∙ k.2.3))
 
   fate_of : (older : List Entry) (items : List Item) (u : Outcome) (w : Ways) (e : Errand) (ms : List Member) (c : ℕ) (s : Send) (f : Fate)
       (m : ProducerMessageValues) → log ≡ Then (Told (notice (Producer n) u)) ∷ older →

@@ -1,0 +1,1109 @@
+-- A topic producer waits for one thing at a time: as it asks for something it waits for nothing else, and as it takes a batch for nothing at all.
+use Rattle.std.specs.Prelude.{bytes_eq}
+use Rattle.std.proofs.Common.{◌≡◌, ◌⊎◌, inl, inr, ◌∙◌, sym, ap, subst, ℕ, ◌+◌, ◌≤◌, ◌==◌, arith, List, [], ◌∷◌, ◌++◌, refl, Bool, true, false, ◌&&◌, cond, Option, Some, None, Result, Ok, Err}
+use Rattle.std.proofs.lemmas.Bool.{cases_Bool, eqb-true}
+use Rattle.std.specs.Option.{option_map}
+use Rattle.pulsar_laws.proofs.ActWords.{Act, Action, Alarm, Answers, Ask, Call, Comes, Consumer, Dials, Does, FailConsumer, FindConsumer, Get, is_same, Notice, OfTopic, Outcome, Part, PassTurn, Procedure, Producer, RecallConsumer, Rest, Revive, Starts, StopAll, TakeBatch, TakeFlow, TakeNumber, ticket_of, Told, Verdict, Wait, Who, Word, OfConsumer}
+use Rattle.pulsar_laws.proofs.PlanWords.{action_of, Batches, Batching, begins, Deed, Errand, Gives, News, Plan, Sending as Send, Stays, told, Turn, Ways}
+use Rattle.pulsar_laws.proofs.RunWords.{agenda, at_once, Begins, begun_same, Cause, does, Each, each_append, each_map, Entry, first_of, follows, follows_some, In, IsRun, link_got, notice, Options, performs, rest, rest_of, rules, stays, stays_some, Then, told_some, view, View}
+use Rattle.pulsar_laws.proofs.LinkWords.{answer_at, Base, Failure, Nobody, Pauses, place_of, Place, Runs, Seat, seat_asked, Series, Serves, Words}
+use Rattle.pulsar_addresses.specs.Address.{address_key, is_reachable}
+use Rattle.pulsar_exchange.specs.Request.{is_awaited}
+use Rattle.pulsar_session.specs.Link as session
+use Rattle.pulsar_session.specs.declared.states.Asked.{Asked as Placed}
+use Rattle.pulsar_session.specs.declared.states.Asked.TheVariants as placed
+use Rattle.pulsar_wire.specs.declared.error.ConnectionError.{ConnectionError}
+use Rattle.pulsar_searches.specs.declared.turn.Action.TheVariants as wish
+use Rattle.pulsar_producer.specs.Topic as topic
+use Rattle.pulsar_calls.specs.declared.act.Procedure.TheVariants as procedure
+use Rattle.pulsar_calls.specs.declared.act.Word.TheVariants as word
+use Rattle.pulsar_consumer_table.specs.Consumers as consumer
+use Rattle.pulsar_consumer_table.specs.Consumers.{Member}
+use Rattle.pulsar_wire.specs.Row.{Values}
+use Rattle.pulsar_wire.specs.Rows.{send_receipt}
+use Rattle.pulsar_wire.specs.declared.error.ConnectionError.TheVariants as error
+use Rattle.pulsar_producer.specs.declared.batching.Batching.TheVariants as batching
+use Rattle.pulsar_producer.specs.declared.deed.Deed.TheVariants as deed
+use Rattle.pulsar_producer.specs.declared.sending.Sending.TheVariants as send
+use Rattle.pulsar_outgoing.specs.Storage.{Item}
+use Rattle.pulsar_outgoing.specs.declared.news.News.TheVariants as news
+use Rattle.pulsar_producer_table.specs.Producers.{next_batch_at}
+use Rattle.pulsar_producer_table.specs.declared.table.Topic.{Topic}
+use Rattle.pulsar_acts.specs.Rules.{gets_from}
+use Rattle.pulsar_links.specs.LinkRules.{told_at}
+use Rattle.pulsar_links.specs.Seats.{asker_at}
+use Rattle.pulsar_acts.specs.View.{waits_for}
+use Rattle.pulsar_calls.specs.declared.act.Outcome.TheVariants as outcome
+use Rattle.pulsar_client.proofs.Raising.{IsRaised, raises}
+use Rattle.pulsar_plans.proofs.Arcs.{Arc, BatchArc, StaysSo, batch_sends, batch_takes, batches_go, told_arc}
+use Rattle.pulsar_producer.proofs.Arcs.{SendArc, asks, draws, looked_makes, looks_on_asks, looks_on_gets, looks_on_waits, makes_on_asks, makes_on_gets, makes_on_waits, recalled_looks_asks, recalled_looks_gets, recalled_looks_waits, recalled_makes}
+use Rattle.pulsar_laws.specs.BatchLaws.{OneThingAtATime, asks_others}
+use Rattle.pulsar_laws.proofs.calls.Stopping.{never_asks}
+use Rattle.pulsar_laws.specs.Laws.{IsServedAs, SaysSo, WordComes, stopped}
+use Rattle.pulsar_laws.proofs.calls.Causes.{IsToldBy}
+use Rattle.pulsar_laws.proofs.Cases.{none_some, some_is}
+use Rattle.pulsar_laws.proofs.calls.Same.{same_self, same_who}
+use Rattle.pulsar_laws.proofs.calls.Whereabouts.{ApartBy, Asker, NoFind, NotWake, begun_there, goes_nowhere, got_free, moment_none, not_among, seekers_absent, times}
+use Rattle.pulsar_laws.proofs.Lists.{in_each}
+use Rattle.pulsar_laws.proofs.calls.Caused.{outcomes_are_caused_lem}
+use Rattle.pulsar_laws.proofs.calls.Sources.{step_runs, step_some}
+use Rattle.pulsar_laws.proofs.links.OneEach.{same_key}
+use Rattle.pulsar_laws.proofs.plans.AtOnce.{AtOnce, dials, nothing, once_each, performs_once, says, stops_all}
+use Rattle.pulsar_laws.proofs.plans.Batchers.{batcher_does, batcher_stands, is_batcher}
+use Rattle.pulsar_laws.proofs.plans.Granted.{BeginsSo, IsLedSo, does_from}
+use Rattle.pulsar_laws.proofs.plans.Holding.{holds}
+use Rattle.pulsar_laws.proofs.plans.Batched.{takes_where}
+use Rattle.pulsar_laws.proofs.plans.Owned.{starts_own}
+use Rattle.pulsar_laws.proofs.plans.Standing.{OwnBatches, run_older}
+use Rattle.pulsar_laws.proofs.plans.Takers.{taken_by_own}
+use Rattle.pulsar_laws.proofs.producers.BatchRun.{batched_run, deed_at, row_then}
+use Rattle.pulsar_laws.proofs.producers.Drawing.{drawn_run}
+use Rattle.pulsar_laws.proofs.producers.Owed.{brings, is_hard, me, note, other_note, owing, owing_then, took}
+use Rattle.pulsar_laws.proofs.producers.Spotting.{AtBase, AtMoment, IsAt, NoTake, Nowhere, OnLink, OnRow, Spot, all_others, asker_map, at_base, at_moment, at_place, gone, is_busy, is_stop, on_row, out, row_still, still, tell_others}
+use Rattle.pulsar_laws.proofs.producers.Topics.{all_after, row_as}
+use Rattle.pulsar_laws.proofs.producers.TurnActs.{equal_self}
+use Rattle.pulsar_laws.proofs.producers.TurnRun.{own_told_none}
+use Rattle.pulsar_laws.proofs.producers.Turns.{sum_append}
+
+-- A PLAN THAT WAITS for what comes from others: for a batch, or for the outcome of what it asked for
+
+abbrev is_asking_send : Send → Bool
+is_asking_send (send.Asked kept) = true
+is_asking_send (send.Looking m c l) = true
+is_asking_send (send.Making m c k) = true
+is_asking_send _ = false
+
+abbrev open_send : Send → Bool
+open_send send.Sent = true
+open_send s = is_asking_send s
+
+abbrev open_batch : Batches → Bool
+open_batch batching.Resting = true
+open_batch batching.Taking = true
+open_batch (batching.Sending ms c s) = open_send s
+open_batch batching.Settling = false
+
+abbrev pub is_open : Option Plan → Bool
+is_open None = true
+is_open (Some (Batching w e b)) = open_batch b
+is_open (Some _) = false
+
+abbrev is_asking : Plan → Bool
+is_asking (Batching w e (batching.Sending ms c s)) = is_asking_send s
+is_asking _ = false
+
+abbrev is_sent_plan : Plan → Bool
+is_sent_plan (Batching w e (batching.Sending ms c send.Sent)) = true
+is_sent_plan _ = false
+
+abbrev is_taking : Plan → Bool
+is_taking (Batching w e batching.Taking) = true
+is_taking _ = false
+
+abbrev is_rest : Action → Bool
+is_rest Rest = true
+is_rest _ = false
+
+abbrev pub is_passing : Action → Bool
+is_passing (OfTopic n PassTurn) = true
+is_passing _ = false
+
+-- it goes on to wait, and asks for nothing
+abbrev Soft : Plan → Action → Type 0
+Soft q a = (is_open (Some q) ≡ true) × ((is_rest a ≡ true) ⊎ ((is_passing a ≡ true) × (is_sent_plan q ≡ true)))
+
+turn_soft : (p : Plan) (version : Option (List ℕ)) → is_open (Some p) ≡ true → holds p ≡ None →
+    StaysSo Soft (told p (outcome.Granted (news.HasTurn version)))
+turn_soft (Batching w e batching.Resting) version o h = (refl, inl refl)
+turn_soft (Batching w e batching.Taking) version o h = (refl, inl refl)
+turn_soft (Batching w e (batching.Sending ms c send.Sent)) version o h = (refl, inl refl)
+turn_soft (Batching w e (batching.Sending ms c (send.Asked kept))) version o h = absurd cc
+turn_soft (Batching w e (batching.Sending ms c (send.Looking m d l))) version o h = absurd cc
+turn_soft (Batching w e (batching.Sending ms c (send.Making m d k))) version o h = absurd cc
+turn_soft (Batching w e (batching.Sending ms c _)) version o h = absurd cc
+turn_soft _ version o h = absurd cc
+
+queued_soft : (p : Plan) → is_open (Some p) ≡ true → StaysSo Soft (told p outcome.Queued)
+queued_soft (Batching w e batching.Resting) o = (refl, inl refl)
+queued_soft (Batching w e batching.Taking) o = (refl, inl refl)
+queued_soft (Batching w e (batching.Sending ms c send.Sent)) o = (refl, inl refl)
+queued_soft (Batching w e (batching.Sending ms c (send.Asked kept))) o = (refl, inr (refl, refl))
+queued_soft (Batching w e (batching.Sending ms c (send.Looking m d l))) o = (refl, inl refl)
+queued_soft (Batching w e (batching.Sending ms c (send.Making m d k))) o = (refl, inl refl)
+queued_soft (Batching w e (batching.Sending ms c _)) o = absurd cc
+queued_soft _ o = absurd cc
+
+placed_soft : (p : Plan) (r : Placed) → is_asking p ≡ true → StaysSo Soft (told p (told_at (Ok r)))
+placed_soft (Batching w e (batching.Sending ms c (send.Asked kept))) (placed.Queued place) h = (refl, inr (refl, refl))
+placed_soft (Batching w e (batching.Sending ms c (send.Looking m d l))) (placed.Queued place) h = (refl, inl refl)
+placed_soft (Batching w e (batching.Sending ms c (send.Making m d k))) (placed.Queued place) h = (refl, inl refl)
+placed_soft (Batching w e (batching.Sending ms c (send.Asked kept))) (placed.Waiting place) h = (refl, inl refl)
+placed_soft (Batching w e (batching.Sending ms c (send.Looking m d l))) (placed.Waiting place) h = (refl, inl refl)
+placed_soft (Batching w e (batching.Sending ms c (send.Making m d k))) (placed.Waiting place) h = (refl, inl refl)
+placed_soft (Batching w e (batching.Sending ms c _)) r h = absurd cc
+placed_soft _ r h = absurd cc
+
+done_soft : (p : Plan) → is_sent_plan p ≡ true → StaysSo Soft (told p (outcome.Granted news.Done))
+done_soft (Batching w e (batching.Sending ms c send.Sent)) h = (refl, inl refl)
+done_soft (Batching w e (batching.Sending ms c _)) h = absurd cc
+done_soft _ h = absurd cc
+
+none_soft : (p : Plan) → is_taking p ≡ true → StaysSo Soft (told p (outcome.Granted (news.HasBatch None)))
+none_soft (Batching w e batching.Taking) h = (refl, inl refl)
+none_soft _ h = absurd cc
+
+asking_open : (p : Plan) → is_asking p ≡ true → is_open (Some p) ≡ true
+asking_open (Batching w e (batching.Sending ms c (send.Asked kept))) h = refl
+asking_open (Batching w e (batching.Sending ms c (send.Looking m d l))) h = refl
+asking_open (Batching w e (batching.Sending ms c (send.Making m d k))) h = refl
+asking_open (Batching w e (batching.Sending ms c _)) h = absurd cc
+asking_open _ h = absurd cc
+
+-- where it asks for something it waits for that
+send_asks : {w : Ways} {e : Errand} {s q : Send} {y : News} {d : Deed} → SendArc w e s y q d → goes_nowhere (action_of d) ≡ false → is_asking_send q ≡ true
+send_asks draws h = absurd cc
+send_asks asks h = refl
+send_asks (recalled_looks_gets i) h = refl
+send_asks (recalled_looks_asks i) h = refl
+send_asks (recalled_looks_waits i) h = refl
+send_asks recalled_makes h = refl
+send_asks (looks_on_gets i) h = refl
+send_asks (looks_on_asks i) h = refl
+send_asks (looks_on_waits i) h = refl
+send_asks looked_makes h = refl
+send_asks (makes_on_gets i) h = refl
+send_asks (makes_on_asks i) h = refl
+send_asks (makes_on_waits i) h = refl
+send_asks _ h = absurd cc
+
+batch_asks : {w : Ways} {e : Errand} {b q : Batches} {y : News} {d : Deed} → BatchArc w e b y q d → goes_nowhere (action_of d) ≡ false →
+    is_asking (Batching w e q) ≡ true
+batch_asks (batch_sends k) h = send_asks k h
+batch_asks batch_takes h = absurd cc
+batch_asks _ h = absurd cc
+
+arc_asks : {p q : Plan} {u : Outcome} {a : Action} → Arc p u q a → is_batcher p ≡ true → goes_nowhere a ≡ false → is_asking q ≡ true
+arc_asks (batches_go d k) is h = batch_asks k h
+arc_asks _ is h = absurd cc
+
+no_find : (d : Deed) (t : ℕ) → OfConsumer (FindConsumer t) ≡ action_of d → ⊥
+no_find (deed.Does (wish.Get p)) t h = cc
+no_find (deed.Does (wish.Ask l r)) t h = cc
+no_find (deed.Does (wish.Wait delay)) t h = cc
+no_find deed.Rests t h = cc
+no_find _ t h = cc
+
+taking_open : (p : Plan) → is_taking p ≡ true → is_open (Some p) ≡ true
+taking_open (Batching w e batching.Taking) h = refl
+taking_open _ h = absurd cc
+
+-- WHAT IT IS NEVER TOLD: what is said of consumers, and what becomes of messages
+
+abbrev of_consumer : Action → Bool
+of_consumer (TakeNumber wanted) = true
+of_consumer (OfConsumer (FindConsumer t)) = true
+of_consumer (OfConsumer TakeFlow) = true
+of_consumer (OfConsumer RecallConsumer) = true
+of_consumer (OfConsumer (Revive l)) = true
+of_consumer (OfConsumer (FailConsumer f)) = true
+of_consumer _ = false
+
+says_of : (who : Who) (w : Word) (a : Action) (v : View) → SaysSo who w a v → of_consumer a ≡ true
+says_of who (word.Numbered n) (TakeNumber wanted) v h = refl
+says_of who word.InUse (TakeNumber wanted) v h = refl
+says_of who word.Closed (OfConsumer (FindConsumer t)) v h = refl
+says_of who (word.Flow link permits) (OfConsumer TakeFlow) v h = refl
+says_of who word.NoFlow (OfConsumer TakeFlow) v h = refl
+says_of who (word.Recalled c) (OfConsumer RecallConsumer) v h = refl
+says_of who word.Lives (OfConsumer (Revive l)) v h = refl
+says_of who word.Over (OfConsumer (Revive l)) v h = refl
+says_of who word.Over (OfConsumer (FailConsumer f)) v h = refl
+says_of who w a v h = absurd h
+
+deed_plain : (d : Deed) → of_consumer (action_of d) ≡ false
+deed_plain (deed.Does (wish.Get p)) = refl
+deed_plain (deed.Does (wish.Ask l r)) = refl
+deed_plain (deed.Does (wish.Wait delay)) = refl
+deed_plain deed.Rests = refl
+deed_plain _ = refl
+
+module _ (o : Options) (n : ℕ) where
+  own_plain : (log : List Entry) (a : Action) → IsRun o (Then (Does (me n) a) ∷ log) → of_consumer a ≡ true → ⊥
+  own_plain log a run h =
+      let d = batcher_does o log n a run in
+      let f : true ≡ false = sym h ∙ ap of_consumer d.1 ∙ deed_plain d.0 in
+      cc
+
+  finds_none : (log : List Entry) (a : Act) → IsRun o (Then a ∷ log) → NoFind (me n) a
+  finds_none log (Does who (OfConsumer (FindConsumer t))) run = λ e.
+      own_plain log (OfConsumer (FindConsumer t)) (subst (λ w. IsRun o (Then (Does w (OfConsumer (FindConsumer t))) ∷ log)) (sym e) run) refl
+  finds_none log (Does who _) run = tt
+  finds_none log _ run = tt
+
+  seeks_none : (log : List Entry) → IsRun o log → (u : ℕ) → In (me n) (consumer.seekers_at ((view o log).consumers.rows u)) → ⊥
+  seeks_none [] run u = λ i. i
+  seeks_none (Begins e ∷ log) run u =
+      subst (λ cs. In (me n) (consumer.seekers_at (cs.rows u)) → ⊥) (sym (begun_same (λ v. v.consumers) e (view o log) refl)) (seeks_none log run.0 u)
+  seeks_none (Then a ∷ log) run u = seekers_absent (me n) (view o log) a u (finds_none log a run) (seeks_none log run.0 u)
+
+  no_server : (v : View) (u : ℕ) (m : Member) → IsServedAs v (me n) u m → ⊥
+  no_server v u m (there, is) = let f : me n ≡ Consumer m.seen.number u = is in cc
+
+  no_word : (e : Entry) (older : List Entry) (w : Word) → IsRun o (e ∷ older) → WordComes o (me n) w e older → ⊥
+  no_word e older w run (inl (a, is, h)) = own_plain older a (subst (λ x. IsRun o (x ∷ older)) is run) (says_of (me n) w a (view o older) h)
+  no_word e older w run (inr (inl (l, u, m, is, serves, h))) = no_server (view o older) u m serves
+  no_word e older w run (inr (inr (inl (l, u, end, m, is, serves, h)))) = no_server (view o older) u m serves
+  no_word e older w run (inr (inr (inr (inl (l, u, who, request, m, is, serves, h))))) = no_server (view o older) u m serves
+  no_word e older w run (inr (inr (inr (inr (inl (q, inl (u, m, is, serves, due))))))) = no_server (view o older) u m serves
+  no_word e older w run (inr (inr (inr (inr (inl (q, inr (inl (l, who, m, is, serves, due)))))))) = no_server (view o older) (ticket_of who) m serves
+  no_word e older w run (inr (inr (inr (inr (inl (q, inr (inr (who, j, said, is, same, due)))))))) =
+      let f : me n ≡ Consumer j.number (ticket_of who) = same in cc
+  no_word e older w run (inr (inr (inr (inr (inr (q, (who, i, h))))))) = seeks_none older (run_older o e older run) (ticket_of who) i
+
+  told_by_none : (e : Entry) (older : List Entry) (u : Outcome) → IsRun o (e ∷ older) → IsToldBy (me n) u e older → ⊥
+  told_by_none e older u run (who, inl is) =
+      let f : is_same (me n) (me n) ≡ false = tell_others o older n who (notice (me n) u) (subst (λ x. IsRun o (x ∷ older)) is run) in
+      let g : true ≡ false = sym (same_self (me n)) ∙ f in
+      cc
+  told_by_none e older u run (who, inr (ns, is, i)) =
+      let f : is_same (me n) (me n) ≡ false =
+      in_each (λ m. is_same (me n) m.who ≡ false) (notice (me n) u) ns i (all_others o older n who ns (subst (λ x. IsRun o (x ∷ older)) is run)) in
+      let g : true ≡ false = sym (same_self (me n)) ∙ f in
+      cc
+
+  never : (u : Outcome) (log : List Entry) → IsRun o (Then (Told (notice (me n) u)) ∷ log) →
+      ((e : Entry) (older : List Entry) → IsRun o (e ∷ older) → Cause o (me n) u e older → ⊥) → ⊥
+  never u log run none =
+      let s = step_some (λ e older. IsRun o (e ∷ older) × Cause o (me n) u e older) log
+      (step_runs o (Cause o (me n) u) log run.0 (outcomes_are_caused_lem o log (me n) u run)) in
+      none s.entry s.older s.holds.0 s.holds.1
+
+  never_word : (log : List Entry) (w : Word) → IsRun o (Then (Told (notice (me n) (outcome.Word w))) ∷ log) → ⊥
+  never_word log w run = never (outcome.Word w) log run (λ e older r c. no_word e older w r c)
+
+  never_settled : (log : List Entry) (f : Result (Values send_receipt) Failure) → IsRun o (Then (Told (notice (me n) (outcome.Settled f))) ∷ log) → ⊥
+  never_settled log f run = never (outcome.Settled f) log run by
+    where
+      by : (e : Entry) (older : List Entry) → IsRun o (e ∷ older) → Cause o (me n) (outcome.Settled f) e older → ⊥
+      by e older r (inl h) = told_by_none e older (outcome.Settled f) r h
+      by e older r (inr h) = let q : me n ≡ Call h.3 = h.5 in cc
+
+  never_parted : (log : List Entry) (t : ℕ) (f : Option Failure) → IsRun o (Then (Told (notice (me n) (outcome.Parted t f))) ∷ log) → ⊥
+  never_parted log t f run = never (outcome.Parted t f) log run (λ e older r h. told_by_none e older (outcome.Parted t f) r h)
+
+-- WHAT ARISES AT ONCE
+
+module _ (n : ℕ) where
+  abbrev pub NotOwn : Act → Type 0
+  NotOwn (Told m) = is_same (me n) m.who ≡ false
+  NotOwn (Does w a) = is_same (me n) w ≡ false
+  NotOwn a = Unit {0}
+
+  does_not : (w : Who) (x : Action) → is_same (me n) w ≡ false → Each NotOwn (does w x)
+  does_not w Rest h = tt
+  does_not w _ h = (h, tt)
+
+  follows_not : (w : Who) (t : Turn Plan Verdict) → is_same (me n) w ≡ false → Each NotOwn (follows w t)
+  follows_not w (Stays q a) h = does_not w a h
+  follows_not w (Gives v) h = (tt, tt)
+
+  some_not : (w : Who) (t : Option (Turn Plan Verdict)) → is_same (me n) w ≡ false → Each NotOwn (follows_some w t)
+  some_not w None h = tt
+  some_not w (Some t) h = follows_not w t h
+
+  abbrev is_plain : Act → Bool
+  is_plain (Comes p) = true
+  is_plain (Answers who verdict) = true
+  is_plain (Dials p starter retries) = true
+  is_plain _ = false
+
+  raised_not : (a b : Act) → is_plain a ≡ true → IsRaised a b → NotOwn b
+  raised_not (Comes p) (Told m) h r = absurd cc
+  raised_not (Answers who verdict) (Told m) h r = absurd cc
+  raised_not (Dials p starter retries) (Told m) h r = absurd cc
+  raised_not (Comes p) (Does w x) h r = absurd cc
+  raised_not (Answers who verdict) (Does w x) h r = absurd cc
+  raised_not (Dials p starter retries) (Does w x) h r = absurd cc
+  raised_not (Starts who p) b h r = absurd cc
+  raised_not (Told m) b h r = absurd cc
+  raised_not (Does w x) b h r = absurd cc
+  raised_not a (Comes p) h r = tt
+  raised_not a (Starts who p) h r = tt
+  raised_not a (Answers who verdict) h r = tt
+  raised_not a (Dials p starter retries) h r = tt
+
+  plain_not : (v : View) (a : Act) → is_plain a ≡ true → Each NotOwn (at_once v a)
+  plain_not v a h = each_map (IsRaised a) NotOwn (at_once v a) (λ b r. raised_not a b h r) (raises v a)
+
+  once_not : (o : Options) (log : List Entry) (a : Act) → IsRun o (Then a ∷ log) → NotOwn a → Each NotOwn (at_once (view o log) a)
+  once_not o log (Told m) run h = some_not m.who (told_some ((view o log).stand m.who) m.outcome) h
+  once_not o log (Does w x) run h = once_each NotOwn (λ u k b. h) (λ p. tt) (λ l. tt) (performs_once (view o log) w x)
+  once_not o log (Comes p) run h = plain_not (view o log) (Comes p) refl
+  once_not o log (Answers who verdict) run h = plain_not (view o log) (Answers who verdict) refl
+  once_not o log (Dials p starter retries) run h = plain_not (view o log) (Dials p starter retries) refl
+  once_not o log (Starts who p) run h = elim (cases_Bool (is_same (me n) who)) [
+    | inr e ↦ follows_not who (begins p) e
+    | inl e ↦
+        (let r : IsRun o (Then (Starts (me n) p) ∷ log) = subst (λ (w : Who). IsRun o (Then (Starts w p) ∷ log)) (sym (same_who (me n) who e)) run in
+        let s = starts_own o log n p r in
+        subst (λ x. Each NotOwn (follows who (begins x))) (sym s.2) tt)
+  ]
+
+  rest_none : (now : List Act) (here : List Notice) (behind : List (List Notice)) (parts : List Part) → now ≡ [] → (rest_of now here behind parts).now ≡ []
+  rest_none (a ∷ now) here behind parts h = absurd cc
+  rest_none [] (m ∷ here) behind parts h = refl
+  rest_none [] [] (c ∷ behind) parts h = rest_none [] c behind parts refl
+  rest_none [] [] [] parts h = refl
+
+  -- WHERE IT IS
+
+  module _ (o : Options) where
+    abbrev row : List Entry → Option Plan
+    row log = (view o log).stand (me n)
+
+    abbrev Clear : List Entry → Spot → Type 0
+    Clear log s = owing n o log + out s ≡ 0
+
+    -- what is first of all: it does something, or is told what came of that
+    abbrev OwnHead : List Entry → Spot → Act → Type 0
+    OwnHead log s (Told m) = is_same (me n) m.who ≡ true → Clear log s ⊎ ((p : Plan) → row log ≡ Some p → StaysSo Soft (told p m.outcome))
+    OwnHead log s (Does w x) =
+        is_same (me n) w ≡ true → Clear log s ⊎ ((is_passing x ≡ true) × (p : Plan) × (row log ≡ Some p) × (is_sent_plan p ≡ true))
+    OwnHead log s a = Unit {0}
+
+    abbrev HeadSo : List Entry → Spot → List Act → Type 0
+    HeadSo log s [] = Unit {0}
+    HeadSo log s (x ∷ xs) = OwnHead log s x × Each NotOwn xs
+
+    pub record Single (log : List Entry) : Type 0 where
+      pub spot : Spot
+      pub is_at : IsAt n spot (view o log)
+      pub few : owing n o log + out spot ≤ 1
+      pub calm : is_open (row log) ≡ false → Clear log spot
+      pub head : HeadSo log spot (agenda o log).now
+
+    not_head : (log : List Entry) (s : Spot) (a : Act) → NotOwn a → OwnHead log s a
+    not_head log s (Told m) h = λ e. (let f : true ≡ false = sym e ∙ h in absurd cc)
+    not_head log s (Does w x) h = λ e. (let f : true ≡ false = sym e ∙ h in absurd cc)
+    not_head log s (Comes p) h = tt
+    not_head log s (Starts who p) h = tt
+    not_head log s (Answers who verdict) h = tt
+    not_head log s (Dials p starter retries) h = tt
+
+    each_head : (log : List Entry) (s : Spot) (xs : List Act) → Each NotOwn xs → HeadSo log s xs
+    each_head log s [] k = tt
+    each_head log s (x ∷ xs) k = (not_head log s x k.0, k.1)
+
+    tails : (log : List Entry) (s : Spot) (now : List Act) (here : List Notice) (behind : List (List Notice)) (parts : List Part) → HeadSo log s now →
+        Each NotOwn (rest_of now here behind parts).now
+    tails log s (x ∷ xs) here behind parts h = h.1
+    tails log s [] here behind parts h = subst (Each NotOwn) (sym (rest_none [] here behind parts refl)) tt
+
+    abbrev left : List Entry → List Act
+    left log = (rest (agenda o log)).now
+
+    pub left_not : (log : List Entry) → Single log → Each NotOwn (left log)
+    left_not log k = let g = agenda o log in tails log k.spot g.now g.here g.behind g.parts k.head
+
+    -- the first, where it is its own
+    is_first : (log : List Entry) (s : Spot) (now : List Act) (here : List Notice) (behind : List (List Notice)) (parts : List Part) (a : Act) →
+        HeadSo log s now → first_of rules now here behind parts ≡ Some a → (OwnHead log s a × (took n now a ≡ 0)) ⊎ (now ≡ [])
+    is_first log s (x ∷ xs) here behind parts a h fits = inl (subst (OwnHead log s) (let e : x ≡ a = cc in e) h.0, refl)
+    is_first log s [] here behind parts a h fits = inr refl
+
+    no_does : (here : List Notice) (behind : List (List Notice)) (parts : List Part) (w : Who) (x : Action) →
+        first_of rules [] here behind parts ≡ Some (Does w x) → ⊥
+    no_does (m ∷ here) behind parts w x h = cc
+    no_does [] (c ∷ behind) parts w x h = no_does c behind parts w x h
+    no_does [] [] (p ∷ parts) w x h = cc
+    no_does [] [] [] w x h = cc
+
+    does_head : (log : List Entry) (s : Spot) (x : Action) (xs : List Act) → Each NotOwn xs →
+        (is_rest x ≡ false → Clear log s ⊎ ((is_passing x ≡ true) × (p : Plan) × (row log ≡ Some p) × (is_sent_plan p ≡ true))) →
+        HeadSo log s (does (me n) x ++ xs)
+    does_head log s Rest xs k f = each_head log s xs k
+    does_head log s (Get p) xs k f = ((λ e. f refl), k)
+    does_head log s _ xs k f = ((λ e. f refl), k)
+
+    follows_head : (log : List Entry) (s : Spot) (t : Option (Turn Plan Verdict)) (xs : List Act) → Each NotOwn xs →
+        ((q : Plan) (x : Action) → t ≡ Some (Stays q x) → is_rest x ≡ false →
+        Clear log s ⊎ ((is_passing x ≡ true) × (p : Plan) × (row log ≡ Some p) × (is_sent_plan p ≡ true))) →
+        HeadSo log s (follows_some (me n) t ++ xs)
+    follows_head log s None xs k f = each_head log s xs k
+    follows_head log s (Some (Stays q x)) xs k f = does_head log s x xs k (f q x refl)
+    follows_head log s (Some (Gives v)) xs k f = (tt, k)
+
+    once_head : (log older : List Entry) (s : Spot) (x : Action) (xs ys : List Act) → AtOnce (view o older) (me n) x xs → is_stop (Does (me n) x) ≡ false →
+        Each NotOwn ys → Clear log s → HeadSo log s (xs ++ ys)
+    once_head log older s x xs ys nothing stop k c = each_head log s ys k
+    once_head log older s x xs ys (says g b) stop k c = ((λ e. inl c), k)
+    once_head log older s x xs ys dials stop k c = (tt, k)
+    once_head log older s x xs ys stops_all stop k c = absurd cc
+
+    out_most : (s : Spot) → out s ≤ 1
+    out_most Nowhere = omega arith
+    out_most _ = omega arith
+
+    -- IT GOES ON
+
+    module _ (log : List Entry) (k : Single log) where
+      abbrev v : View
+      v = view o log
+
+      abbrev now : List Act
+      now = (agenda o log).now
+
+      -- what it waits for stays, or comes
+      moved : (a : Act) → IsRun o (Then a ∷ log) → is_stop a ≡ false → took n now a ≡ 0 → NoTake n a → ApartBy (me n) a →
+          (is_open (row (Then a ∷ log)) ≡ false → is_open (row log) ≡ false) →
+          ((s : Spot) → HeadSo (Then a ∷ log) s (agenda o (Then a ∷ log)).now) → Single (Then a ∷ log)
+      moved a run stop none untaken apart calm head =
+          let e = owing_then n o log a run in
+          let f = k.few in
+          elim (gone o n log a k.spot run stop k.is_at) [
+            | inl z ↦ record {
+              spot = k.spot;
+              is_at = still o n log k.spot a run untaken apart k.is_at;
+              few = omega (arith, e, none, z, f);
+              calm = λ c. (let q = k.calm (calm c) in omega (arith, e, none, z, q));
+              head = head k.spot;
+            }
+            | inr y ↦
+                (let one = y.0 in
+                let at = y.1 in
+                record {
+                  spot = Nowhere;
+                  is_at = y.2;
+                  few = omega (arith, e, none, one, at, f);
+                  calm = λ c. (let q = k.calm (calm c) in absurd (omega (arith, q, at)));
+                  head = head Nowhere;
+                })
+          ]
+
+      -- it waited for nothing
+      from_clear : (a : Act) → IsRun o (Then a ∷ log) → is_stop a ≡ false → took n now a ≡ 0 → Clear log k.spot → (s : Spot) →
+          IsAt n s (view o (Then a ∷ log)) → (is_open (row (Then a ∷ log)) ≡ false → out s ≡ 0) →
+          (owing n o (Then a ∷ log) ≡ 0 → HeadSo (Then a ∷ log) s (agenda o (Then a ∷ log)).now) → Single (Then a ∷ log)
+      from_clear a run stop none clear s at calm head =
+          let e = owing_then n o log a run in
+          let z : brings n v a ≡ 0 = elim (gone o n log a k.spot run stop k.is_at) [
+            | inl z ↦ z
+            | inr y ↦ (let q = y.1 in absurd (omega (arith, clear, q)))
+          ] in
+          let free : owing n o (Then a ∷ log) ≡ 0 = omega (arith, e, none, z, clear) in
+          let most = out_most s in
+          record {
+            spot = s;
+            is_at = at;
+            few = omega (arith, free, most);
+            calm = λ c. (let q = calm c in omega (arith, free, q));
+            head = head free;
+          }
+
+      -- others do something
+      other_took : (xs : List Act) (a : Act) → NotOwn a → took n xs a ≡ 0
+      other_took (x ∷ xs) a h = refl
+      other_took [] (Told m) h = other_note n m h
+      other_took [] (Comes p) h = refl
+      other_took [] _ h = refl
+
+      other_apart : (a : Act) → NotOwn a → ApartBy (me n) a
+      other_apart (Does w x) h = λ e. (let f : true ≡ false = sym e ∙ h in absurd cc)
+      other_apart (Comes p) h = tt
+      other_apart _ h = tt
+
+      other_takes : (a : Act) → IsRun o (Then a ∷ log) → NotOwn a → NoTake n a
+      other_takes a run h w e =
+          let own = taken_by_own o log w n (subst (λ (x : Act). IsRun o (Then x ∷ log)) e run) in
+          let not : is_same (me n) w ≡ false = subst NotOwn e h in
+          let f : true ≡ false = sym (same_self (me n)) ∙ ap (is_same (me n)) (sym own) ∙ not in
+          cc
+
+      begun_open : (p : Procedure) → OwnBatches n p → is_open (stays (begins p)) ≡ true
+      begun_open p s = ap (λ x. is_open (stays (begins x))) s.2
+
+      other_row : (a : Act) → IsRun o (Then a ∷ log) → NotOwn a → is_open (row (Then a ∷ log)) ≡ false → is_open (row log) ≡ false
+      other_row (Told m) run h c = sym (ap (λ b. is_open (cond b (stays_some (told_some (row log) m.outcome)) (row log))) h) ∙ c
+      other_row (Starts who p) run h c = elim (cases_Bool (is_same (me n) who)) [
+        | inr e ↦ sym (ap (λ b. is_open (cond b (stays (begins p)) (row log))) e) ∙ c
+        | inl e ↦
+            (let r : IsRun o (Then (Starts (me n) p) ∷ log) = subst (λ (w : Who). IsRun o (Then (Starts w p) ∷ log)) (sym (same_who (me n) who e)) run in
+            let f : true ≡ false =
+            sym (begun_open p (starts_own o log n p r)) ∙ sym (ap (λ b. is_open (cond b (stays (begins p)) (row log))) e) ∙ c in
+            absurd cc)
+      ]
+      other_row (Comes p) run h c = c
+      other_row _ run h c = c
+
+      other : (a : Act) → IsRun o (Then a ∷ log) → is_stop a ≡ false → NotOwn a → Single (Then a ∷ log)
+      other a run stop h =
+          moved a run stop (other_took now a h) (other_takes a run h) (other_apart a h) (other_row a run h)
+          (λ s. each_head (Then a ∷ log) s (agenda o (Then a ∷ log)).now
+          (each_append NotOwn (at_once v a) (left log) (once_not o log a run h) (left_not log k)))
+
+      -- IT IS TOLD SOMETHING
+
+      module _ (u : Outcome) (run : IsRun o (Then (Told (notice (me n) u)) ∷ log)) where
+        abbrev later : List Entry
+        later = Then (Told (notice (me n) u)) ∷ log
+
+        untaken : NoTake n (Told (notice (me n) u))
+        untaken w e = absurd cc
+
+        told_clear : owing n o later ≡ 0 → out k.spot ≡ 0 → Single later
+        told_clear free none = record {
+          spot = k.spot;
+          is_at = still o n log k.spot (Told (notice (me n) u)) run untaken tt k.is_at;
+          few = omega (arith, free, none);
+          calm = λ c. omega (arith, free, none);
+          head = follows_head later k.spot (told_some (row log) u) (left log) (left_not log k) (λ q x e r. inl (omega (arith, free, none)));
+        }
+
+        abbrev Keeps : Type 0
+        Keeps = (p : Plan) → row log ≡ Some p → StaysSo Soft (told p u)
+
+        still_open : Keeps → (r : Option Plan) → row log ≡ r → is_open (stays_some (told_some r u)) ≡ true
+        still_open keeps None e = refl
+        still_open keeps (Some p) e = by (told p u) (keeps p e)
+          where
+            by : (t : Turn Plan Verdict) → StaysSo Soft t → is_open (stays t) ≡ true
+            by (Stays q x) s = s.0
+            by (Gives g) s = refl
+
+        next_soft : Keeps → (r : Option Plan) → row log ≡ r → (q : Plan) (x : Action) → told_some r u ≡ Some (Stays q x) → is_rest x ≡ false →
+            (is_passing x ≡ true) × (p : Plan) × (row later ≡ Some p) × (is_sent_plan p ≡ true)
+        next_soft keeps None e q x t h = absurd (none_some t)
+        next_soft keeps (Some p) e q x t h =
+            let is : told p u ≡ Stays q x = cc in
+            let s : Soft q x = subst (StaysSo Soft) is (keeps p e) in
+            let there : row later ≡ Some q = row_then o log n u run (Some p) e ∙ ap stays is in
+            elim s.1 [
+              | inl r ↦ (let f : true ≡ false = sym r ∙ h in absurd cc)
+              | inr y ↦ (y.0, q, there, y.1)
+            ]
+
+        told_soft : owing n o later ≡ owing n o log → Keeps → Single later
+        told_soft same keeps =
+            let f = k.few in
+            let wide : is_open (row later) ≡ true = ap is_open (row_then o log n u run (row log) refl) ∙ still_open keeps (row log) refl in
+            record {
+              spot = k.spot;
+              is_at = still o n log k.spot (Told (notice (me n) u)) run untaken tt k.is_at;
+              few = omega (arith, f, same);
+              calm = λ c. (let g : true ≡ false = sym wide ∙ c in absurd cc);
+              head =
+                  follows_head later k.spot (told_some (row log) u) (left log) (left_not log k)
+                  (λ q x e r. inr (next_soft keeps (row log) refl q x e r));
+            }
+
+        soft_told : is_open (row log) ≡ true → is_hard u ≡ false → Keeps
+        soft_told wide soft p e = by u run soft
+          where
+            op : is_open (Some p) ≡ true
+            op = ap is_open (sym e) ∙ wide
+
+            turn : (version : Option (List ℕ)) → IsRun o (Then (Told (notice (me n) (outcome.Granted (news.HasTurn version)))) ∷ log) → (r : Option ℕ) →
+                holds p ≡ r → StaysSo Soft (told p (outcome.Granted (news.HasTurn version)))
+            turn version run None h = turn_soft p version op h
+            turn version run (Some m) h = absurd (own_told_none o log n m p (outcome.Granted (news.HasTurn version)) run e h refl)
+
+            by : (u : Outcome) → IsRun o (Then (Told (notice (me n) u)) ∷ log) → is_hard u ≡ false → StaysSo Soft (told p u)
+            by (outcome.Granted (news.HasTurn version)) run h = turn version run (holds p) refl
+            by (outcome.Granted _) run h = absurd cc
+            by outcome.Queued run h = queued_soft p op
+            by (outcome.Word w) run h = absurd (never_word o n log w run)
+            by (outcome.Settled f) run h = absurd (never_settled o n log f run)
+            by (outcome.Parted t f) run h = absurd (never_parted o n log t f run)
+            by _ run h = absurd cc
+
+        own_told : Single later
+        own_told =
+            let g = agenda o log in
+            let e = owing_then n o log (Told (notice (me n) u)) run in
+            let z : brings n v (Told (notice (me n) u)) ≡ 0 = refl in
+            let f = k.few in
+            elim (is_first log k.spot g.now g.here g.behind g.parts (Told (notice (me n) u)) k.head run.1) [
+              | inl h ↦
+                  (let t = h.1 in
+                  elim (h.0 (same_self (me n))) [
+                    | inl clear ↦ told_clear (omega (arith, e, z, t, clear)) (omega (arith, clear))
+                    | inr keeps ↦ told_soft (omega (arith, e, z, t)) keeps
+                  ])
+              | inr none ↦
+                  (let t : took n now (Told (notice (me n) u)) ≡ note n (notice (me n) u) = ap (λ xs. took n xs (Told (notice (me n) u))) none in
+                  let self : note n (notice (me n) u) ≡ cond (is_hard u) 1 0 = ap (λ b. cond (b && is_hard u) 1 0) (same_self (me n)) in
+                  elim (cases_Bool (is_hard u)) [
+                    | inl hard ↦
+                        (let one : ◌≡◌ {A = ℕ} (cond (is_hard u) 1 0) 1 = ap (λ b. cond b 1 0) hard in
+                        told_clear (omega (arith, e, z, t, self, one, f)) (omega (arith, e, z, t, self, one, f)))
+                    | inr soft ↦
+                        (let no : ◌≡◌ {A = ℕ} (cond (is_hard u) 1 0) 0 = ap (λ b. cond b 1 0) soft in
+                        elim (cases_Bool (is_open (row log))) [
+                          | inl wide ↦ told_soft (omega (arith, e, z, t, self, no)) (soft_told wide soft)
+                          | inr calm ↦ (let q = k.calm calm in told_clear (omega (arith, e, z, t, self, no, q)) (omega (arith, q)))
+                        ])
+                  ])
+            ]
+
+      -- IT DOES SOMETHING
+
+      module _ (x : Action) (run : IsRun o (Then (Does (me n) x) ∷ log)) (stop : is_stop (Does (me n) x) ≡ false) where
+        abbrev done : List Entry
+        done = Then (Does (me n) x) ∷ log
+
+        none_took : took n now (Does (me n) x) ≡ 0
+        none_took = by now
+          where
+            by : (xs : List Act) → took n xs (Does (me n) x) ≡ 0
+            by [] = refl
+            by (y ∷ xs) = refl
+
+        first_head : Clear log k.spot ⊎ ((is_passing x ≡ true) × (p : Plan) × (row log ≡ Some p) × (is_sent_plan p ≡ true))
+        first_head =
+            let g = agenda o log in
+            elim (is_first log k.spot g.now g.here g.behind g.parts (Does (me n) x) k.head run.1) [
+              | inl h ↦ h.0 (same_self (me n))
+              | inr none ↦
+                  absurd (no_does g.here g.behind g.parts (me n) x
+                  (subst (λ xs. first_of rules xs g.here g.behind g.parts ≡ Some (Does (me n) x)) none run.1))
+            ]
+
+        asks_here : goes_nowhere x ≡ false → (p : Plan) × (row log ≡ Some p) × (is_asking p ≡ true)
+        asks_here goes = elim (does_from o log (me n) x run) [ inl b ↦ absurd (begun b) | inr l ↦ led l ]
+          where
+            begun : BeginsSo o log (me n) x → ⊥
+            begun b =
+                let s = starts_own o b.older n b.procedure (subst (IsRun o) b.is_there run.0) in
+                let f : begins (procedure.Batch s.0 (record { producer = n; block = s.1 })) ≡ Stays b.plan x = sym (ap begins s.2) ∙ b.leads in
+                let g : Rest ≡ x = cc in
+                let h : true ≡ false = ap goes_nowhere g ∙ goes in
+                cc
+
+            led : IsLedSo o log (me n) x → (p : Plan) × (row log ≡ Some p) × (is_asking p ≡ true)
+            led l =
+                let r : IsRun o (Then (Told (notice (me n) l.outcome)) ∷ l.older) = subst (IsRun o) l.is_there run.0 in (
+                  l.plan,
+                  ap (λ y. (view o y).stand (me n)) l.is_there ∙ row_then o l.older n l.outcome r (Some l.before) l.stood ∙ ap stays l.leads,
+                  arc_asks (told_arc l.leads) (batcher_stands o l.older n l.before r.0 l.stood) goes,
+                )
+
+        goes_open : goes_nowhere x ≡ false → is_open (row done) ≡ true
+        goes_open goes = let a = asks_here goes in ap is_open a.1 ∙ asking_open a.0 a.2
+
+        module _ (clear : Clear log k.spot) where
+          nowhere : IsAt n Nowhere v
+          nowhere = by k.spot clear k.is_at
+            where
+              by : (s : Spot) → owing n o log + out s ≡ 0 → IsAt n s v → IsAt n Nowhere v
+              by Nowhere c at = at
+              by (OnLink l p) c at = absurd (omega (arith, c))
+              by (AtBase key) c at = absurd (omega (arith, c))
+              by AtMoment c at = absurd (omega (arith, c))
+              by OnRow c at = absurd (omega (arith, c))
+
+          ends_clear : owing n o done ≡ 0 → Clear done Nowhere
+          ends_clear free = omega (arith, free)
+
+          -- it asks for nothing
+          plain_on : NoTake n (Does (me n) x) → goes_nowhere x ≡ true → Single done
+          plain_on untaken goes =
+              from_clear (Does (me n) x) run stop none_took clear Nowhere (still o n log Nowhere (Does (me n) x) run untaken (λ e. goes) nowhere)
+              (λ c. refl)
+              (λ free. once_head done log Nowhere x (performs v (me n) x) (left log) (performs_once v (me n) x) stop (left_not log k) (ends_clear free))
+
+          -- it waits
+          begins_wait : (s : Spot) → IsAt n s (view o done) → goes_nowhere x ≡ false → HeadSo done s (agenda o done).now → Single done
+          begins_wait s at goes head =
+              from_clear (Does (me n) x) run stop none_took clear s at (λ c. (let f : true ≡ false = sym (goes_open goes) ∙ c in absurd cc)) (λ free. head)
+
+        row_same : NoTake n (Does (me n) x) → IsAt n Nowhere v → is_busy ((view o done).producers.topics n) ≡ false → ⊥
+        row_same untaken at = row_still o n log Nowhere (Does (me n) x) run untaken at.row
+
+      any_alarm : (es : List (Alarm × ℕ)) → Each (NotWake (me n) Unit) es
+      any_alarm [] = tt
+      any_alarm (e ∷ es) = ((λ y. tt), any_alarm es)
+
+      wait_on : (delay : ℕ) (run : IsRun o (Then (Does (me n) (Wait delay)) ∷ log)) → Clear log k.spot → Single (Then (Does (me n) (Wait delay)) ∷ log)
+      wait_on delay run clear =
+          let at = nowhere (Wait delay) run refl clear in
+          begins_wait (Wait delay) run refl clear AtMoment
+          (record {
+            place = record { base = at.place.base; asker = at.place.asker; alarm = any_alarm _ };
+            row = λ h. absurd (row_same (Wait delay) run refl (λ w e. absurd cc) at h);
+          }) refl (each_head (Then (Does (me n) (Wait delay)) ∷ log) AtMoment (left log) (left_not log k))
+
+      -- it gets a link
+      module _ (p : Place) (run : IsRun o (Then (Does (me n) (Get p)) ∷ log)) (clear : Clear log k.spot) where
+        abbrev gets : Act
+        gets = Does (me n) (Get p)
+
+        abbrev got : List Entry
+        got = Then gets ∷ log
+
+        at : IsAt n Nowhere v
+        at = nowhere (Get p) run refl clear
+
+        abbrev waits : List Who → ℕ
+        waits ws = times (me n) ws
+
+        got_base : (r c : Bool) (s : Series) (ws : List Who) → waits ws ≤ 0 →
+            waits (cond {A = Base} (r && c) (record { series = s; waiting = waits_for s (me n) ws }) (record { series = s; waiting = ws })).waiting ≤ cond c 1 0
+        got_base false c s ws h = omega (arith, h)
+        got_base true false s ws h = h
+        got_base true true s ws h = by s
+          where
+            more : waits (ws ++ me n ∷ []) ≤ 1
+            more =
+                let a : waits (ws ++ me n ∷ []) ≡ waits ws + waits (me n ∷ []) = sum_append (λ w. cond (is_same (me n) w) 1 0) ws (me n ∷ []) in
+                let b : waits (me n ∷ []) ≡ 1 = ap (λ b. cond b 1 0 + 0) (same_self (me n)) in
+                omega (arith, a, b, h)
+
+            by : (s : Series) → waits (waits_for s (me n) ws) ≤ 1
+            by (Serves l) = omega (arith, h)
+            by Nobody = more
+            by _ = more
+
+        in_got : (s : Spot) → ((l q : ℕ) → at_place s l q ≡ ⊥) → ((key : List ℕ) → waits ((view o got).addresses.base key).waiting ≤ at_base s key) →
+            at_moment s ≡ ⊥ → IsAt n s (view o got)
+        in_got s links base moment = record {
+          place = record {
+            base = base;
+            asker = λ l. got_free (me n) (at_place s l) (link_got v.addresses gets) v.now l (v.links.live l)
+                (asker_map n (λ q. ⊥) (at_place s l) (v.links.live l) (λ q h. absurd h) (at.place.asker l));
+            alarm = subst (λ A. Each (NotWake (me n) A) v.alarms) (sym moment) at.place.alarm;
+          };
+          row = λ h. absurd (row_same (Get p) run refl (λ w e. absurd cc) at h);
+        }
+
+        -- it is served at once
+        served : ((key : List ℕ) → waits ((view o got).addresses.base key).waiting ≤ 0) →
+            ((owing n o got ≡ 0 → HeadSo got Nowhere (agenda o got).now)) → Single got
+        served base head =
+            from_clear gets run refl (none_took (Get p) run refl) clear Nowhere (in_got Nowhere (λ l q. refl) base refl) (λ c. refl) head
+
+        waits_on : HeadSo got (AtBase (address_key p)) (agenda o got).now → Single got
+        waits_on head =
+            begins_wait (Get p) run refl clear (AtBase (address_key p))
+            (in_got (AtBase (address_key p)) (λ l q. refl)
+            (λ key. (let b = v.addresses.base key in
+            got_base (is_reachable p) (bytes_eq (address_key p) key) b.series b.waiting (at.place.base key))) refl) refl head
+
+        abbrev Got : Spot → Bool → Series → Type 0
+        Got s r x = HeadSo got s (cond r (gets_from (me n) p x) (Told (notice (me n) outcome.NotFound) ∷ []) ++ left log)
+
+        abbrev series : Series
+        series = (v.addresses.base (address_key p)).series
+
+        get_on : Single got
+        get_on = by (is_reachable p) refl series refl
+          where
+            next : (s : Spot) (r : Bool) (x : Series) → is_reachable p ≡ r → series ≡ x → Got s r x → HeadSo got s (agenda o got).now
+            next s r x e f h = subst (λ y. Got s (is_reachable p) y) (sym f) (subst (λ b. Got s b x) (sym e) h)
+
+            not_reached : is_reachable p ≡ false → (key : List ℕ) → waits ((view o got).addresses.base key).waiting ≤ 0
+            not_reached e key =
+                let b = v.addresses.base key in
+                subst (λ r. waits (cond {A = Base} (r && bytes_eq (address_key p) key)
+                (record { series = b.series; waiting = waits_for b.series (me n) b.waiting }) b).waiting ≤ 0)
+                (sym e) (at.place.base key)
+
+            is_served : (l : ℕ) → series ≡ Serves l → (key : List ℕ) → waits ((view o got).addresses.base key).waiting ≤ 0
+            is_served l e key = so (v.addresses.base key) (is_reachable p) (bytes_eq (address_key p) key) (at.place.base key)
+                (λ y. ap (λ z. (v.addresses.base z).series) (sym (same_key (address_key p) key y)) ∙ e)
+              where
+                so : (b : Base) (r c : Bool) → waits b.waiting ≤ 0 → (c ≡ true → b.series ≡ Serves l) →
+                    waits (cond {A = Base} (r && c) (record { series = b.series; waiting = waits_for b.series (me n) b.waiting }) b).waiting ≤ 0
+                so b false c h f = h
+                so b true false h f = h
+                so b true true h f = subst (λ s. waits (waits_for s (me n) b.waiting) ≤ 0) (sym (f refl)) h
+
+            by : (r : Bool) → is_reachable p ≡ r → (x : Series) → series ≡ x → Single got
+            by false e x f =
+                served (not_reached e) (λ free. next Nowhere false x e f ((λ y. inl (omega (arith, free))), left_not log k))
+            by true e (Serves l) f =
+                served (is_served l f) (λ free. next Nowhere true (Serves l) e f ((λ y. inl (omega (arith, free))), left_not log k))
+            by true e Nobody f = waits_on (next (AtBase (address_key p)) true Nobody e f (tt, left_not log k))
+            by true e (Runs starter retries l) f =
+                waits_on (next (AtBase (address_key p)) true (Runs starter retries l) e f (each_head got (AtBase (address_key p)) (left log) (left_not log k)))
+            by true e (Pauses l) f =
+                waits_on (next (AtBase (address_key p)) true (Pauses l) e f (each_head got (AtBase (address_key p)) (left log) (left_not log k)))
+
+      -- it asks for a request
+      module _ (l : ℕ) (request : Words) (run : IsRun o (Then (Does (me n) (Ask l request)) ∷ log)) (clear : Clear log k.spot) where
+        abbrev asking : Act
+        asking = Does (me n) (Ask l request)
+
+        abbrev asked : List Entry
+        asked = Then asking ∷ log
+
+        before : IsAt n Nowhere v
+        before = nowhere (Ask l request) run refl clear
+
+        in_asked : (s : Spot) → at_moment s ≡ ⊥ → ((key : List ℕ) → at_base s key ≡ 0) → ((i : ℕ) → Asker (me n) (at_place s i) ((view o asked).links.live i)) →
+            IsAt n s (view o asked)
+        in_asked s moment base asker = record {
+          place = record {
+            base = λ key. (let a = before.place.base key in let b = base key in omega (arith, a, b));
+            asker = asker;
+            alarm = subst (λ A. Each (NotWake (me n) A) v.alarms) (sym moment) before.place.alarm;
+          };
+          row = λ h. absurd (row_same (Ask l request) run refl (λ w e. absurd cc) before h);
+        }
+
+        elsewhere : (s : Spot) (i : ℕ) → Asker (me n) (at_place s i) (v.links.live i)
+        elsewhere s i = asker_map n (λ q. ⊥) (at_place s i) (v.links.live i) (λ q h. absurd h) (before.place.asker i)
+
+        asks_at : (s : Spot) → Asker (me n) (at_place s l) (option_map (seat_asked (me n) v.now request) (v.links.live l)) → (i : ℕ) →
+            Asker (me n) (at_place s i) ((view o asked).links.live i)
+        asks_at s here i = by (i == l) refl
+          where
+            by : (b : Bool) → (i == l) ≡ b →
+                Asker (me n) (at_place s i) (cond b (option_map (seat_asked (me n) v.now request) (v.links.live i)) (v.links.live i))
+            by true e =
+                subst (λ z. Asker (me n) (at_place s z) (option_map (seat_asked (me n) v.now request) (v.links.live z))) (sym (eqb-true i l e)) here
+            by false e = elsewhere s i
+
+        abbrev Next : Spot → Result Placed ConnectionError → Type 0
+        Next s r = HeadSo asked s (Told (notice (me n) (told_at r)) ∷ left log)
+
+        refused : (e : ConnectionError) → answer_at v.now request (v.links.live l) ≡ Err e →
+            Asker (me n) (at_place Nowhere l) (option_map (seat_asked (me n) v.now request) (v.links.live l)) → Single asked
+        refused e is here =
+            from_clear asking run refl (none_took (Ask l request) run refl) clear Nowhere
+            (in_asked Nowhere refl (λ key. refl) (asks_at Nowhere here)) (λ c. refl)
+            (λ free. subst (Next Nowhere) (sym is) ((λ y. inl (omega (arith, free))), left_not log k))
+
+        put : (r : Placed) (place : ℕ) → answer_at v.now request (v.links.live l) ≡ Ok r →
+            Asker (me n) (at_place (OnLink l place) l) (option_map (seat_asked (me n) v.now request) (v.links.live l)) → Single asked
+        put r place is here =
+            begins_wait (Ask l request) run refl clear (OnLink l place) (in_asked (OnLink l place) refl (λ key. refl) (asks_at (OnLink l place) here)) refl
+            (subst (Next (OnLink l place)) (sym is) ((λ y. inr (λ p e. keeps p e)), left_not log k))
+          where
+            keeps : (p : Plan) → row asked ≡ Some p → StaysSo Soft (told p (told_at (Ok r)))
+            keeps p e =
+                let a = asks_here (Ask l request) run refl refl in
+                let same : a.0 ≡ p = some_is (sym a.1 ∙ e) in
+                placed_soft p r (ap is_asking (sym same) ∙ a.2)
+
+        asked_askers : (b : Bool) (place : Option ℕ) (f : ℕ → Option Who) (P : ℕ → Type 0) → ((q : ℕ) → f q ≡ Some (me n) → ⊥) →
+            ((q : ℕ) → place ≡ Some q → P q) → (q : ℕ) → asker_at b (me n) place f q ≡ Some (me n) → P q
+        asked_askers b None f P none some q e = absurd (none q e)
+        asked_askers false (Some place) f P none some q e = absurd (none q e)
+        asked_askers true (Some place) f P none some q e = elim (cases_Bool (q == place)) [
+          | inl y ↦ some q (ap Some (sym (eqb-true q place y)))
+          | inr y ↦ absurd (none q (rw y at e))
+        ]
+
+        ask_on : Single asked
+        ask_on = by (v.links.live l) refl (before.place.asker l)
+          where
+            at_seat : (seat : Seat) → v.links.live l ≡ Some seat → ((q : ℕ) → seat.askers q ≡ Some (me n) → ⊥) → (r : Result Placed ConnectionError) →
+                session.asked v.now request seat.seen ≡ r → Single asked
+            at_seat seat e none (Err f) y =
+                refused f (ap (answer_at v.now request) e ∙ y)
+                (subst (λ z. Asker (me n) (at_place Nowhere l) (option_map (seat_asked (me n) v.now request) z)) (sym e)
+                (asked_askers (is_awaited request) (place_of (session.asked v.now request seat.seen)) seat.askers (λ q. ⊥) none
+                (λ q h. none_some (sym (ap place_of y) ∙ h))))
+            at_seat seat e none (Ok r) y = placing r y
+              where
+                at_place_of : (r : Placed) (place : ℕ) → session.asked v.now request seat.seen ≡ Ok r → place_of (Ok r) ≡ Some place → Single asked
+                at_place_of r place y z =
+                    put r place (ap (answer_at v.now request) e ∙ y)
+                    (subst (λ w. Asker (me n) (at_place (OnLink l place) l) (option_map (seat_asked (me n) v.now request) w)) (sym e)
+                    (asked_askers (is_awaited request) (place_of (session.asked v.now request seat.seen)) seat.askers (at_place (OnLink l place) l) none
+                    (λ q h. (refl, some_is (sym h ∙ ap place_of y ∙ z)))))
+
+                placing : (r : Placed) → session.asked v.now request seat.seen ≡ Ok r → Single asked
+                placing (placed.Queued place) y = at_place_of (placed.Queued place) place y refl
+                placing (placed.Waiting place) y = at_place_of (placed.Waiting place) place y refl
+
+            by : (r : Option Seat) → v.links.live l ≡ r → Asker (me n) (at_place Nowhere l) r → Single asked
+            by None e none =
+                refused error.Disconnected (ap (answer_at v.now request) e)
+                (subst (λ z. Asker (me n) (at_place Nowhere l) (option_map (seat_asked (me n) v.now request) z)) (sym e) tt)
+            by (Some seat) e none = at_seat seat e none (session.asked v.now request seat.seen) refl
+
+      -- it takes a batch
+      module _ (m : ℕ) (run : IsRun o (Then (Does (me n) (OfTopic m TakeBatch)) ∷ log)) (clear : Clear log k.spot) where
+        abbrev takes : Act
+        takes = Does (me n) (OfTopic m TakeBatch)
+
+        abbrev taken : List Entry
+        taken = Then takes ∷ log
+
+        own : n ≡ m
+        own = let e : me n ≡ Producer m = taken_by_own o log (me n) m run in cc
+
+        bare : IsAt n Nowhere v
+        bare = nowhere (OfTopic m TakeBatch) run refl clear
+
+        there : (s : Spot) → at_moment s ≡ ⊥ → ((key : List ℕ) → at_base s key ≡ 0) → ((i q : ℕ) → at_place s i q ≡ ⊥) →
+            (is_busy ((view o taken).producers.topics n) ≡ false → on_row s) → IsAt n s (view o taken)
+        there s moment base links free = record {
+          place = record {
+            base = λ key. (let a = bare.place.base key in let b = base key in omega (arith, a, b));
+            asker = λ i. asker_map n (λ q. ⊥) (at_place s i) (v.links.live i) (λ q h. absurd h) (bare.place.asker i);
+            alarm = subst (λ A. Each (NotWake (me n) A) v.alarms) (sym moment) bare.place.alarm;
+          };
+          row = free;
+        }
+
+        stands_taking : (p : Plan) → row taken ≡ Some p → is_taking p ≡ true
+        stands_taking p e = elim (deed_at o log n (OfTopic m TakeBatch) run (batched_run o log run.0)) [
+          | inl d ↦
+              (let t = takes_where d.was.ways d.was.errand d.was.state d.outcome d.state m d.step in
+              let same : Batching d.was.ways d.was.errand d.state ≡ p = some_is (sym d.stands ∙ e) in
+              ap is_taking (sym same) ∙ ap (λ b. is_taking (Batching d.was.ways d.was.errand b)) t.1)
+          | inr r ↦ (let f : OfTopic m TakeBatch ≡ Rest = r in absurd cc)
+        ]
+
+        busy_left : (items : List Item) → (t : Topic) → v.producers.topics n ≡ Some t → next_batch_at (Some t) ≡ Some items →
+            is_busy (Some t) ≡ true → is_busy ((view o taken).producers.topics n) ≡ true
+        busy_left items t e h b =
+            ap is_busy (row_as o log (drawn_run o log run.0) n t e takes run)
+            ∙ ap (λ ds. (all_after ds t.seen).is_under_way)
+            (ap (λ z. cond (n == z) (topic.TakesBatch ∷ []) []) (sym own) ∙ ap (λ b. cond b (topic.TakesBatch ∷ []) []) (equal_self n))
+            ∙ by t.seen.cut h
+          where
+            by : (c : List (List Item)) → topic.next_of c ≡ Some items → (topic.left_of c t.seen).is_under_way ≡ true
+            by [] h = absurd (none_some h)
+            by (x ∷ c) h = b
+
+        abbrev Taken : Spot → Option (List Item) → Type 0
+        Taken s r = HeadSo taken s (Told (notice (me n) (outcome.Granted (news.HasBatch r))) ∷ left log)
+
+        take_on : Single taken
+        take_on = by (next_batch_at (v.producers.topics m)) refl
+          where
+            kept : (items : List Item) → next_batch_at (v.producers.topics m) ≡ Some items → is_busy ((view o taken).producers.topics n) ≡ true
+            kept items e = row_of (v.producers.topics n) refl (ap (λ z. next_batch_at (v.producers.topics z)) own ∙ e)
+              where
+                row_of : (r : Option Topic) → v.producers.topics n ≡ r → next_batch_at r ≡ Some items → is_busy ((view o taken).producers.topics n) ≡ true
+                row_of None f h = absurd (none_some h)
+                row_of (Some t) f h = elim (cases_Bool (is_busy (Some t))) [
+                  | inl b ↦ busy_left items t f h b
+                  | inr b ↦ absurd (bare.row (ap is_busy f ∙ b))
+                ]
+
+            by : (r : Option (List Item)) → next_batch_at (v.producers.topics m) ≡ r → Single taken
+            by None e =
+                from_clear takes run refl (none_took (OfTopic m TakeBatch) run refl) clear OnRow
+                (there OnRow refl (λ key. refl) (λ i q. refl) (λ h. tt))
+                (λ c. absurd (never_closed c (row taken) refl))
+                (λ free. subst (Taken OnRow) (sym e) ((λ y. inr (λ p h. none_soft p (stands_taking p h))), left_not log k))
+              where
+                never_closed : is_open (row taken) ≡ false → (r : Option Plan) → row taken ≡ r → ⊥
+                never_closed c None e = let f : true ≡ false = ap is_open (sym e) ∙ c in cc
+                never_closed c (Some p) e = let f : true ≡ false = sym (taking_open p (stands_taking p e)) ∙ ap is_open (sym e) ∙ c in cc
+            by (Some items) e =
+                from_clear takes run refl (none_took (OfTopic m TakeBatch) run refl) clear Nowhere
+                (there Nowhere refl (λ key. refl) (λ i q. refl) (λ h. (let f : true ≡ false = sym (kept items e) ∙ h in cc)))
+                (λ c. refl) (λ free. subst (Taken Nowhere) (sym e) ((λ y. inl (omega (arith, free))), left_not log k))
+
+      passes_on : (x : Action) (run : IsRun o (Then (Does (me n) x) ∷ log)) → is_stop (Does (me n) x) ≡ false → is_passing x ≡ true → (p : Plan) →
+          row log ≡ Some p → is_sent_plan p ≡ true → Single (Then (Does (me n) x) ∷ log)
+      passes_on (OfTopic m PassTurn) run stop pass p e sent =
+          moved (Does (me n) (OfTopic m PassTurn)) run refl (none_took (OfTopic m PassTurn) run refl) (λ w h. absurd cc) (λ h. refl) (λ c. c)
+          (λ s. ((λ h. inr (λ q f. done_soft q (ap is_sent_plan (some_is (sym f ∙ e)) ∙ sent))), left_not log k))
+      passes_on (OfTopic m _) run stop pass p e sent = absurd cc
+      passes_on _ run stop pass p e sent = absurd cc
+
+      clear_on : (x : Action) (run : IsRun o (Then (Does (me n) x) ∷ log)) → is_stop (Does (me n) x) ≡ false → Clear log k.spot →
+          Single (Then (Does (me n) x) ∷ log)
+      clear_on (Get p) run stop clear = get_on p run clear
+      clear_on (Ask l request) run stop clear = ask_on l request run clear
+      clear_on (Wait delay) run stop clear = wait_on delay run clear
+      clear_on (OfConsumer (FindConsumer t)) run stop clear = let d = batcher_does o log n (OfConsumer (FindConsumer t)) run in absurd (no_find d.0 t d.1)
+      clear_on StopAll run stop clear = absurd cc
+      clear_on (OfTopic m TakeBatch) run stop clear = take_on m run clear
+      clear_on (OfTopic m ask) run stop clear = plain_on (OfTopic m ask) run stop clear (λ w h. absurd cc) refl
+      clear_on x run stop clear = plain_on x run stop clear (λ w h. absurd cc) refl
+
+      -- as it does something else than to pass its turn on it is owed nothing, and waits for nothing
+      does_clear : (x : Action) (run : IsRun o (Then (Does (me n) x) ∷ log)) → is_stop (Does (me n) x) ≡ false → is_passing x ≡ false → Clear log k.spot
+      does_clear x run stop pass = elim (first_head x run stop) [ inl clear ↦ clear | inr y ↦ (let f : false ≡ true = sym pass ∙ y.0 in absurd cc) ]
+
+      pub owes_none : (x : Action) → IsRun o (Then (Does (me n) x) ∷ log) → is_stop (Does (me n) x) ≡ false → is_passing x ≡ false → owing n o log ≡ 0
+      owes_none x run stop pass = let c = does_clear x run stop pass in omega (arith, c)
+
+      pub waits_none : (x : Action) → IsRun o (Then (Does (me n) x) ∷ log) → is_stop (Does (me n) x) ≡ false → is_passing x ≡ false → (l : ℕ) (seat : Seat) →
+          v.links.live l ≡ Some seat → (p : ℕ) → seat.askers p ≡ Some (me n) → ⊥
+      waits_none x run stop pass l seat live p i =
+          subst (Asker (me n) (λ q. ⊥)) live ((nowhere x run stop (does_clear x run stop pass)).place.asker l) p i
+
+      own_does : (x : Action) (run : IsRun o (Then (Does (me n) x) ∷ log)) → is_stop (Does (me n) x) ≡ false → Single (Then (Does (me n) x) ∷ log)
+      own_does x run stop = elim (first_head x run stop) [
+        | inl clear ↦ clear_on x run stop clear
+        | inr y ↦ passes_on x run stop y.0 y.1 y.2 y.3
+      ]
+
+      single_then : (a : Act) → IsRun o (Then a ∷ log) → is_stop a ≡ false → Single (Then a ∷ log)
+      single_then (Told m) run stop = elim (cases_Bool (is_same (me n) m.who)) [
+        | inl e ↦
+            subst (λ w. IsRun o (Then (Told (notice w m.outcome)) ∷ log) → Single (Then (Told (notice w m.outcome)) ∷ log)) (same_who (me n) m.who e)
+            (λ r. own_told m.outcome r) run
+        | inr e ↦ other (Told m) run stop e
+      ]
+      single_then (Does w x) run stop = elim (cases_Bool (is_same (me n) w)) [
+        | inl e ↦
+            subst (λ w. IsRun o (Then (Does w x) ∷ log) → is_stop (Does w x) ≡ false → Single (Then (Does w x) ∷ log)) (same_who (me n) w e)
+            (λ r s. own_does x r s) run stop
+        | inr e ↦ other (Does w x) run stop e
+      ]
+      single_then (Comes p) run stop = other (Comes p) run stop tt
+      single_then (Starts who p) run stop = other (Starts who p) run stop tt
+      single_then (Answers who verdict) run stop = other (Answers who verdict) run stop tt
+      single_then (Dials p starter retries) run stop = other (Dials p starter retries) run stop tt
+
+    -- ALONG A LOG
+
+    pub going : (a : Act) (log : List Entry) → stopped (Then a ∷ log) ≡ false → (is_stop a ≡ false) × (stopped log ≡ false)
+    going (Does who StopAll) log h = absurd cc
+    going (Does who _) log h = (refl, h)
+    going _ log h = (refl, h)
+
+    pub single_run : (log : List Entry) → IsRun o log → stopped log ≡ false → Single log
+    single_run [] run h = record {
+      spot = OnRow;
+      is_at = record { place = record { base = λ key. omega arith; asker = λ l. tt; alarm = tt }; row = λ b. tt };
+      few = omega arith;
+      calm = λ c. absurd cc;
+      head = tt;
+    }
+    single_run (Begins e ∷ log) run h =
+        let k = single_run log run.0 h in
+        let v : View = view o log in
+        record {
+          spot = k.spot;
+          is_at = record {
+            place = begun_there (me n) (at_place k.spot) (at_base k.spot) (at_moment k.spot) v e k.is_at.place;
+            row = λ b. k.is_at.row (sym (ap (λ ps. is_busy (ps.topics n)) (begun_same (λ u. u.producers) e v refl)) ∙ b);
+          };
+          few = (let m = out_most k.spot in omega (arith, m));
+          calm = λ c. (let q = k.calm (sym (ap (λ f. is_open (f (me n))) (begun_same (λ u. u.stand) e v refl)) ∙ c) in omega (arith, q));
+          head = tt;
+        }
+    single_run (Then a ∷ log) run h = let g = going a log h in single_then log (single_run log run.0 g.1) a run g.0
+
+-- THE LAW
+
+asks_out : (n : ℕ) (a : Action) → asks_others a ≡ true → (goes_nowhere a ≡ false) × (is_stop (Does (me n) a) ≡ false) × (is_passing a ≡ false)
+asks_out n (Get p) h = (refl, refl, refl)
+asks_out n (Ask l request) h = (refl, refl, refl)
+asks_out n (Wait delay) h = (refl, refl, refl)
+asks_out n _ h = absurd cc
+
+pub one_thing_at_a_time_lem : OneThingAtATime
+one_thing_at_a_time_lem o log n a run h =
+    let out = asks_out n a h in
+    elim (cases_Bool (stopped log)) [
+      | inl e ↦ (let f : true ≡ false = sym (never_asks o log (me n) a run e) ∙ out.0 in absurd cc)
+      | inr e ↦
+          (let k = single_run n o log run.0 e in
+          let at = nowhere n o log k a run out.1 (does_clear n o log k a run out.1 out.2) in
+          let place = at.place in (
+            (λ l p seat live i. subst (Asker (me n) (λ q. ⊥)) live (place.asker l) p i),
+            (λ key i. not_among (me n) _ (place.base key) i),
+            moment_none (me n) (view o log).alarms place.alarm,
+          ))
+    ]

@@ -20,6 +20,7 @@ pub mod OnceSent
 pub mod Rise
 pub mod TurnActs
 pub mod TurnRun
+pub mod Awaiting
 pub mod OneAtATime
 pub mod Owed
 pub mod Since

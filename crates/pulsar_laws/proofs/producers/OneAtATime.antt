@@ -3,28 +3,19 @@ use Rattle.std.specs.Prelude.{bytes_eq}
 use Rattle.std.proofs.Common.{◌≡◌, ◌⊎◌, inl, inr, ◌∙◌, sym, ap, subst, ℕ, ◌+◌, ◌≤◌, ◌==◌, arith, List, [], ◌∷◌, ◌++◌, refl, Bool, true, false, ◌&&◌, cond, Option, Some, None, Result, Ok, Err}
 use Rattle.std.proofs.lemmas.Bool.{cases_Bool, eqb-true}
 use Rattle.std.specs.Option.{option_map}
-use Rattle.pulsar_laws.proofs.ActWords.{Act, Action, Alarm, Answers, Ask, Call, Comes, Consumer, Dials, Does, FailConsumer, FindConsumer, Get, is_same, Notice, OfTopic, Outcome, Part, PassTurn, Procedure, Producer, RecallConsumer, Rest, Revive, Starts, StopAll, TakeBatch, TakeFlow, TakeNumber, ticket_of, Told, Verdict, Wait, Who, Word, OfConsumer}
-use Rattle.pulsar_laws.proofs.PlanWords.{action_of, Batches, Batching, begins, Deed, Errand, Gives, News, Plan, Sending as Send, Stays, told, Turn, Ways}
-use Rattle.pulsar_laws.proofs.RunWords.{agenda, at_once, Begins, begun_same, Cause, does, Each, each_append, each_map, Entry, first_of, follows, follows_some, In, IsRun, link_got, notice, Options, performs, rest, rest_of, rules, stays, stays_some, Then, told_some, view, View}
-use Rattle.pulsar_laws.proofs.LinkWords.{answer_at, Base, Failure, Nobody, Pauses, place_of, Place, Runs, Seat, seat_asked, Series, Serves, Words}
+use Rattle.pulsar_laws.proofs.ActWords.{Act, Action, Alarm, Answers, Ask, Comes, Dials, Does, FindConsumer, Get, is_same, Notice, OfTopic, Outcome, Part, PassTurn, Procedure, Producer, Rest, Starts, StopAll, TakeBatch, Told, Verdict, Wait, Who, OfConsumer}
+use Rattle.pulsar_laws.proofs.PlanWords.{Batching, begins, Gives, Plan, Stays, told, Turn}
+use Rattle.pulsar_laws.proofs.RunWords.{agenda, at_once, Begins, begun_same, does, Each, each_append, each_map, Entry, first_of, follows, follows_some, IsRun, link_got, notice, Options, performs, rest, rest_of, rules, stays, stays_some, Then, told_some, view, View}
+use Rattle.pulsar_laws.proofs.LinkWords.{answer_at, Base, Nobody, Pauses, place_of, Place, Runs, Seat, seat_asked, Series, Serves, Words}
 use Rattle.pulsar_addresses.specs.Address.{address_key, is_reachable}
 use Rattle.pulsar_exchange.specs.Request.{is_awaited}
 use Rattle.pulsar_session.specs.Link as session
 use Rattle.pulsar_session.specs.declared.states.Asked.{Asked as Placed}
 use Rattle.pulsar_session.specs.declared.states.Asked.TheVariants as placed
 use Rattle.pulsar_wire.specs.declared.error.ConnectionError.{ConnectionError}
-use Rattle.pulsar_searches.specs.declared.turn.Action.TheVariants as wish
 use Rattle.pulsar_producer.specs.Topic as topic
 use Rattle.pulsar_calls.specs.declared.act.Procedure.TheVariants as procedure
-use Rattle.pulsar_calls.specs.declared.act.Word.TheVariants as word
-use Rattle.pulsar_consumer_table.specs.Consumers as consumer
-use Rattle.pulsar_consumer_table.specs.Consumers.{Member}
-use Rattle.pulsar_wire.specs.Row.{Values}
-use Rattle.pulsar_wire.specs.Rows.{send_receipt}
 use Rattle.pulsar_wire.specs.declared.error.ConnectionError.TheVariants as error
-use Rattle.pulsar_producer.specs.declared.batching.Batching.TheVariants as batching
-use Rattle.pulsar_producer.specs.declared.deed.Deed.TheVariants as deed
-use Rattle.pulsar_producer.specs.declared.sending.Sending.TheVariants as send
 use Rattle.pulsar_outgoing.specs.Storage.{Item}
 use Rattle.pulsar_outgoing.specs.declared.news.News.TheVariants as news
 use Rattle.pulsar_producer_table.specs.Producers.{next_batch_at}
@@ -35,261 +26,31 @@ use Rattle.pulsar_links.specs.Seats.{asker_at}
 use Rattle.pulsar_acts.specs.View.{waits_for}
 use Rattle.pulsar_calls.specs.declared.act.Outcome.TheVariants as outcome
 use Rattle.pulsar_client.proofs.Raising.{IsRaised, raises}
-use Rattle.pulsar_plans.proofs.Arcs.{Arc, BatchArc, StaysSo, batch_sends, batch_takes, batches_go, told_arc}
-use Rattle.pulsar_producer.proofs.Arcs.{SendArc, asks, draws, looked_makes, looks_on_asks, looks_on_gets, looks_on_waits, makes_on_asks, makes_on_gets, makes_on_waits, recalled_looks_asks, recalled_looks_gets, recalled_looks_waits, recalled_makes}
+use Rattle.pulsar_plans.proofs.Arcs.{StaysSo, told_arc}
 use Rattle.pulsar_laws.specs.BatchLaws.{OneThingAtATime, asks_others}
 use Rattle.pulsar_laws.proofs.calls.Stopping.{never_asks}
-use Rattle.pulsar_laws.specs.Laws.{IsServedAs, SaysSo, WordComes, stopped}
-use Rattle.pulsar_laws.proofs.calls.Causes.{IsToldBy}
+use Rattle.pulsar_laws.specs.Laws.{stopped}
 use Rattle.pulsar_laws.proofs.Cases.{none_some, some_is}
 use Rattle.pulsar_laws.proofs.calls.Same.{same_self, same_who}
-use Rattle.pulsar_laws.proofs.calls.Whereabouts.{ApartBy, Asker, NoFind, NotWake, begun_there, goes_nowhere, got_free, moment_none, not_among, seekers_absent, times}
-use Rattle.pulsar_laws.proofs.Lists.{in_each}
-use Rattle.pulsar_laws.proofs.calls.Caused.{outcomes_are_caused_lem}
-use Rattle.pulsar_laws.proofs.calls.Sources.{step_runs, step_some}
+use Rattle.pulsar_laws.proofs.calls.Whereabouts.{ApartBy, Asker, NotWake, begun_there, goes_nowhere, got_free, moment_none, not_among, times}
 use Rattle.pulsar_laws.proofs.links.OneEach.{same_key}
 use Rattle.pulsar_laws.proofs.plans.AtOnce.{AtOnce, dials, nothing, once_each, performs_once, says, stops_all}
-use Rattle.pulsar_laws.proofs.plans.Batchers.{batcher_does, batcher_stands, is_batcher}
+use Rattle.pulsar_laws.proofs.plans.Batchers.{batcher_does, batcher_stands}
 use Rattle.pulsar_laws.proofs.plans.Granted.{BeginsSo, IsLedSo, does_from}
 use Rattle.pulsar_laws.proofs.plans.Holding.{holds}
 use Rattle.pulsar_laws.proofs.plans.Batched.{takes_where}
 use Rattle.pulsar_laws.proofs.plans.Owned.{starts_own}
-use Rattle.pulsar_laws.proofs.plans.Standing.{OwnBatches, run_older}
+use Rattle.pulsar_laws.proofs.plans.Standing.{OwnBatches}
 use Rattle.pulsar_laws.proofs.plans.Takers.{taken_by_own}
+use Rattle.pulsar_laws.proofs.producers.Awaiting.{Soft, arc_asks, asking_open, done_soft, is_asking, is_open, is_passing, is_rest, is_sent_plan, is_taking, never_parted, never_settled, never_word, no_find, none_soft, placed_soft, queued_soft, taking_open, turn_soft}
 use Rattle.pulsar_laws.proofs.producers.BatchRun.{batched_run, deed_at, row_then}
 use Rattle.pulsar_laws.proofs.producers.Drawing.{drawn_run}
 use Rattle.pulsar_laws.proofs.producers.Owed.{brings, is_hard, me, note, other_note, owing, owing_then, took}
-use Rattle.pulsar_laws.proofs.producers.Spotting.{AtBase, AtMoment, IsAt, NoTake, Nowhere, OnLink, OnRow, Spot, all_others, asker_map, at_base, at_moment, at_place, gone, is_busy, is_stop, on_row, out, row_still, still, tell_others}
+use Rattle.pulsar_laws.proofs.producers.Spotting.{AtBase, AtMoment, IsAt, NoTake, Nowhere, OnLink, OnRow, Spot, asker_map, at_base, at_moment, at_place, gone, is_busy, is_stop, on_row, out, row_still, still}
 use Rattle.pulsar_laws.proofs.producers.Topics.{all_after, row_as}
 use Rattle.pulsar_laws.proofs.producers.TurnActs.{equal_self}
 use Rattle.pulsar_laws.proofs.producers.TurnRun.{own_told_none}
 use Rattle.pulsar_laws.proofs.producers.Turns.{sum_append}
-
--- A PLAN THAT WAITS for what comes from others: for a batch, or for the outcome of what it asked for
-
-abbrev is_asking_send : Send → Bool
-is_asking_send (send.Asked kept) = true
-is_asking_send (send.Looking m c l) = true
-is_asking_send (send.Making m c k) = true
-is_asking_send _ = false
-
-abbrev open_send : Send → Bool
-open_send send.Sent = true
-open_send s = is_asking_send s
-
-abbrev open_batch : Batches → Bool
-open_batch batching.Resting = true
-open_batch batching.Taking = true
-open_batch (batching.Sending ms c s) = open_send s
-open_batch batching.Settling = false
-
-abbrev pub is_open : Option Plan → Bool
-is_open None = true
-is_open (Some (Batching w e b)) = open_batch b
-is_open (Some _) = false
-
-abbrev is_asking : Plan → Bool
-is_asking (Batching w e (batching.Sending ms c s)) = is_asking_send s
-is_asking _ = false
-
-abbrev is_sent_plan : Plan → Bool
-is_sent_plan (Batching w e (batching.Sending ms c send.Sent)) = true
-is_sent_plan _ = false
-
-abbrev is_taking : Plan → Bool
-is_taking (Batching w e batching.Taking) = true
-is_taking _ = false
-
-abbrev is_rest : Action → Bool
-is_rest Rest = true
-is_rest _ = false
-
-abbrev pub is_passing : Action → Bool
-is_passing (OfTopic n PassTurn) = true
-is_passing _ = false
-
--- it goes on to wait, and asks for nothing
-abbrev Soft : Plan → Action → Type 0
-Soft q a = (is_open (Some q) ≡ true) × ((is_rest a ≡ true) ⊎ ((is_passing a ≡ true) × (is_sent_plan q ≡ true)))
-
-turn_soft : (p : Plan) (version : Option (List ℕ)) → is_open (Some p) ≡ true → holds p ≡ None →
-    StaysSo Soft (told p (outcome.Granted (news.HasTurn version)))
-turn_soft (Batching w e batching.Resting) version o h = (refl, inl refl)
-turn_soft (Batching w e batching.Taking) version o h = (refl, inl refl)
-turn_soft (Batching w e (batching.Sending ms c send.Sent)) version o h = (refl, inl refl)
-turn_soft (Batching w e (batching.Sending ms c (send.Asked kept))) version o h = absurd cc
-turn_soft (Batching w e (batching.Sending ms c (send.Looking m d l))) version o h = absurd cc
-turn_soft (Batching w e (batching.Sending ms c (send.Making m d k))) version o h = absurd cc
-turn_soft (Batching w e (batching.Sending ms c _)) version o h = absurd cc
-turn_soft _ version o h = absurd cc
-
-queued_soft : (p : Plan) → is_open (Some p) ≡ true → StaysSo Soft (told p outcome.Queued)
-queued_soft (Batching w e batching.Resting) o = (refl, inl refl)
-queued_soft (Batching w e batching.Taking) o = (refl, inl refl)
-queued_soft (Batching w e (batching.Sending ms c send.Sent)) o = (refl, inl refl)
-queued_soft (Batching w e (batching.Sending ms c (send.Asked kept))) o = (refl, inr (refl, refl))
-queued_soft (Batching w e (batching.Sending ms c (send.Looking m d l))) o = (refl, inl refl)
-queued_soft (Batching w e (batching.Sending ms c (send.Making m d k))) o = (refl, inl refl)
-queued_soft (Batching w e (batching.Sending ms c _)) o = absurd cc
-queued_soft _ o = absurd cc
-
-placed_soft : (p : Plan) (r : Placed) → is_asking p ≡ true → StaysSo Soft (told p (told_at (Ok r)))
-placed_soft (Batching w e (batching.Sending ms c (send.Asked kept))) (placed.Queued place) h = (refl, inr (refl, refl))
-placed_soft (Batching w e (batching.Sending ms c (send.Looking m d l))) (placed.Queued place) h = (refl, inl refl)
-placed_soft (Batching w e (batching.Sending ms c (send.Making m d k))) (placed.Queued place) h = (refl, inl refl)
-placed_soft (Batching w e (batching.Sending ms c (send.Asked kept))) (placed.Waiting place) h = (refl, inl refl)
-placed_soft (Batching w e (batching.Sending ms c (send.Looking m d l))) (placed.Waiting place) h = (refl, inl refl)
-placed_soft (Batching w e (batching.Sending ms c (send.Making m d k))) (placed.Waiting place) h = (refl, inl refl)
-placed_soft (Batching w e (batching.Sending ms c _)) r h = absurd cc
-placed_soft _ r h = absurd cc
-
-done_soft : (p : Plan) → is_sent_plan p ≡ true → StaysSo Soft (told p (outcome.Granted news.Done))
-done_soft (Batching w e (batching.Sending ms c send.Sent)) h = (refl, inl refl)
-done_soft (Batching w e (batching.Sending ms c _)) h = absurd cc
-done_soft _ h = absurd cc
-
-none_soft : (p : Plan) → is_taking p ≡ true → StaysSo Soft (told p (outcome.Granted (news.HasBatch None)))
-none_soft (Batching w e batching.Taking) h = (refl, inl refl)
-none_soft _ h = absurd cc
-
-asking_open : (p : Plan) → is_asking p ≡ true → is_open (Some p) ≡ true
-asking_open (Batching w e (batching.Sending ms c (send.Asked kept))) h = refl
-asking_open (Batching w e (batching.Sending ms c (send.Looking m d l))) h = refl
-asking_open (Batching w e (batching.Sending ms c (send.Making m d k))) h = refl
-asking_open (Batching w e (batching.Sending ms c _)) h = absurd cc
-asking_open _ h = absurd cc
-
--- where it asks for something it waits for that
-send_asks : {w : Ways} {e : Errand} {s q : Send} {y : News} {d : Deed} → SendArc w e s y q d → goes_nowhere (action_of d) ≡ false → is_asking_send q ≡ true
-send_asks draws h = absurd cc
-send_asks asks h = refl
-send_asks (recalled_looks_gets i) h = refl
-send_asks (recalled_looks_asks i) h = refl
-send_asks (recalled_looks_waits i) h = refl
-send_asks recalled_makes h = refl
-send_asks (looks_on_gets i) h = refl
-send_asks (looks_on_asks i) h = refl
-send_asks (looks_on_waits i) h = refl
-send_asks looked_makes h = refl
-send_asks (makes_on_gets i) h = refl
-send_asks (makes_on_asks i) h = refl
-send_asks (makes_on_waits i) h = refl
-send_asks _ h = absurd cc
-
-batch_asks : {w : Ways} {e : Errand} {b q : Batches} {y : News} {d : Deed} → BatchArc w e b y q d → goes_nowhere (action_of d) ≡ false →
-    is_asking (Batching w e q) ≡ true
-batch_asks (batch_sends k) h = send_asks k h
-batch_asks batch_takes h = absurd cc
-batch_asks _ h = absurd cc
-
-arc_asks : {p q : Plan} {u : Outcome} {a : Action} → Arc p u q a → is_batcher p ≡ true → goes_nowhere a ≡ false → is_asking q ≡ true
-arc_asks (batches_go d k) is h = batch_asks k h
-arc_asks _ is h = absurd cc
-
-no_find : (d : Deed) (t : ℕ) → OfConsumer (FindConsumer t) ≡ action_of d → ⊥
-no_find (deed.Does (wish.Get p)) t h = cc
-no_find (deed.Does (wish.Ask l r)) t h = cc
-no_find (deed.Does (wish.Wait delay)) t h = cc
-no_find deed.Rests t h = cc
-no_find _ t h = cc
-
-taking_open : (p : Plan) → is_taking p ≡ true → is_open (Some p) ≡ true
-taking_open (Batching w e batching.Taking) h = refl
-taking_open _ h = absurd cc
-
--- WHAT IT IS NEVER TOLD: what is said of consumers, and what becomes of messages
-
-abbrev of_consumer : Action → Bool
-of_consumer (TakeNumber wanted) = true
-of_consumer (OfConsumer (FindConsumer t)) = true
-of_consumer (OfConsumer TakeFlow) = true
-of_consumer (OfConsumer RecallConsumer) = true
-of_consumer (OfConsumer (Revive l)) = true
-of_consumer (OfConsumer (FailConsumer f)) = true
-of_consumer _ = false
-
-says_of : (who : Who) (w : Word) (a : Action) (v : View) → SaysSo who w a v → of_consumer a ≡ true
-says_of who (word.Numbered n) (TakeNumber wanted) v h = refl
-says_of who word.InUse (TakeNumber wanted) v h = refl
-says_of who word.Closed (OfConsumer (FindConsumer t)) v h = refl
-says_of who (word.Flow link permits) (OfConsumer TakeFlow) v h = refl
-says_of who word.NoFlow (OfConsumer TakeFlow) v h = refl
-says_of who (word.Recalled c) (OfConsumer RecallConsumer) v h = refl
-says_of who word.Lives (OfConsumer (Revive l)) v h = refl
-says_of who word.Over (OfConsumer (Revive l)) v h = refl
-says_of who word.Over (OfConsumer (FailConsumer f)) v h = refl
-says_of who w a v h = absurd h
-
-deed_plain : (d : Deed) → of_consumer (action_of d) ≡ false
-deed_plain (deed.Does (wish.Get p)) = refl
-deed_plain (deed.Does (wish.Ask l r)) = refl
-deed_plain (deed.Does (wish.Wait delay)) = refl
-deed_plain deed.Rests = refl
-deed_plain _ = refl
-
-module _ (o : Options) (n : ℕ) where
-  own_plain : (log : List Entry) (a : Action) → IsRun o (Then (Does (me n) a) ∷ log) → of_consumer a ≡ true → ⊥
-  own_plain log a run h =
-      let d = batcher_does o log n a run in
-      let f : true ≡ false = sym h ∙ ap of_consumer d.1 ∙ deed_plain d.0 in
-      cc
-
-  finds_none : (log : List Entry) (a : Act) → IsRun o (Then a ∷ log) → NoFind (me n) a
-  finds_none log (Does who (OfConsumer (FindConsumer t))) run = λ e.
-      own_plain log (OfConsumer (FindConsumer t)) (subst (λ w. IsRun o (Then (Does w (OfConsumer (FindConsumer t))) ∷ log)) (sym e) run) refl
-  finds_none log (Does who _) run = tt
-  finds_none log _ run = tt
-
-  seeks_none : (log : List Entry) → IsRun o log → (u : ℕ) → In (me n) (consumer.seekers_at ((view o log).consumers.rows u)) → ⊥
-  seeks_none [] run u = λ i. i
-  seeks_none (Begins e ∷ log) run u =
-      subst (λ cs. In (me n) (consumer.seekers_at (cs.rows u)) → ⊥) (sym (begun_same (λ v. v.consumers) e (view o log) refl)) (seeks_none log run.0 u)
-  seeks_none (Then a ∷ log) run u = seekers_absent (me n) (view o log) a u (finds_none log a run) (seeks_none log run.0 u)
-
-  no_server : (v : View) (u : ℕ) (m : Member) → IsServedAs v (me n) u m → ⊥
-  no_server v u m (there, is) = let f : me n ≡ Consumer m.seen.number u = is in cc
-
-  no_word : (e : Entry) (older : List Entry) (w : Word) → IsRun o (e ∷ older) → WordComes o (me n) w e older → ⊥
-  no_word e older w run (inl (a, is, h)) = own_plain older a (subst (λ x. IsRun o (x ∷ older)) is run) (says_of (me n) w a (view o older) h)
-  no_word e older w run (inr (inl (l, u, m, is, serves, h))) = no_server (view o older) u m serves
-  no_word e older w run (inr (inr (inl (l, u, end, m, is, serves, h)))) = no_server (view o older) u m serves
-  no_word e older w run (inr (inr (inr (inl (l, u, who, request, m, is, serves, h))))) = no_server (view o older) u m serves
-  no_word e older w run (inr (inr (inr (inr (inl (q, inl (u, m, is, serves, due))))))) = no_server (view o older) u m serves
-  no_word e older w run (inr (inr (inr (inr (inl (q, inr (inl (l, who, m, is, serves, due)))))))) = no_server (view o older) (ticket_of who) m serves
-  no_word e older w run (inr (inr (inr (inr (inl (q, inr (inr (who, j, said, is, same, due)))))))) =
-      let f : me n ≡ Consumer j.number (ticket_of who) = same in cc
-  no_word e older w run (inr (inr (inr (inr (inr (q, (who, i, h))))))) = seeks_none older (run_older o e older run) (ticket_of who) i
-
-  told_by_none : (e : Entry) (older : List Entry) (u : Outcome) → IsRun o (e ∷ older) → IsToldBy (me n) u e older → ⊥
-  told_by_none e older u run (who, inl is) =
-      let f : is_same (me n) (me n) ≡ false = tell_others o older n who (notice (me n) u) (subst (λ x. IsRun o (x ∷ older)) is run) in
-      let g : true ≡ false = sym (same_self (me n)) ∙ f in
-      cc
-  told_by_none e older u run (who, inr (ns, is, i)) =
-      let f : is_same (me n) (me n) ≡ false =
-      in_each (λ m. is_same (me n) m.who ≡ false) (notice (me n) u) ns i (all_others o older n who ns (subst (λ x. IsRun o (x ∷ older)) is run)) in
-      let g : true ≡ false = sym (same_self (me n)) ∙ f in
-      cc
-
-  never : (u : Outcome) (log : List Entry) → IsRun o (Then (Told (notice (me n) u)) ∷ log) →
-      ((e : Entry) (older : List Entry) → IsRun o (e ∷ older) → Cause o (me n) u e older → ⊥) → ⊥
-  never u log run none =
-      let s = step_some (λ e older. IsRun o (e ∷ older) × Cause o (me n) u e older) log
-      (step_runs o (Cause o (me n) u) log run.0 (outcomes_are_caused_lem o log (me n) u run)) in
-      none s.entry s.older s.holds.0 s.holds.1
-
-  never_word : (log : List Entry) (w : Word) → IsRun o (Then (Told (notice (me n) (outcome.Word w))) ∷ log) → ⊥
-  never_word log w run = never (outcome.Word w) log run (λ e older r c. no_word e older w r c)
-
-  never_settled : (log : List Entry) (f : Result (Values send_receipt) Failure) → IsRun o (Then (Told (notice (me n) (outcome.Settled f))) ∷ log) → ⊥
-  never_settled log f run = never (outcome.Settled f) log run by
-    where
-      by : (e : Entry) (older : List Entry) → IsRun o (e ∷ older) → Cause o (me n) (outcome.Settled f) e older → ⊥
-      by e older r (inl h) = told_by_none e older (outcome.Settled f) r h
-      by e older r (inr h) = let q : me n ≡ Call h.3 = h.5 in cc
-
-  never_parted : (log : List Entry) (t : ℕ) (f : Option Failure) → IsRun o (Then (Told (notice (me n) (outcome.Parted t f))) ∷ log) → ⊥
-  never_parted log t f run = never (outcome.Parted t f) log run (λ e older r h. told_by_none e older (outcome.Parted t f) r h)
 
 -- WHAT ARISES AT ONCE
 

@@ -22,7 +22,8 @@ use Rattle.pulsar_laws.proofs.plans.Batchers.{batcher_stands, is_batcher}
 use Rattle.pulsar_laws.proofs.plans.LastWords.{is_leaving}
 use Rattle.pulsar_laws.proofs.plans.Spots.{spot_of}
 use Rattle.pulsar_laws.proofs.producers.BatchFrames.{asked_own}
-use Rattle.pulsar_laws.proofs.producers.OneAtATime.{Single, going, is_passing, left_not, NotOwn, owes_none, single_run, waits_none}
+use Rattle.pulsar_laws.proofs.producers.Awaiting.{is_passing}
+use Rattle.pulsar_laws.proofs.producers.OneAtATime.{Single, going, left_not, NotOwn, owes_none, single_run, waits_none}
 use Rattle.pulsar_laws.proofs.producers.Spotting.{is_stop}
 use Rattle.pulsar_laws.proofs.Cases.{none_some, some_is}
 use Rattle.pulsar_laws.proofs.producers.Owed.{all_owed, is_hard, me, note, owed, owing, rest_owed}

@@ -1,0 +1,1 @@
+for n in "$@"; do python3 /work/l/bs.py $n; grep -E "error" /work/logs/stub_$n.log 2>/dev/null | head -${H:-12}; [ -f /work/l/stub/crates/$n/out/rlib/$n.rlib/format ] || [ -e /work/l/stub/crates/$n/out/rlib/$n.rlib ] || break; done

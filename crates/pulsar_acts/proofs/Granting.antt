@@ -1,5 +1,5 @@
--- What plans ask of topic producers: what is left to do, and what is seen of the producers afterwards.
-use Rattle.std.proofs.Common.{◌≡◌, ◌∙◌, ap, sym, ℕ, Bool, false, cond, List, [], ◌∷◌, ◌++◌, refl}
+-- What plans ask of topic producers and consumers: what is left to do, and what is seen of them afterwards.
+use Rattle.std.proofs.Common.{◌≡◌, ◌∙◌, ap, sym, ℕ, Bool, false, cond, List, [], ◌++◌, refl, Option, Some, None}
 use Rattle.std.proofs.lemmas.List.{append-nil}
 use Rattle.pulsar_run.specs.Things.{row_after}
 use Rattle.pulsar_producer.specs.Topic as topic
@@ -13,12 +13,16 @@ use Rattle.pulsar_calls.specs.declared.act.TopicAsk.TheVariants.{Store, Flush}
 use Rattle.pulsar_calls.specs.declared.act.Who.{Who}
 use Rattle.pulsar_calls.specs.declared.act.Who.TheVariants as who
 use Rattle.pulsar_calls.specs.Who.{rank, turn_of}
+use Rattle.pulsar_consumer_table.specs.Consumers as consumer
+use Rattle.pulsar_consumer_table.specs.Consumers.{Consumers, Member, member_by}
+use Rattle.pulsar_consumer_table.proofs.Asking as asking
+use Rattle.pulsar_links.specs.Seats.{Seat}
 use Rattle.pulsar_producer_table.specs.Producers.{Producers, done_to, freed, is_bare, topic_after}
 use Rattle.pulsar_producer_table.proofs.Asking.{joined_is}
 use Rattle.pulsar_agenda.specs.Agenda.{Agenda}
 use Rattle.pulsar_machine.specs.Options.{Chosen}
 use Rattle.pulsar_acts.specs.Tables.{fills, waiting_from}
-use Rattle.pulsar_acts.specs.View.{View, after, asked_of, building_of, producers_left, producers_made, topic_of}
+use Rattle.pulsar_acts.specs.View.{View, after, asked_of, building_of, consumers_left, consumers_made, joins_some, member_made, member_of, producers_left, producers_made, topic_of}
 use Rattle.pulsar_acts.proofs.Storing.{waits_on}
 
 -- what comes at once stands in front
@@ -59,3 +63,20 @@ pub left_is : (o : Chosen) (who : Who) (m : Makes) (ps : Producers) →
 left_is o (who.Call t) m ps = ap (freed t) (made_is o (who.Call t) m ps)
 left_is o (who.Consumer n t) m ps = made_is o (who.Consumer n t) m ps
 left_is o (who.Producer n) m ps = made_is o (who.Producer n) m ps
+
+-- and consumers
+joins_is : (who : Who) (m : Option Member) (cs : Consumers) →
+    joins_some who m cs ≡ record (joins_some who m cs) { rows = λ t. row_after member_by (member_of m who t) false [] (cs.rows t) }
+joins_is who None cs = refl
+joins_is (who.Call t) (Some m) cs = asking.joined_is t m cs
+joins_is (who.Consumer n t) (Some m) cs = refl
+joins_is (who.Producer n) (Some m) cs = refl
+
+pub held_is : (live : ℕ → Option Seat) (who : Who) (m : Makes) (cs : Consumers) →
+    consumers_left who (consumers_made live who m cs)
+    ≡ record (consumers_left who (consumers_made live who m cs)) {
+      rows = λ t. row_after member_by (member_of (member_made live m) who t) false [] (cs.rows t);
+    }
+held_is live (who.Call t) m cs = ap (consumer.freed t) (joins_is (who.Call t) (member_made live m) cs)
+held_is live (who.Consumer n t) m cs = joins_is (who.Consumer n t) (member_made live m) cs
+held_is live (who.Producer n) m cs = joins_is (who.Producer n) (member_made live m) cs

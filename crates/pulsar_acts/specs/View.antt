@@ -6,7 +6,7 @@ use Rattle.pulsar_addresses.specs.Address.{Place, address_key, behind, is_reacha
 use Rattle.pulsar_addresses.specs.Backoff.{backoff, connection_id, jitter}
 use Rattle.pulsar_addresses.specs.declared.options.OperationRetryOptions.{OperationRetryOptions}
 use Rattle.pulsar_searches.specs.declared.turn.Ways.{Ways}
-use Rattle.pulsar_messages.specs.Words.{Words}
+use Rattle.url.specs.Parts.{Parts}
 use Rattle.pulsar_session.specs.declared.states.Stage.{Stage}
 use Rattle.pulsar_session.specs.declared.states.Stage.TheVariants.{Dialing, Handshaking, Ready, Over}
 use Rattle.pulsar_session.specs.Link as session
@@ -14,9 +14,10 @@ use Rattle.pulsar_session.specs.Link.{Setup, is_open}
 use Rattle.pulsar_exchange.specs.Request.{closed_consumer}
 use Rattle.pulsar_calls.specs.declared.act.Act.{Act}
 use Rattle.pulsar_calls.specs.declared.act.Act.TheVariants.{Comes, Starts, Told, Does, Answers, Dials}
-use Rattle.pulsar_calls.specs.declared.act.Action.TheVariants.{OfTopic, Get, Ask, Wait, Number, Hold, Shut, TakeNumber, FindConsumer, TakeFlow, Revive, FailConsumer, StopAll}
+use Rattle.pulsar_calls.specs.declared.act.Action.TheVariants.{OfTopic, OfConsumer, Get, Ask, Wait, Number, Hold, Shut, TakeNumber, StopAll}
 use Rattle.pulsar_calls.specs.declared.act.TopicAsk.{TopicAsk}
 use Rattle.pulsar_calls.specs.declared.act.TopicAsk.TheVariants.{Store, Flush}
+use Rattle.pulsar_calls.specs.declared.act.ConsumerAsk.{ConsumerAsk}
 use Rattle.pulsar_calls.specs.declared.act.Alarm.{Alarm}
 use Rattle.pulsar_calls.specs.declared.act.Alarm.TheVariants.{Retry, Wake, Batch, KeepAlive, CheckIdle}
 use Rattle.pulsar_calls.specs.declared.act.End.{End}
@@ -48,8 +49,10 @@ use Rattle.pulsar_producer_table.specs.Asks.{Around, Given, around_in, given}
 use Rattle.pulsar_producer_table.specs.declared.table.Topic.{Topic}
 use Rattle.pulsar_producer_table.specs.Producers.{Producers, called_on, freed, holding, is_bare, joined, link_at, none, numbered, numbers_at, shut_by, timeout_at, topic_after, topic_in}
 use Rattle.pulsar_producer.specs.Topic as topic
+use Rattle.pulsar_consumer_table.specs.Asks as of_consumer
+use Rattle.pulsar_consumer_table.specs.Asks.{link_asked, ticket_asked}
 use Rattle.pulsar_consumer_table.specs.Consumers as consumer
-use Rattle.pulsar_consumer_table.specs.Consumers.{Consumers, IsHeard, Member}
+use Rattle.pulsar_consumer_table.specs.Consumers.{Arrives, ClientStops, CloseAsked, Consumers, Deed, IsHeard, IsPolled, LinkEnds, Member, member_by}
 use Rattle.pulsar_consumer.specs.Topic as reader
 use Rattle.pulsar_consumer.specs.Topic.{of_raw}
 use Rattle.pulsar_calls.specs.Who.{is_same, rank, ticket_of, turn_of}
@@ -388,9 +391,7 @@ alarms_after v (Does who StopAll) = []
 alarms_after v (Answers who verdict) = alarms_built v.now (not v.calls.is_built && builds verdict.makes false) v.alarms
 alarms_after v _ = v.alarms
 
--- they hear the frames of their link, and its end, and where their own close is asked for
-abbrev pub hears_ask : (link now : ℕ) → Words → Option Seat → Member → Member
-hears_ask l now request row m = consumer.closes (closed_consumer request) l (is_asked (answer_at now request row)) m
+-- CONSUMERS
 
 -- the consumer that a verdict makes has the ticket of its call
 abbrev pub setup_of : Joining → reader.Setup
@@ -399,17 +400,24 @@ setup_of j = record { topic = j.topic; number = j.number; config = j.config; is_
 abbrev pub member_on : (ℕ → Option Seat) → (link : ℕ) → reader.Setup → Member
 member_on live l s = consumer.member_of s l (url_at (live l))
 
+abbrev pub member_made : (ℕ → Option Seat) → Makes → Option Member
+member_made live Nothing = None
+member_made live Client = None
+member_made live (Consumer made) = Some (member_on live made.link (setup_of made))
+member_made live (RawConsumer l made) = Some (member_on live l (of_raw made))
+member_made live (Producer made) = None
+
 abbrev pub joins_as : Who → Member → Consumers → Consumers
 joins_as (who.Call t) m cs = consumer.joined t m cs
 joins_as (who.Consumer n t) m cs = cs
 joins_as (who.Producer n) m cs = cs
 
+abbrev pub joins_some : Who → Option Member → Consumers → Consumers
+joins_some w None cs = cs
+joins_some w (Some m) cs = joins_as w m cs
+
 abbrev pub consumers_made : (ℕ → Option Seat) → Who → Makes → Consumers → Consumers
-consumers_made live w Nothing cs = cs
-consumers_made live w Client cs = cs
-consumers_made live w (Producer made) cs = cs
-consumers_made live w (Consumer made) cs = joins_as w (member_on live made.link (setup_of made)) cs
-consumers_made live w (RawConsumer l made) cs = joins_as w (member_on live l (of_raw made)) cs
+consumers_made live w m cs = joins_some w (member_made live m) cs
 
 -- and a call that has ended holds no number
 abbrev pub consumers_left : Who → Consumers → Consumers
@@ -417,23 +425,56 @@ consumers_left (who.Call t) cs = consumer.freed t cs
 consumers_left (who.Consumer n t) cs = cs
 consumers_left (who.Producer n) cs = cs
 
-abbrev pub consumers_after : View → Act → Consumers
-consumers_after v (Comes (Calls asked advice)) =
-    if lacks_tickets v.calls.drawn (shares asked) then v.consumers else consumer.called_on (may_call v.calls) asked v.consumers
-consumers_after v (Comes (ToLink l Reads)) = consumer.all_changed (consumer.hears l (arrival_at (v.links.live l))) v.consumers
-consumers_after v (Comes (ToLink l (Ends end))) = consumer.all_changed (consumer.loses_by l (closing end v.now (v.links.live l))) v.consumers
-consumers_after v (Comes (Polls t)) = consumer.changed t (consumer.member_after (reader.Polls v.now)) v.consumers
-consumers_after v (Does w (Ask l request)) = consumer.all_changed (hears_ask l v.now request (v.links.live l)) v.consumers
-consumers_after v (Does w (TakeNumber wanted)) = consumer.numbered (ticket_of w) wanted v.consumers
-consumers_after v (Does w (FindConsumer t)) = consumer.changed t (consumer.seeks w) v.consumers
-consumers_after v (Does w TakeFlow) = consumer.changed (ticket_of w) (consumer.member_after reader.Asks) v.consumers
-consumers_after v (Does w (Revive l)) = consumer.changed (ticket_of w) (consumer.revived l (url_at (v.links.live l))) v.consumers
-consumers_after v (Does w (FailConsumer f)) = consumer.changed (ticket_of w) (consumer.failed f) v.consumers
-consumers_after v (Does w StopAll) = consumer.all_changed consumer.stopped v.consumers
-consumers_after v (Answers w verdict) = consumers_left w (consumers_made v.links.live w verdict.makes v.consumers)
-consumers_after v _ = v.consumers
+-- WHAT IS DONE TO A CONSUMER
 
--- and on that of a topic producer
+-- where a link goes that an ask names, where that has not ended
+abbrev pub url_on : (ℕ → Option Seat) → Option ℕ → Option Parts
+url_on live None = None
+url_on live (Some l) = url_at (live l)
+
+-- and what one gives that is asked
+abbrev pub consumer_asked : View → Who → ConsumerAsk → of_consumer.Given
+consumer_asked v who ask = of_consumer.asked_in v.consumers (ticket_asked who ask) who (url_on v.links.live (link_asked ask)) ask
+
+-- what an act does to the one of a ticket: they hear the frames of a link, and its end, and where the close of one is asked for
+abbrev pub member_acts : View → (ticket : ℕ) → Act → List Deed
+member_acts v t (Comes (ToLink l Reads)) = Arrives l (arrival_at (v.links.live l)) ∷ []
+member_acts v t (Comes (ToLink l (Ends end))) = LinkEnds l (closing end v.now (v.links.live l)) ∷ []
+member_acts v t (Comes (Polls u)) = if t == u then IsPolled v.now ∷ [] else []
+member_acts v t (Does w (Ask l request)) = CloseAsked (closed_consumer request) l (is_asked (answer_at v.now request (v.links.live l))) ∷ []
+member_acts v t (Does w (OfConsumer ask)) = if t == ticket_asked w ask then (consumer_asked v w ask).acts else []
+member_acts v t (Does w StopAll) = ClientStops ∷ []
+member_acts v t _ = []
+
+-- and the one that an act makes
+abbrev pub member_of : Option Member → Who → (ticket : ℕ) → Option Member
+member_of None w t = None
+member_of (Some m) (who.Call u) t = if t == u then Some m else None
+member_of (Some m) (who.Consumer n u) t = None
+member_of (Some m) (who.Producer n) t = None
+
+abbrev pub member_born : View → (ticket : ℕ) → Act → Option Member
+member_born v t (Answers w verdict) = member_of (member_made v.links.live verdict.makes) w t
+member_born v t _ = None
+
+-- what becomes of it
+abbrev pub member_row : View → Act → (ticket : ℕ) → Option Member → Option Member
+member_row v a t row = row_after member_by (member_born v t a) false (member_acts v t a) row
+
+-- all else of the consumers: their tickets, and their numbers
+abbrev pub consumers_else : View → Act → Consumers
+consumers_else v (Comes (Calls asked advice)) =
+    if lacks_tickets v.calls.drawn (shares asked) then v.consumers else consumer.called_on (may_call v.calls) asked v.consumers
+consumers_else v (Does w (TakeNumber wanted)) = consumer.numbered (ticket_of w) wanted v.consumers
+consumers_else v (Answers w verdict) = consumers_left w (consumers_made v.links.live w verdict.makes v.consumers)
+consumers_else v _ = v.consumers
+
+abbrev pub consumers_after : View → Act → Consumers
+consumers_after v a = record (consumers_else v a) { rows = λ t. member_row v a t (v.consumers.rows t) }
+
+-- PRODUCERS
+
+-- what is around a topic producer: the room on its link, where that is ready
 abbrev pub room_on : (ℕ → Option Seat) → Option ℕ → Option Bool
 room_on live None = None
 room_on live (Some l) = room_at (live l)

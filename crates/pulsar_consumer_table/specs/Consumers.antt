@@ -9,6 +9,7 @@ use Rattle.std.specs.Ordering.{nat_cmp}
 use Rattle.url.specs.Parts.{Parts}
 use Rattle.pulsar_wire.specs.Failures.{Failure, Fault}
 use Rattle.pulsar_messages.specs.Claims.{is_spent}
+use Rattle.pulsar_run.specs.Things.{row_by}
 use Rattle.pulsar_frame.specs.Items.{Item, Given, Faulty}
 use Rattle.pulsar_exchange.specs.Messages.{Reply, is_body}
 use Rattle.pulsar_exchange.specs.Request.{named_consumer}
@@ -227,6 +228,38 @@ is_ended_at (Some m) = is_ended m.seen
 abbrev pub stopped : Member → Member
 stopped m = unsought (member_after (Ends Stopped) m)
 
+-- ALL THAT IS DONE TO ONE
+
+pub data Deed : Type 0 where
+  -- this comes on a link
+  Arrives : (link : ℕ) → Arrival → Deed
+  -- a link ends, with this cause
+  LinkEnds : (link : ℕ) → (cause : Option Fault) → Deed
+  -- the close of a number is asked for on a link, and taken there
+  CloseAsked : (closed : Option ℕ) → (link : ℕ) → (is_asked : Bool) → Deed
+  -- it is polled at this moment
+  IsPolled : (clock : ℕ) → Deed
+  -- this one wants its link
+  IsSought : Who → Deed
+  -- the flow that is due is taken
+  FlowTaken : Deed
+  -- it was subscribed again, on a link to this address, or could not be
+  Revived : (link : ℕ) → Option Parts → Deed
+  NotRevived : Failure → Deed
+  -- the client is stopped
+  ClientStops : Deed
+
+abbrev pub member_by : Deed → Member → Member
+member_by (Arrives l a) m = hears l a m
+member_by (LinkEnds l cause) m = loses_by l cause m
+member_by (CloseAsked closed l is_asked) m = closes closed l is_asked m
+member_by (IsPolled clock) m = member_after (topic.Polls clock) m
+member_by (IsSought who) m = seeks who m
+member_by FlowTaken m = member_after topic.Asks m
+member_by (Revived l url) m = revived l url m
+member_by (NotRevived f) m = failed f m
+member_by ClientStops m = stopped m
+
 -- POLLS
 
 abbrev pub polled_item : (ticket : ℕ) (topic : List ℕ) → Item → Shown
@@ -324,6 +357,10 @@ changed t f cs = record cs { rows = λ u. if u == t then option_map f (cs.rows u
 
 abbrev pub all_changed : (Member → Member) → Consumers → Consumers
 all_changed f cs = record cs { rows = λ u. option_map f (cs.rows u) }
+
+-- and by several deeds, the newest first
+abbrev pub done_to : (ticket : ℕ) → List Deed → Consumers → Consumers
+done_to t acts cs = record cs { rows = λ u. row_by member_by (if u == t then acts else []) (cs.rows u) }
 
 -- CALLS
 

@@ -21,7 +21,8 @@ use Rattle.pulsar_incoming.specs.declared.polled.Ending.{Ending}
 use Rattle.pulsar_incoming.specs.declared.polled.Ending.TheVariants.{Closed, TopicEnded, Stopped}
 use Rattle.pulsar_calls.specs.declared.act.Act.{Act}
 use Rattle.pulsar_calls.specs.declared.act.Act.TheVariants.{Comes, Starts, Told, Does, Answers}
-use Rattle.pulsar_calls.specs.declared.act.Action.TheVariants.{Ask, TakeFlow, Revive, FailConsumer, StopAll}
+use Rattle.pulsar_calls.specs.declared.act.Action.TheVariants.{Ask, StopAll, OfConsumer}
+use Rattle.pulsar_calls.specs.declared.act.ConsumerAsk.TheVariants.{TakeFlow, Revive, Fail as FailConsumer}
 use Rattle.pulsar_calls.specs.declared.act.Arrival.{Arrival}
 use Rattle.pulsar_calls.specs.declared.act.Arrival.TheVariants.{Nothing, Readied, Settles, Gives, Passes, Bad}
 use Rattle.pulsar_calls.specs.declared.act.LinkAct.TheVariants.{Reads, Ends}
@@ -84,9 +85,9 @@ does_to v t m (Comes (ToLink l Reads)) = arrival_does l (arrival_at (v.links.liv
 does_to v t m (Comes (ToLink l (Ends end))) = loss_does l (closing end v.now (v.links.live l))
 does_to v t m (Comes (Polls u)) = if t == u then Polled v.now ∷ [] else []
 does_to v t m (Does who (Ask l request)) = close_does (closed_consumer request) l (is_asked (answer_at v.now request (v.links.live l))) m
-does_to v t m (Does who TakeFlow) = if t == ticket_of who then Asks ∷ [] else []
-does_to v t m (Does who (Revive l)) = if t == ticket_of who then subscription_does l (url_at (v.links.live l)) else []
-does_to v t m (Does who (FailConsumer f)) = if t == ticket_of who then Fails f ∷ [] else []
+does_to v t m (Does who (OfConsumer TakeFlow)) = if t == ticket_of who then Asks ∷ [] else []
+does_to v t m (Does who (OfConsumer (Revive l))) = if t == ticket_of who then subscription_does l (url_at (v.links.live l)) else []
+does_to v t m (Does who (OfConsumer (FailConsumer f))) = if t == ticket_of who then Fails f ∷ [] else []
 does_to v t m (Does who StopAll) = Over Stopped ∷ []
 does_to v t m _ = []
 
@@ -209,7 +210,7 @@ abbrev pub ends_by : View → (ticket : ℕ) → Member → Act → Bool
 ends_by v t m (Comes (ToLink l Reads)) = arrival_ends l (arrival_at (v.links.live l)) m.seen
 ends_by v t m (Comes (ToLink l (Ends end))) = is_some (closing end v.now (v.links.live l)) && (lives_on l m.seen && m.seen.is_raw)
 ends_by v t m (Does who (Ask l request)) = is_asked (answer_at v.now request (v.links.live l)) && is_closed_by (closed_consumer request) l m
-ends_by v t m (Does who (FailConsumer f)) = t == ticket_of who
+ends_by v t m (Does who (OfConsumer (FailConsumer f))) = t == ticket_of who
 ends_by v t m (Does who StopAll) = true
 ends_by v t m _ = false
 
@@ -252,7 +253,7 @@ PermitsAreKept = (o : Options) (log : List Entry) (t : ℕ) (m : Member) (l : Li
 -- The plan of a consumer gives permits only by a flow that it took from it: the frame that it asks for bears its number and these permits, on the link
 -- of the subscription that is live where it takes them; and it asks for it in that step, right behind what it is told of it.
 abbrev pub TakesSo : Options → (number ticket link permits : ℕ) → Entry → List Entry → Type 0
-TakesSo o n t l p e older = (e ≡ Then (Does (Consumer n t) TakeFlow)) × (consumer.flow_at ((view o older).consumers.rows t) ≡ Some (l, p))
+TakesSo o n t l p e older = (e ≡ Then (Does (Consumer n t) (OfConsumer TakeFlow))) × (consumer.flow_at ((view o older).consumers.rows t) ≡ Some (l, p))
 
 abbrev pub FlowsAreTaken : Type 0
 FlowsAreTaken = (o : Options) (log : List Entry) (n t l m p : ℕ) → IsRun o (Then (Does (Consumer n t) (Ask l (words.SendFlow m p))) ∷ log) →
@@ -261,10 +262,10 @@ FlowsAreTaken = (o : Options) (log : List Entry) (n t l m p : ℕ) → IsRun o (
 
 -- Each flow that it takes is asked for: it is told of it next, and next it asks for it.
 abbrev pub FlowsAreAsked : Type 0
-FlowsAreAsked = (o : Options) (older : List Entry) (n t l p : ℕ) → IsRun o (Then (Does (Consumer n t) TakeFlow) ∷ older) →
+FlowsAreAsked = (o : Options) (older : List Entry) (n t l p : ℕ) → IsRun o (Then (Does (Consumer n t) (OfConsumer TakeFlow)) ∷ older) →
     consumer.flow_at ((view o older).consumers.rows t) ≡ Some (l, p) →
-    (first (agenda o (Then (Does (Consumer n t) TakeFlow) ∷ older)) ≡ Some (Told (notice (Consumer n t) (outcome.Word (word.Flow l p)))))
-    × (first (agenda o (Then (Told (notice (Consumer n t) (outcome.Word (word.Flow l p)))) ∷ Then (Does (Consumer n t) TakeFlow) ∷ older))
+    (first (agenda o (Then (Does (Consumer n t) (OfConsumer TakeFlow)) ∷ older)) ≡ Some (Told (notice (Consumer n t) (outcome.Word (word.Flow l p)))))
+    × (first (agenda o (Then (Told (notice (Consumer n t) (outcome.Word (word.Flow l p)))) ∷ Then (Does (Consumer n t) (OfConsumer TakeFlow)) ∷ older))
     ≡ Some (Does (Consumer n t) (Ask l (words.SendFlow n p))))
 
 -- No flow that is asked for is refused: the subscription is live there, and its link ready. It is queued at once where there is room, and else it
@@ -284,7 +285,7 @@ pub record Flow : Type 0 where
 
 -- those that the plan of a consumer has asked for since its subscription was made, newest first: with another one they begin anew
 abbrev pub flows_after : View → (ticket : ℕ) → Act → List Flow → List Flow
-flows_after v t (Does who (Revive l)) fs = if t == ticket_of who && is_some (v.links.live l) then [] else fs
+flows_after v t (Does who (OfConsumer (Revive l))) fs = if t == ticket_of who && is_some (v.links.live l) then [] else fs
 flows_after v t (Does (Consumer n u) (Ask l (words.SendFlow m p))) fs =
     if t == u then record { place = place_of (answer_at v.now (words.SendFlow m p) (v.links.live l)); permits = p } ∷ fs else fs
 flows_after v t a fs = fs

@@ -30,7 +30,8 @@ use Rattle.pulsar_links.specs.Alarms.{ringing, rings}
 use Rattle.pulsar_calls.specs.declared.act.Act.{Act}
 use Rattle.pulsar_calls.specs.declared.act.Act.TheVariants.{Comes, Starts, Told, Does, Answers, Dials}
 use Rattle.pulsar_calls.specs.declared.act.Action.{Action}
-use Rattle.pulsar_calls.specs.declared.act.Action.TheVariants.{OfTopic, Get, Ask, Number, Hold, Shut, TakeNumber, FindConsumer, TakeFlow, RecallConsumer, Revive, FailConsumer, Tell, TellAll, StopAll, Rest}
+use Rattle.pulsar_calls.specs.declared.act.Action.TheVariants.{OfTopic, Get, Ask, Number, Hold, Shut, TakeNumber, Tell, TellAll, StopAll, Rest, OfConsumer}
+use Rattle.pulsar_calls.specs.declared.act.ConsumerAsk.TheVariants.{Find as FindConsumer, TakeFlow, Recall as RecallConsumer, Revive, Fail as FailConsumer}
 use Rattle.pulsar_calls.specs.declared.act.TopicAsk.TheVariants.{TakeTurn, PassTurn, Draw, Recall, Remake, Find, Store, Flush, TakeBatch}
 use Rattle.pulsar_calls.specs.declared.act.Alarm.{Alarm}
 use Rattle.pulsar_calls.specs.declared.act.Alarm.TheVariants.{Retry, Wake, Batch, KeepAlive, CheckIdle}
@@ -352,7 +353,7 @@ DrawsNone _ _ v = ⊥
 -- it asks for the link of a topic producer, or of a consumer, which is this
 abbrev pub Finds : (link : ℕ) → Action → View → Type 0
 Finds link (OfTopic n Find) v = link_at (v.producers.topics n) ≡ Some link
-Finds link (FindConsumer t) v = consumer.link_at (v.consumers.rows t) ≡ Some link
+Finds link (OfConsumer (FindConsumer t)) v = consumer.link_at (v.consumers.rows t) ≡ Some link
 Finds link _ v = ⊥
 
 -- it asks of a topic producer that is not known, or of its own consumer, where that is not
@@ -360,7 +361,7 @@ abbrev pub IsUnknown : Who → Action → View → Type 0
 IsUnknown who (OfTopic n TakeTurn) v = v.producers.topics n ≡ None
 IsUnknown who (OfTopic n Recall) v = recalled v.producers n ≡ None
 IsUnknown who (OfTopic n Find) v = v.producers.topics n ≡ None
-IsUnknown who RecallConsumer v = v.consumers.rows (ticket_of who) ≡ None
+IsUnknown who (OfConsumer RecallConsumer) v = v.consumers.rows (ticket_of who) ≡ None
 IsUnknown who _ v = ⊥
 
 -- What it asks of consumers is said at once: the number that it has for a new one, or that this is in use; that the consumer whose link it wants has
@@ -369,13 +370,13 @@ IsUnknown who _ v = ⊥
 abbrev pub SaysSo : Who → Word → Action → View → Type 0
 SaysSo who (word.Numbered n) (TakeNumber wanted) v = consumer.numbering v.consumers wanted ≡ Has n
 SaysSo who word.InUse (TakeNumber wanted) v = consumer.numbering v.consumers wanted ≡ InUse
-SaysSo who word.Closed (FindConsumer t) v = consumer.sought (v.consumers.rows t) ≡ Gone
-SaysSo who (word.Flow link permits) TakeFlow v = consumer.flow_at (v.consumers.rows (ticket_of who)) ≡ Some (link, permits)
-SaysSo who word.NoFlow TakeFlow v = consumer.flow_at (v.consumers.rows (ticket_of who)) ≡ None
-SaysSo who (word.Recalled c) RecallConsumer v = consumer.recalled (v.consumers.rows (ticket_of who)) ≡ Some c
-SaysSo who word.Lives (Revive l) v = consumer.is_ended_at (v.consumers.rows (ticket_of who)) ≡ false
-SaysSo who word.Over (Revive l) v = consumer.is_ended_at (v.consumers.rows (ticket_of who)) ≡ true
-SaysSo who word.Over (FailConsumer f) v = Unit {0}
+SaysSo who word.Closed (OfConsumer (FindConsumer t)) v = consumer.sought (v.consumers.rows t) ≡ Gone
+SaysSo who (word.Flow link permits) (OfConsumer TakeFlow) v = consumer.flow_at (v.consumers.rows (ticket_of who)) ≡ Some (link, permits)
+SaysSo who word.NoFlow (OfConsumer TakeFlow) v = consumer.flow_at (v.consumers.rows (ticket_of who)) ≡ None
+SaysSo who (word.Recalled c) (OfConsumer RecallConsumer) v = consumer.recalled (v.consumers.rows (ticket_of who)) ≡ Some c
+SaysSo who word.Lives (OfConsumer (Revive l)) v = consumer.is_ended_at (v.consumers.rows (ticket_of who)) ≡ false
+SaysSo who word.Over (OfConsumer (Revive l)) v = consumer.is_ended_at (v.consumers.rows (ticket_of who)) ≡ true
+SaysSo who word.Over (OfConsumer (FailConsumer f)) v = Unit {0}
 SaysSo who _ _ v = ⊥
 
 -- this one is the plan of a consumer
@@ -406,7 +407,7 @@ PolledDue o who e older =
 
 abbrev pub RevivedDue : Options → Who → Entry → List Entry → Type 0
 RevivedDue o who e older =
-    (l : ℕ) × (other : Who) × (m : Member) × (e ≡ Then (Does other (Revive l))) × IsServedAs (view o older) who (ticket_of other) m
+    (l : ℕ) × (other : Who) × (m : Member) × (e ≡ Then (Does other (OfConsumer (Revive l)))) × IsServedAs (view o older) who (ticket_of other) m
     × (reader.is_due (consumer.revived l (url_at ((view o older).links.live l)) m).seen ≡ true)
 
 abbrev pub BuiltDue : Options → Who → Entry → List Entry → Type 0
@@ -418,7 +419,7 @@ BuiltDue o who e older =
 abbrev pub SeeksAgain : Options → Who → Entry → List Entry → Type 0
 SeeksAgain o who e older =
     (other : Who) × In who (consumer.seekers_at ((view o older).consumers.rows (ticket_of other)))
-    × (((l : ℕ) × (e ≡ Then (Does other (Revive l)))) ⊎ ((f : Failure) × (e ≡ Then (Does other (FailConsumer f)))))
+    × (((l : ℕ) × (e ≡ Then (Does other (OfConsumer (Revive l))))) ⊎ ((f : Failure) × (e ≡ Then (Does other (OfConsumer (FailConsumer f))))))
 
 -- what one is told of a consumer: it is said at once, or its consumer hears, loses or leaves so; a flow is due; or it is to look once more
 abbrev pub WordComes : Options → Who → Word → Entry → List Entry → Type 0

@@ -5,7 +5,8 @@ use Rattle.std.specs.Prelude.{◌&&◌, not}
 use Rattle.pulsar_addresses.specs.Address.{Named, Place}
 use Rattle.pulsar_calls.specs.Content.{Said}
 use Rattle.pulsar_calls.specs.declared.act.Action.{Action}
-use Rattle.pulsar_calls.specs.declared.act.Action.TheVariants.{Ask, FailConsumer, FindConsumer, Get, Number, OfTopic, RecallConsumer, Rest, Revive, Shut, StopAll, TakeFlow, TakeNumber, TellAll, Wait}
+use Rattle.pulsar_calls.specs.declared.act.Action.TheVariants.{Ask, Get, Number, OfConsumer, OfTopic, Rest, Shut, StopAll, TakeNumber, TellAll, Wait}
+use Rattle.pulsar_calls.specs.declared.act.ConsumerAsk.TheVariants as consumer_ask
 use Rattle.pulsar_calls.specs.declared.act.Makes.TheVariants.{Nothing}
 use Rattle.pulsar_calls.specs.declared.act.Outcome.{Outcome}
 use Rattle.pulsar_calls.specs.declared.act.Place.TheVariants.{Link}
@@ -245,14 +246,14 @@ pub data Arc : Plan → Outcome → Plan → Action → Type 0 where
   subscribed_rests : {w : Ways} {o : ConsumerOrder} {b q : ConsumerBuild} {u : Outcome} {y : ConsumerNews} → consumer_news_of u ≡ Some y →
       consume.build_told w o b y ≡ building_step.Stays q consumer_deed.Rests → Arc (Subscribing w o b) u (Subscribing w o q) Rest
   serving_rests : {w : Ways} {n : ℕ} {s : Service} {u : Outcome} → (waits_flow s && is_flow u) ≡ false → Arc (Serving w n s) u (Serving w n s) Rest
-  due_takes : {w : Ways} {n : ℕ} → Arc (Serving w n service.Resting) (outcome.Word word.Due) (Serving w n service.Taking) TakeFlow
-  lost_recalls : {w : Ways} {n : ℕ} → Arc (Serving w n service.Resting) (outcome.Word word.Lost) (Serving w n service.Recalling) RecallConsumer
+  due_takes : {w : Ways} {n : ℕ} → Arc (Serving w n service.Resting) (outcome.Word word.Due) (Serving w n service.Taking) (OfConsumer consumer_ask.TakeFlow)
+  lost_recalls : {w : Ways} {n : ℕ} → Arc (Serving w n service.Resting) (outcome.Word word.Lost) (Serving w n service.Recalling) (OfConsumer consumer_ask.Recall)
   ended_closes : {w : Ways} {n : ℕ} {l : ℕ} →
       Arc (Serving w n service.Resting) (outcome.Word (word.TopicEnded l)) (Serving w n service.Closing) (Ask l (words.CloseConsumerUnawaited n))
   flow_asks : {w : Ways} {n : ℕ} {l permits : ℕ} →
       Arc (Serving w n service.Taking) (outcome.Word (word.Flow l permits)) (Serving w n service.Asking) (Ask l (words.SendFlow n permits))
   no_flow_rests : {w : Ways} {n : ℕ} → Arc (Serving w n service.Taking) (outcome.Word word.NoFlow) (Serving w n service.Resting) Rest
-  flowed_takes : {w : Ways} {n : ℕ} {u : Outcome} → Arc (Serving w n service.Asking) u (Serving w n service.Taking) TakeFlow
+  flowed_takes : {w : Ways} {n : ℕ} {u : Outcome} → Arc (Serving w n service.Asking) u (Serving w n service.Taking) (OfConsumer consumer_ask.TakeFlow)
   recalled_resumes_gets : {w : Ways} {n : ℕ} {c : Command} {q : Resuming} {at : Place} → consume.resume_begins w ≡ search_turn.Stays q (wish.Get at) →
       Arc (Serving w n service.Recalling) (outcome.Word (word.Recalled c)) (Serving w n (resubscribing c q)) (Get at)
   recalled_resumes_asks : {w : Ways} {n : ℕ} {c : Command} {q : Resuming} {l : ℕ} {request : Words} →
@@ -261,9 +262,9 @@ pub data Arc : Plan → Outcome → Plan → Action → Type 0 where
   recalled_resumes_waits : {w : Ways} {n : ℕ} {c : Command} {q : Resuming} {delay : ℕ} → consume.resume_begins w ≡ search_turn.Stays q (wish.Wait delay) →
       Arc (Serving w n service.Recalling) (outcome.Word (word.Recalled c)) (Serving w n (resubscribing c q)) (Wait delay)
   recalled_revives : {w : Ways} {n : ℕ} {c : Command} {l : ℕ} →
-      Arc (Serving w n service.Recalling) (outcome.Word (word.Recalled c)) (Serving w n (service.Reviving l)) (Revive l)
+      Arc (Serving w n service.Recalling) (outcome.Word (word.Recalled c)) (Serving w n (service.Reviving l)) (OfConsumer (consumer_ask.Revive l))
   recalled_fails : {w : Ways} {n : ℕ} {c : Command} {f : Failure} →
-      Arc (Serving w n service.Recalling) (outcome.Word (word.Recalled c)) (Serving w n service.Failing) (FailConsumer f)
+      Arc (Serving w n service.Recalling) (outcome.Word (word.Recalled c)) (Serving w n service.Failing) (OfConsumer (consumer_ask.Fail f))
   resumes_on_gets : {w : Ways} {n : ℕ} {s : Resubscribing} {u : Outcome} {q : Resuming} {at : Place} →
       consume.resume_told w s.command s.resuming (news_in u) ≡ search_turn.Stays q (wish.Get at) →
       Arc (Serving w n (service.Resuming s)) u (Serving w n (resubscribing s.command q)) (Get at)
@@ -274,14 +275,14 @@ pub data Arc : Plan → Outcome → Plan → Action → Type 0 where
       consume.resume_told w s.command s.resuming (news_in u) ≡ search_turn.Stays q (wish.Wait delay) →
       Arc (Serving w n (service.Resuming s)) u (Serving w n (resubscribing s.command q)) (Wait delay)
   resumed_revives : {w : Ways} {n : ℕ} {s : Resubscribing} {u : Outcome} {l : ℕ} →
-      Arc (Serving w n (service.Resuming s)) u (Serving w n (service.Reviving l)) (Revive l)
+      Arc (Serving w n (service.Resuming s)) u (Serving w n (service.Reviving l)) (OfConsumer (consumer_ask.Revive l))
   resumed_fails : {w : Ways} {n : ℕ} {s : Resubscribing} {u : Outcome} {f : Failure} →
-      Arc (Serving w n (service.Resuming s)) u (Serving w n service.Failing) (FailConsumer f)
+      Arc (Serving w n (service.Resuming s)) u (Serving w n service.Failing) (OfConsumer (consumer_ask.Fail f))
   lives_rests : {w : Ways} {n : ℕ} {l : ℕ} → Arc (Serving w n (service.Reviving l)) (outcome.Word word.Lives) (Serving w n service.Resting) Rest
   over_closes : {w : Ways} {n : ℕ} {l : ℕ} →
       Arc (Serving w n (service.Reviving l)) (outcome.Word word.Over) (Serving w n service.Closing) (Ask l (words.CloseConsumerUnawaited n))
   departs_asks : {t n l : ℕ} → Arc (Departing t n) (outcome.GotLink l) (Asking (wanted l (words.CloseConsumer n) says.Nothing)) (Ask l (words.CloseConsumer n))
-  departs_again : {t n : ℕ} → Arc (Departing t n) (outcome.Word word.Again) (Departing t n) (FindConsumer t)
+  departs_again : {t n : ℕ} → Arc (Departing t n) (outcome.Word word.Again) (Departing t n) (OfConsumer (consumer_ask.Find t))
 
 searches : {w : Ways} {s q : Search} {u : Outcome} (a : Wish) → search.told w s (news_in u) ≡ search_turn.Stays q a →
     Arc (Searching w s) u (Searching w q) (wished a)
@@ -555,7 +556,7 @@ pub data Begun : Procedure → Plan → Action → Type 0 where
       Begun (procedure.Subscribe w o) (Subscribing w o (consumer_build.Numbering n.name n.place)) (TakeNumber o.config.consumer_id)
   begins_serve : {w : Ways} {n : ℕ} → Begun (procedure.Serve w n) (Serving w n service.Resting) Rest
   begins_acknowledge : {l : ℕ} {request : Words} → Begun (procedure.Acknowledge (Some l) request) Acknowledging (Ask l request)
-  begins_leave : {t n : ℕ} → Begun (procedure.Leave t n) (Departing t n) (FindConsumer t)
+  begins_leave : {t n : ℕ} → Begun (procedure.Leave t n) (Departing t n) (OfConsumer (consumer_ask.Find t))
 
 begins_search : {w : Ways} {what : Sought} {q : Search} (a : Wish) → search.begins w what ≡ search_turn.Stays q a →
     Begun (procedure.Search w what) (Searching w q) (wished a)

@@ -6,14 +6,15 @@ use Rattle.std.specs.Option.{option_to_list}
 use Rattle.pulsar_wire.specs.declared.error.IoKind.TheVariants as io_kind
 use Rattle.pulsar_messages.specs.Words.{Words}
 use Rattle.pulsar_messages.specs.Words as words
-use Rattle.pulsar_wire.specs.Failures.{Failure, Fault, Io, Disconnected, Encoding, Canceled, Shutdown, OfConnection, OfProducer, NotFound, Custom, OfConsumer, ConsumerClosed, ProducerClosed, ProducerCustom}
+use Rattle.pulsar_wire.specs.Failures.{Failure, Fault, Io, Disconnected, Encoding, Canceled, Shutdown, OfConnection, OfProducer, NotFound, Custom, OfConsumer as ConsumerFault, ConsumerClosed, ProducerClosed, ProducerCustom}
 use Rattle.pulsar_frame.specs.Reply as session
 use Rattle.pulsar_exchange.specs.Messages.{Reply, Written, is_body}
 use Rattle.pulsar_exchange.specs.Refusals.{refused}
 use Rattle.pulsar_exchange.specs.Request.{Subscribed, answer_of, is_answered, request_number, subscribed}
 use Rattle.pulsar_calls.specs.declared.act.Action.{Action}
-use Rattle.pulsar_calls.specs.declared.act.Action.TheVariants.{OfTopic, Get, Ask, Wait, Number, Hold, Shut, TakeNumber, FindConsumer, TakeFlow, RecallConsumer, Revive, FailConsumer, Tell, TellAll, StopAll, Rest}
+use Rattle.pulsar_calls.specs.declared.act.Action.TheVariants.{OfTopic, Get, Ask, Wait, Number, Hold, Shut, TakeNumber, OfConsumer, Tell, TellAll, StopAll, Rest}
 use Rattle.pulsar_calls.specs.declared.act.TopicAsk.TheVariants.{TakeTurn, PassTurn, Draw, Recall, Remake, Find, Store, Flush, TakeBatch}
+use Rattle.pulsar_calls.specs.declared.act.ConsumerAsk.TheVariants as consumer_ask
 use Rattle.pulsar_calls.specs.declared.act.Makes.{Makes}
 use Rattle.pulsar_calls.specs.declared.act.Makes.TheVariants.{Nothing, Client, Consumer, RawConsumer, Producer}
 use Rattle.pulsar_calls.specs.declared.act.Round.{Round}
@@ -152,7 +153,7 @@ failure_of refusal.NumberInUse = OfProducer (ProducerCustom (codes "number in us
 failure_of refusal.TooLarge = in_producer (Encoding reason.Batch)
 failure_of refusal.NoTopics = Custom (codes "Cannot create consumer with no topics and no topic prefix")
 failure_of refusal.ManyTopics = consume.not_found
-failure_of refusal.ConsumerClosed = OfConsumer ConsumerClosed
+failure_of refusal.ConsumerClosed = ConsumerFault ConsumerClosed
 failure_of refusal.ConsumerInUse = consume.in_use
 
 -- Why a plan fails at an outcome. An outcome that it doesn't wait for counts as the loss of what it waits for.
@@ -519,7 +520,7 @@ is_over = Gives (verdict Nothing Done)
 
 -- Flows are asked for one after the other, until none is due.
 abbrev pub takes_flow : Ways → (number : ℕ) → Turn Plan Verdict
-takes_flow w n = serves w n service.Taking TakeFlow
+takes_flow w n = serves w n service.Taking (OfConsumer consumer_ask.TakeFlow)
 
 -- A subscription that nobody reads any more is closed, and nobody waits for the answer.
 abbrev pub closes_on : Ways → (number link : ℕ) → Turn Plan Verdict
@@ -528,7 +529,7 @@ closes_on w n link = serves w n service.Closing (Ask link (words.CloseConsumerUn
 -- what is told to one that rests
 abbrev pub resting_hears : Ways → (number : ℕ) → Word → Turn Plan Verdict
 resting_hears w n word.Due = takes_flow w n
-resting_hears w n word.Lost = serves w n service.Recalling RecallConsumer
+resting_hears w n word.Lost = serves w n service.Recalling (OfConsumer consumer_ask.Recall)
 resting_hears w n (word.TopicEnded link) = closes_on w n link
 resting_hears w n word.Over = is_over
 resting_hears w n (word.Numbered m) = stays_so w n service.Resting
@@ -555,8 +556,8 @@ resubscribing c r = service.Resuming (record { command = c; resuming = r })
 
 abbrev pub resubscribes : Ways → (number : ℕ) → Command → consume.Resumes → Turn Plan Verdict
 resubscribes w n c (search_turn.Stays r wish) = serves w n (resubscribing c r) (wished wish)
-resubscribes w n c (search_turn.Gives (Ok link)) = serves w n (service.Reviving link) (Revive link)
-resubscribes w n c (search_turn.Gives (Err f)) = serves w n service.Failing (FailConsumer f)
+resubscribes w n c (search_turn.Gives (Ok link)) = serves w n (service.Reviving link) (OfConsumer (consumer_ask.Revive link))
+resubscribes w n c (search_turn.Gives (Err f)) = serves w n service.Failing (OfConsumer (consumer_ask.Fail f))
 
 abbrev pub in_recalling : Ways → (number : ℕ) → Outcome → Turn Plan Verdict
 in_recalling w n (Hears (word.Recalled c)) = resubscribes w n c (consume.resume_begins w)
@@ -598,12 +599,12 @@ acknowledges (Some link) request = Stays Acknowledging (Ask link request)
 -- THE CLOSE of a consumer is asked for on its link. One that is subscribed again meanwhile is waited for, and one that has ended is closed.
 
 abbrev pub departs : (consumer number : ℕ) → Turn Plan Verdict
-departs t n = Stays (Departing t n) (FindConsumer t)
+departs t n = Stays (Departing t n) (OfConsumer (consumer_ask.Find t))
 
 abbrev pub in_departing : (consumer number : ℕ) → Outcome → Turn Plan Verdict
 in_departing t n (GotLink link) = asks link (words.CloseConsumer n) says.Nothing
 in_departing t n (Hears word.Again) = departs t n
-in_departing t n (Hears word.Closed) = fails_with (OfConsumer ConsumerClosed)
+in_departing t n (Hears word.Closed) = fails_with (ConsumerFault ConsumerClosed)
 in_departing t n o = Gives (fails (fault_of o))
 
 -- ALL PLANS

@@ -8,7 +8,7 @@ ghost use Rattle.pulsar_plans.specs.Plan.{acknowledges, departs, fails_with, in_
 use crate::plan::{Plan, Turn, asks, error_of, fails, left};
 use crate::serving::over;
 use pulsar_addresses::content::Refusal;
-use pulsar_calls::act::{Action, Outcome, Says, Verdict, Word};
+use pulsar_calls::act::{Action, ConsumerAsk, Outcome, Says, Verdict, Word};
 use pulsar_exchange::content::Request;
 use pulsar_exchange::raw_call::RawCall;
 use pulsar_wire::error::{ConsumerError, Error, NoMemory};
@@ -34,7 +34,7 @@ pub fn begins(consumer: u64, number: u64) -> Turn<Plan, Verdict>
 {
     Turn::Stays(
         Plan::Departing { consumer, number },
-        Action::FindConsumer(consumer),
+        Action::OfConsumer(ConsumerAsk::Find(consumer)),
     )
 }
 

@@ -5,9 +5,8 @@ ghost use Rattle.pulsar_wire.specs.Failures.{Custom, OfProducer, ProducerCustom,
 ghost use Rattle.pulsar_plans.specs.Plan.{asks, begins, failure_of, fails, fails_with, fault_of, makes, makes_of, overrides, replied, stands, told, verdict, waits};
 ghost use Rattle.pulsar_calls.specs.Content.{Done, Failed};
 
-use crate::search_state::SearchState;
 use crate::service::Service;
-use crate::states::{BatchState, BuildState, ConsumerState, SendState};
+use crate::states::{BatchState, BuildState, ConsumerState, SearchState, SendState};
 use crate::{
     answers, batches, departing, gathering, producing, search, sends, serving, subscribing,
     visiting,

@@ -8,7 +8,7 @@ ghost use Rattle.pulsar_plans.specs.Plan.{found, found_so, goes, news_in, told, 
 ghost use Rattle.pulsar_plans.specs.declared.plan.Plan.TheVariants.{Searching};
 
 use crate::plan::{Plan, Turn, error_of, failure};
-use crate::search_state::SearchState;
+use crate::states::SearchState;
 use pulsar_addresses::content::{Cause, Refusal};
 use pulsar_calls::act::{Action, Makes, Outcome, Verdict};
 use pulsar_calls::content::Said;

@@ -53,7 +53,7 @@ pub fn told(
 ) -> Result<Turn<Plan, Verdict>, NoMemory>
     ensures { IfOk result (λ turn. turn ≡ told (InSending ways errand share sending) outcome) }
 {
-    if overrides(&outcome) && !sending.is_sent() {
+    if overrides(&outcome) && !sending.get().is_sent() {
         halted(alloc, share, outcome)
     } else {
         tells(alloc, ways, errand, share, sending, outcome)
@@ -105,7 +105,7 @@ fn stays(
     ensures { IfOk result (λ turn. turn ≡ sends_stay ways errand share sending deed) }
 {
     match share {
-        Some(share) if sending.is_sent() => Ok(Turn::Stays(
+        Some(share) if sending.get().is_sent() => Ok(Turn::Stays(
             Plan::Reporting { ways, errand },
             tell(share, parted(share, None)),
         )),

@@ -10,7 +10,7 @@ use crate::plan::{Plan, Turn, done, overrides};
 use crate::search::{news_in, wished};
 use crate::service::Service;
 use crate::states::{Resubscribing, ResumeState};
-use pulsar_calls::act::{Action, Makes, Outcome, Verdict, Word};
+use pulsar_calls::act::{Action, ConsumerAsk, Makes, Outcome, Verdict, Word};
 use pulsar_consumer::resuming::{self, Resumes};
 use pulsar_exchange::content::Request;
 use pulsar_exchange::raw_call::RawCall;
@@ -95,7 +95,12 @@ fn hears(
 {
     match word {
         Word::Due => Ok(takes_flow(ways, number)),
-        Word::Lost => Ok(stays(ways, number, Service::Recalling, Action::RecallConsumer)),
+        Word::Lost => Ok(stays(
+            ways,
+            number,
+            Service::Recalling,
+            Action::OfConsumer(ConsumerAsk::Recall),
+        )),
         Word::TopicEnded { link } => Ok(closes_on(ways, number, link)),
         Word::Over => over(alloc),
         Word::Numbered(_)
@@ -113,7 +118,12 @@ fn hears(
 fn takes_flow(ways: Ways, number: u64) -> Turn<Plan, Verdict>
     ensures { result ≡ takes_flow ways number }
 {
-    stays(ways, number, Service::Taking, Action::TakeFlow)
+    stays(
+        ways,
+        number,
+        Service::Taking,
+        Action::OfConsumer(ConsumerAsk::TakeFlow),
+    )
 }
 
 /// The flow that was taken is asked for.
@@ -218,11 +228,11 @@ fn resubscribes(
             Ok(stays(ways, number, Service::Resuming(state), action))
         }
         SearchTurn::Gives(Ok(link)) => {
-            let action = Action::Revive { link };
+            let action = Action::OfConsumer(ConsumerAsk::Revive { link });
             Ok(stays(ways, number, Service::Reviving { link }, action))
         }
         SearchTurn::Gives(Err(refusal)) => {
-            let action = Action::FailConsumer(refusal);
+            let action = Action::OfConsumer(ConsumerAsk::Fail(refusal));
             Ok(stays(ways, number, Service::Failing, action))
         }
     }

@@ -169,8 +169,7 @@ abbrev pub build_closes : List Built → Failure → Builds
 build_closes [] f = Gives (Err f)
 build_closes (p ∷ left) f = Stays (build.Closing left f) (ClosesProducer p.link p.number)
 
--- the next name, behind those that were made
--- with this deed before the next of them
+-- the next name is taken, behind those for which a topic producer was made; this is done before it
 abbrev pub build_next : Deed → List Named → List Built → Builds
 build_next d [] made = Gives (Ok made)
 build_next d (n ∷ left) made = Stays (build.Numbering (record { topic = n.name; place = n.place; left = left; made = made })) d

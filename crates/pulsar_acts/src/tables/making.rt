@@ -135,8 +135,8 @@ impl Tables {
         ensures { IfOk result (λ acts. acts.items ≡ left_with (ways_of (chosen_of self.now.settings)) who makes.now) }
     {
         match makes {
-            Makes::Producer(made) => self.batches_made(made.building()),
-            Makes::Consumer(joined) => self.serves(who, joined.joining()),
+            Makes::Producer(made) => self.batches_made(made.get()),
+            Makes::Consumer(joined) => self.serves(who, joined.get()),
             Makes::Nothing | Makes::Client | Makes::RawConsumer { .. } => {
                 Ok(VecDeque::new(self.alloc))
             }

@@ -10,7 +10,6 @@ use Rattle.pulsar_session.proofs.Others.{slow_down_changes_nothing}
 use Rattle.pulsar_exchange.specs.Request.{is_awaited}
 use Rattle.pulsar_laws.specs.ProducerLaws.{SlowDownLeavesAll, seat_ticked}
 use Rattle.pulsar_consumer_table.specs.Consumers.{Member, closes}
-use Rattle.pulsar_acts.specs.View.{hears_ask}
 use Rattle.pulsar_links.specs.Seats.{asker_at}
 
 module _ (who : Who) (now l : ℕ) (request : Words) where
@@ -32,7 +31,7 @@ module _ (who : Who) (now l : ℕ) (request : Words) where
     | inr e ↦ rw e refl
   ]
 
-  hears_slow : (row : Option Seat) (m : Option Member) → answer_at now request row ≡ Err error.SlowDown → option_map (hears_ask l now request row) m ≡ m
+  hears_slow : (row : Option Seat) (m : Option Member) → answer_at now request row ≡ Err error.SlowDown → option_map (closes (closed_consumer request) l (is_asked (answer_at now request row))) m ≡ m
   hears_slow row None h = refl
   hears_slow row (Some m) h = ap (λ r. Some (closes (closed_consumer request) l (is_asked r) m)) h
 

@@ -6,7 +6,7 @@ use Rattle.std.proofs.lemmas.Bool.{cases_Bool, eqb-true}
 use Rattle.std.proofs.lemmas.Bool.Decides.{nat_tests}
 use Rattle.std.specs.List.{filter_map, flat_map}
 use Rattle.std.specs.Option.{option_map, is_some}
-use Rattle.pulsar_laws.proofs.ActWords.{Act, Action, Alarm, Answers, Ask, Asked, Batch, below, Bytes, Call, CallRefusal, Calls, CheckIdle, Comes, Dials, Does, Drains, Ends, FindConsumer, Get, Heard, is_same, KeepAlive, lacks_tickets, LinkAct, Makes, next_advice, Nothing, Notice, numbers_from, OfTopic, Opens, opens, Outcome, Part, Pings, Polls, Procedure, Reads, Retry, Rings, shares, Starts, StopAll, Stops, TakeBatch, Tell, TellAll, Told, ToLink, Wait, Wake, Who}
+use Rattle.pulsar_laws.proofs.ActWords.{Act, Action, Alarm, Answers, Ask, Asked, Batch, below, Bytes, Call, CallRefusal, Calls, CheckIdle, Comes, Dials, Does, Drains, Ends, FindConsumer, Get, Heard, is_same, KeepAlive, lacks_tickets, LinkAct, Makes, next_advice, Nothing, Notice, numbers_from, OfTopic, Opens, opens, Outcome, Part, Pings, Polls, Procedure, Reads, Retry, Rings, shares, Starts, StopAll, Stops, TakeBatch, Tell, TellAll, Told, ToLink, Wait, Wake, Who, OfConsumer}
 use Rattle.pulsar_laws.proofs.PlanWords.{Batching, fails, Plan, verdict, Ways}
 use Rattle.pulsar_laws.proofs.RunWords.{after, agenda, Agenda, arranged, asks_raw, asks_topics, at_once, Begins, begun, begun_live, begun_same, builds_with, called, causes, checks, Chosen, closes, consumers_after, consumers_made, Each, each_append, each_either, each_flat, each_map, Entry, first, first_case, first_of, flushes, follows_some, from_base, gathers, In, is_live, IsRun, joins, left_with, link_got, live_begun, lost_on, may_call, none_now, notice, Options, over_each, parts_of, procedure_for, produces, rest, rest_of, rules, searches, sends, shares_unless, starts, stays_some, stopped_on, tells, Then, Tickets, told_some, turned_by, unless_refused, view, View, ways_of, why_no_sends}
 use Rattle.pulsar_laws.proofs.LinkWords.{address_key, Addresses, arrival_at, Base, closing, Exhausted, got_at, Nobody, over_links, Pause, Pauses, Place, Reply, rings, Runs, Seat, Series, Serves, stop_act, tells_asker, took_some}
@@ -42,8 +42,8 @@ use Rattle.pulsar_laws.proofs.calls.Whereabouts.{goes_nowhere}
 use Rattle.pulsar_laws.proofs.plans.LastWords.{AreLast, batch_fine, batch_some, batch_told, calm_fine, each_last, ends_fine, ends_some, is_fine, is_last_word, is_leaving, IsLast, IsLastNotice, IsLate, IsParting, last_append, last_rest, last_some, left_fine, left_some, makes_nothing, settling_told, some_fine, taking_told}
 use Rattle.pulsar_consumer_table.specs.Notices.{heard_at, lost_at}
 use Rattle.pulsar_acts.specs.Reading.{acknowledges, leaves, made_due, subscribes}
-use Rattle.pulsar_consumer_table.specs.Consumers.{Consumers, Member, hears, loses_by, member_after, over_rows}
-use Rattle.pulsar_laws.proofs.consumers.Members.{Gone, called_rows, gone_map, heard_gone, left_rows, loss_gone, no_due, no_loss, poll_gone, there_each}
+use Rattle.pulsar_consumer_table.specs.Consumers.{Consumers, IsPolled, Member, hears, loses_by, member_after, member_by, over_rows}
+use Rattle.pulsar_laws.proofs.consumers.Members.{Gone, gone_map, heard_gone, loss_gone, made_at, no_due, no_loss, poll_gone, there_each}
 use Rattle.pulsar_laws.proofs.plans.Wording.{IsStoppedWord, is_stopped_word, rows_each, stopped_words}
 use Rattle.pulsar_consumer_table.specs.Consumers as consumer
 use Rattle.pulsar_consumer.specs.Topic as reader
@@ -452,7 +452,7 @@ module _ (o : Options) (log : List Entry) (run : IsRun o log) (k : Over o log) w
       (ap (λ b. alarms_built v.now b v.alarms) (none_built (not v.calls.is_built) verdict.makes is) ∙ k.alarms) k.fine
       (λ m. ap (λ r. next_batch_at (row_after topic_after r false [] (v.producers.topics m))) (made_none v.chosen who verdict.makes m is) ∙ k.bare m)
       (λ t. subst Gone
-      (sym (ap (λ f. f t) (left_rows who (consumers_made v.links.live who verdict.makes v.consumers))
+      (sym (made_at v who verdict t
       ∙ ap (λ cs. cs.rows t) (none_made v.links.live who verdict.makes v.consumers is))) (k.gone t))
       (λ l e. absurd cc)
   last_on (Starts who (procedure.Refuse r)) fits is =
@@ -533,10 +533,7 @@ module _ (o : Options) (log : List Entry) (run : IsRun o log) (k : Over o log) w
   part_on (Calls asked advice) fits none =
       goes_over (Comes (Calls asked advice)) fits refl (λ w h. h)
       (each_last v.stand (called v advice asked) (last_called v advice asked k.is_stopped)) tt tt (λ l. refl) k.alarms k.fine
-      k.bare
-      (λ t. subst Gone
-      (sym (ap (λ f. f t) (called_rows (lacks_tickets v.calls.drawn (shares asked)) (may_call v.calls) asked v.consumers))) (k.gone t))
-      (λ l e. absurd cc)
+      k.bare k.gone (λ l e. absurd cc)
   part_on (ToLink l x) fits none =
       let dead = all_dead none l in
       goes_over (Comes (ToLink l x)) fits refl (λ w h. h) (dead_once l dead x) tt (dead_causes l dead x) (dead_pause l dead x) (dead_alarms l dead x) k.fine
@@ -552,7 +549,7 @@ module _ (o : Options) (log : List Entry) (run : IsRun o log) (k : Over o log) w
       goes_over (Comes (Polls t)) fits refl (λ w h. h) tt
       (no_due (IsLate (after (Comes (Polls t)) v).stand) t (option_map (member_after (reader.Polls clock)) (v.consumers.rows t))
       (gone_map (member_after (reader.Polls clock)) (v.consumers.rows t) (poll_gone clock) (k.gone t))) tt (λ l. refl) k.alarms k.fine k.bare
-      (λ u. elim (u == t) as (λ b. Gone (cond b (option_map (member_after (reader.Polls clock)) (v.consumers.rows u)) (v.consumers.rows u))) [
+      (λ u. elim (u == t) as (λ b. Gone (row_by member_by (cond b (IsPolled clock ∷ []) []) (v.consumers.rows u))) [
         | true ↦ gone_map (member_after (reader.Polls clock)) (v.consumers.rows u) (poll_gone clock) (k.gone u)
         | false ↦ k.gone u
       ]) (λ l e. absurd cc)
@@ -705,5 +702,5 @@ never_asks o log w a run h =
     by (Get p) left = absurd left
     by (Ask l request) left = absurd left
     by (Wait delay) left = absurd left
-    by (FindConsumer t) left = absurd left
+    by (OfConsumer (FindConsumer t)) left = absurd left
     by _ left = refl

@@ -3,7 +3,7 @@ use Rattle.std.proofs.Common.{◌≡◌, ◌⊎◌, inl, inr, ◌∙◌, sym, ap
 use Rattle.std.proofs.lemmas.Bool.{cases_Bool, eqb-true}
 use Rattle.std.proofs.lemmas.List.Sums.{sum_by-cons}
 use Rattle.std.specs.Option.{is_some, option_map}
-use Rattle.pulsar_laws.proofs.ActWords.{Act, Answers, Arrival, Ask, Comes, Consumer, Does, Ends, FailConsumer, Notice, Polls, Reads, Revive, StopAll, TakeFlow, ticket_of, Told, ToLink}
+use Rattle.pulsar_laws.proofs.ActWords.{Act, Answers, Arrival, Ask, Comes, Consumer, Does, Ends, FailConsumer, Notice, Polls, Reads, Revive, StopAll, TakeFlow, ticket_of, Told, ToLink, OfConsumer}
 use Rattle.pulsar_laws.proofs.RunWords.{Begins, EndsOnce, Entry, IsRun, notice, Options, Then, view, View}
 use Rattle.pulsar_laws.proofs.LinkWords.{answer_at, arrival_at, closed_consumer, closing, Fault, is_asked, is_body, place_of, Reply, Seat, url_at}
 use Rattle.pulsar_messages.specs.Words as words
@@ -69,14 +69,14 @@ does_new v t m (Comes (ToLink l (Ends end))) fs = inl (loss_new l (closing end v
 does_new v t m (Comes (Polls u)) fs = inl (either_new (t == u) _ _ refl refl)
 does_new v t m (Does who (Ask l request)) fs =
     inl (either_new (is_asked (answer_at v.now request (v.links.live l)) && is_closed_by (closed_consumer request) l m) _ _ refl refl)
-does_new v t m (Does who TakeFlow) fs = inl (either_new (t == ticket_of who) _ _ refl refl)
-does_new v t m (Does who (Revive l)) fs = by (t == ticket_of who) (v.links.live l)
+does_new v t m (Does who (OfConsumer TakeFlow)) fs = inl (either_new (t == ticket_of who) _ _ refl refl)
+does_new v t m (Does who (OfConsumer (Revive l))) fs = by (t == ticket_of who) (v.links.live l)
   where
     by : (b : Bool) (row : Option Seat) → (makes_new (cond b (subscription_does l (url_at row)) []) ≡ false) ⊎ (cond (b && is_some row) [] fs ≡ [])
     by true None = inl refl
     by true (Some seat) = inr refl
     by false row = inl refl
-does_new v t m (Does who (FailConsumer f)) fs = inl (either_new (t == ticket_of who) _ _ refl refl)
+does_new v t m (Does who (OfConsumer (FailConsumer f))) fs = inl (either_new (t == ticket_of who) _ _ refl refl)
 does_new v t m (Does who StopAll) fs = inl refl
 does_new v t m a fs = inl refl
 
@@ -103,7 +103,7 @@ module _ (once : EndsOnce) (o : Options) (log : List Entry) (n t l m p : ℕ) (r
   told_so = notice (Consumer n t) (outcome.Word (word.Flow l p))
 
   abbrev pub took : List Entry
-  took = Then (Does (Consumer n t) TakeFlow) ∷ x.older
+  took = Then (Does (Consumer n t) (OfConsumer TakeFlow)) ∷ x.older
 
   before : IsRun o x.older
   before = (subst (IsRun o) x.is_behind run).0.0
@@ -113,7 +113,7 @@ module _ (once : EndsOnce) (o : Options) (log : List Entry) (n t l m p : ℕ) (r
       ap (done_to o t) x.is_behind
       ∙ row_done (view o took) t (Told told_so) _ ((view o took).consumers.rows t) (done_to o t took)
       (asked_there o x.older n t told_so x.was_due.member x.was_due.is_there)
-      ∙ row_done (view o x.older) t (Does (Consumer n t) TakeFlow) x.was_due.member ((view o x.older).consumers.rows t) (done_to o t x.older) x.was_due.is_there
+      ∙ row_done (view o x.older) t (Does (Consumer n t) (OfConsumer TakeFlow)) x.was_due.member ((view o x.older).consumers.rows t) (done_to o t x.older) x.was_due.is_there
       ∙ ap (λ b. cond b (Asks ∷ []) [] ++ done_to o t x.older) (eq-eqb t t refl)
 
   -- its permits count as taken
@@ -181,9 +181,9 @@ module _ (once : EndsOnce) (o : Options) (log : List Entry) (t : ℕ) (k : Every
       ask_new m n u j m' p =
           either_new (is_asked (answer_at v.now (words.SendFlow m' p) (v.links.live j)) && is_closed_by (closed_consumer (words.SendFlow m' p)) j m) _ _ refl
           refl
-  kept_covered (Does who (Revive j)) l s m run from is made = elim (cases_Bool (t == ticket_of who && is_some (v.links.live j))) [
-    | inl d ↦ none_covered (flows_after v t (Does who (Revive j)) fs) _ (ap (λ b. cond b [] fs) d)
-    | inr d ↦ plain_covered (Does who (Revive j)) l s m run from is made (ap (λ b. cond b [] fs) d)
+  kept_covered (Does who (OfConsumer (Revive j))) l s m run from is made = elim (cases_Bool (t == ticket_of who && is_some (v.links.live j))) [
+    | inl d ↦ none_covered (flows_after v t (Does who (OfConsumer (Revive j))) fs) _ (ap (λ b. cond b [] fs) d)
+    | inr d ↦ plain_covered (Does who (OfConsumer (Revive j))) l s m run from is made (ap (λ b. cond b [] fs) d)
   ]
   kept_covered a l s m run from is made = plain_covered a l s m run from is made refl
 

@@ -6,7 +6,7 @@ use Rattle.std.specs.List.{flat_map}
 use Rattle.std.specs.Option.{is_some, option_map, option_to_list}
 use Rattle.std.specs.Ordering.{match_ordering, nat_cmp}
 use Rattle.std.specs.declared.cmp.Ordering.TheVariants.{Less, Equal, Greater}
-use Rattle.pulsar_laws.proofs.ActWords.{Act, Answers, Arrival, Ask, Asked, Call, Calls, Comes, Consumer, Does, Ends, FailConsumer, FindConsumer, is_same, lacks_tickets, Makes, Notice, opens, Polls, Producer, Reads, Revive, shares, StopAll, TakeFlow, TakeNumber, ticket_of, Told, ToLink, Verdict, Who, Word}
+use Rattle.pulsar_laws.proofs.ActWords.{Act, Answers, Arrival, Ask, Asked, Call, Calls, Comes, Consumer, Does, Ends, FailConsumer, is_same, lacks_tickets, Makes, Notice, opens, Polls, Producer, Reads, Revive, shares, StopAll, TakeFlow, TakeNumber, ticket_of, Told, ToLink, Verdict, Who, Word, OfConsumer}
 use Rattle.pulsar_laws.proofs.RunWords.{Arises, Begins, begun_same, consumers_after, consumers_made, Entry, In, InOne, joins, may_call, member_on, Options, rules, Then, turned, view, View}
 use Rattle.pulsar_laws.proofs.LinkWords.{answer_at, arrival_at, closed_consumer, closing, Failure, Fault, is_asked, is_body, Reply, Seat, url_at}
 use Rattle.url.specs.Parts.{Parts}
@@ -35,7 +35,7 @@ use Rattle.pulsar_laws.proofs.Cases.{none_some, some_is}
 use Rattle.pulsar_laws.proofs.Lists.{in_right, into_flat}
 use Rattle.pulsar_laws.proofs.consumers.Lone.{applied, arrival_done, joins_here, none_after}
 use Rattle.pulsar_laws.proofs.calls.Same.{same_self}
-use Rattle.pulsar_laws.proofs.consumers.Members.{either_number, left_rows, lost_gone, polled_number}
+use Rattle.pulsar_laws.proofs.consumers.Members.{either_number, lost_gone, made_at, polled_number}
 use Rattle.pulsar_laws.specs.ConsumerLaws.{does_to, loss_does, subscription_does}
 
 -- THE TICKETS of all consumers are known
@@ -119,10 +119,7 @@ module _ (t : ℕ) where
   after_has v (Comes (ToLink l (Ends end))) h = h
   after_has v (Comes (Polls u)) h = h
   after_has v (Does who (Ask l request)) h = h
-  after_has v (Does who (FindConsumer u)) h = h
-  after_has v (Does who TakeFlow) h = h
-  after_has v (Does who (Revive l)) h = h
-  after_has v (Does who (FailConsumer f)) h = h
+  after_has v (Does who (OfConsumer ask)) h = h
   after_has v (Does who StopAll) h = h
   after_has v a h = h
 
@@ -155,7 +152,7 @@ module _ (t : ℕ) where
       (consumers_after v a).rows t ≡ Some n → Has' (consumers_after v a)
   has_on v (Answers who verdict) k n h =
       let cs : Consumers = consumers_made v.links.live who verdict.makes v.consumers in
-      let made : cs.rows t ≡ Some n = sym (ap (λ f. f t) (left_rows who cs)) ∙ h in
+      let made : cs.rows t ≡ Some n = sym (made_at v who verdict t) ∙ h in
       elim (made_new v.links.live who verdict.makes n v.consumers made) [
         | inl e ↦ after_has v (Answers who verdict) (k n e)
         | inr e ↦ subst (In t) (sym (left_tickets who cs)) e
@@ -227,13 +224,13 @@ falls_asks s h = by s.engine.live h
 abbrev pub is_waker : Act → Bool
 is_waker (Comes (ToLink l Reads)) = true
 is_waker (Comes (Polls t)) = true
-is_waker (Does who (Revive l)) = true
+is_waker (Does who (OfConsumer (Revive l))) = true
 is_waker _ = false
 
 pub falls_due : (v : View) (t : ℕ) (m : Member) (a : Act) → is_waker a ≡ false → is_due (applied (does_to v t m a) m.seen) ≡ true → is_due m.seen ≡ true
 falls_due v t m (Comes (ToLink l Reads)) w h = absurd cc
 falls_due v t m (Comes (Polls u)) w h = absurd cc
-falls_due v t m (Does who (Revive l)) w h = absurd cc
+falls_due v t m (Does who (OfConsumer (Revive l))) w h = absurd cc
 falls_due v t m (Comes (ToLink l (Ends end))) w h = by (closing end v.now (v.links.live l)) h
   where
     by : (c : Option Fault) → is_due (applied (loss_does l c) m.seen) ≡ true → is_due m.seen ≡ true
@@ -242,8 +239,8 @@ falls_due v t m (Comes (ToLink l (Ends end))) w h = by (closing end v.now (v.lin
 falls_due v t m (Does who (Ask l request)) w h =
     falls_either (is_asked (answer_at v.now request (v.links.live l)) && is_closed_by (closed_consumer request) l m) (Over Closed ∷ []) m.seen
     (λ k. absurd cc) h
-falls_due v t m (Does who TakeFlow) w h = falls_either (t == ticket_of who) (Asks ∷ []) m.seen (falls_asks m.seen) h
-falls_due v t m (Does who (FailConsumer f)) w h = falls_either (t == ticket_of who) (Fails f ∷ []) m.seen (falls_fails f m.seen) h
+falls_due v t m (Does who (OfConsumer TakeFlow)) w h = falls_either (t == ticket_of who) (Asks ∷ []) m.seen (falls_asks m.seen) h
+falls_due v t m (Does who (OfConsumer (FailConsumer f))) w h = falls_either (t == ticket_of who) (Fails f ∷ []) m.seen (falls_fails f m.seen) h
 falls_due v t m (Does who StopAll) w h = absurd cc
 falls_due v t m a w h = h
 
@@ -351,7 +348,7 @@ module _ (o : Options) (log : List Entry) (t : ℕ) (m : Member) (there : (view 
   ]
 
   pub revived_due : (who : Who) (l : ℕ) → (t == ticket_of who) ≡ true → is_due (applied (subscription_does l (url_at (v.links.live l))) m.seen) ≡ true →
-      Arises rules o (due_to_plan m.seen.number t) (Then (Does who (Revive l))) log
+      Arises rules o (due_to_plan m.seen.number t) (Then (Does who (OfConsumer (Revive l)))) log
   revived_due who l e h =
       let url : Option Parts = url_at (v.links.live l) in
       let n : Member = revived l url m in
@@ -371,7 +368,7 @@ module _ (o : Options) (log : List Entry) (t : ℕ) (m : Member) (there : (view 
       seen_number url = ap (λ (s : Seen). s.number) (seen_so url) ∙ applied_number (subscription_does l url) m.seen
 
   revive_due : (who : Who) (l : ℕ) → is_due (applied (cond (t == ticket_of who) (subscription_does l (url_at (v.links.live l))) []) m.seen) ≡ true →
-      Rises (Does who (Revive l))
+      Rises (Does who (OfConsumer (Revive l)))
   revive_due who l h = elim (cases_Bool (t == ticket_of who)) [
     | inr e ↦ inr (sym (ap (λ b. is_due (applied (cond b (subscription_does l (url_at (v.links.live l))) []) m.seen)) e) ∙ h)
     | inl e ↦ inl (revived_due who l e (sym (ap (λ b. is_due (applied (cond b (subscription_does l (url_at (v.links.live l))) []) m.seen)) e) ∙ h))
@@ -380,7 +377,7 @@ module _ (o : Options) (log : List Entry) (t : ℕ) (m : Member) (there : (view 
   pub rises : (a : Act) → is_waker a ≡ true → is_due (applied (does_to v t m a) m.seen) ≡ true → Rises a
   rises (Comes (ToLink l Reads)) w h = reads_due l (ap is_due (arrival_done l (arrival_at (v.links.live l)) m) ∙ h)
   rises (Comes (Polls u)) w h = polls_due u h
-  rises (Does who (Revive l)) w h = revive_due who l h
+  rises (Does who (OfConsumer (Revive l))) w h = revive_due who l h
   rises a w h = absurd cc
 
 -- and where a consumer is made
@@ -407,7 +404,7 @@ pub made_due_so : (v : View) (t : ℕ) (who : Who) (verdict : Verdict) (n : Memb
     (consumers_after v (Answers who verdict)).rows t ≡ Some n → is_due n.seen ≡ true →
     In (due_to_plan n.seen.number t) (map Told (joins v (Answers who verdict)))
 made_due_so v t who verdict n none is h =
-    by verdict.makes refl (sym (ap (λ f. f t) (left_rows who (consumers_made v.links.live who verdict.makes v.consumers))) ∙ is)
+    by verdict.makes refl (sym (made_at v who verdict t) ∙ is)
   where
     old : {A : Type 0} → v.consumers.rows t ≡ Some n → A
     old e = absurd (none_some (sym none ∙ e))
@@ -450,4 +447,4 @@ pub built_due : (v : View) (t : ℕ) (verdict : Verdict) (j : Joining) (n : Memb
 built_due v t verdict j n made is h =
     call_due v t verdict j n made
     (ap (λ x. (consumers_made v.links.live (Call t) x v.consumers).rows t) (sym made)
-    ∙ sym (ap (λ f. f t) (left_rows (Call t) (consumers_made v.links.live (Call t) verdict.makes v.consumers))) ∙ is) h
+    ∙ sym (made_at v (Call t) verdict t) ∙ is) h

@@ -1,7 +1,7 @@
 -- A consumer ends at one of the acts that end it, and stays so; and its permits are in bounds.
 use Rattle.std.proofs.Common.{◌≡◌, ◌≤◌, ℕ, ◌+◌, ◌-◌, ◌∙◌, sym, ap, subst, List, [], ◌∷◌, ◌++◌, refl, arith, Bool, true, false, ◌&&◌, ◌||◌, cond, Option, Some, None, ◌==◌, append_assoc}
 use Rattle.std.specs.Option.{is_some, option_or}
-use Rattle.pulsar_laws.proofs.ActWords.{Act, Arrival, Ask, Comes, Does, Ends, FailConsumer, Polls, Reads, Revive, StopAll, TakeFlow, ticket_of, ToLink}
+use Rattle.pulsar_laws.proofs.ActWords.{Act, Arrival, Ask, Comes, Does, Ends, FailConsumer, Polls, Reads, Revive, StopAll, TakeFlow, ticket_of, ToLink, OfConsumer}
 use Rattle.pulsar_laws.proofs.RunWords.{Begins, EndsOnce, Entry, IsRun, Options, Then, view, View}
 use Rattle.pulsar_laws.proofs.LinkWords.{answer_at, arrival_at, closed_consumer, closing, Fault, is_asked, is_body, Reply, url_at}
 use Rattle.url.specs.Parts.{Parts}
@@ -129,11 +129,11 @@ does_end v t m (Comes (Polls u)) = plain_ends (t == u) (Polled v.now ∷ []) m.s
 does_end v t m (Does who (Ask l request)) =
     when_ends (is_asked (answer_at v.now request (v.links.live l)) && is_closed_by (closed_consumer request) l m) (Over Closed ∷ []) m.seen
     (after_ends (Over Closed) m.seen)
-does_end v t m (Does who TakeFlow) = plain_ends (t == ticket_of who) (Asks ∷ []) m.seen (after_ends Asks m.seen)
-does_end v t m (Does who (Revive l)) =
+does_end v t m (Does who (OfConsumer TakeFlow)) = plain_ends (t == ticket_of who) (Asks ∷ []) m.seen (after_ends Asks m.seen)
+does_end v t m (Does who (OfConsumer (Revive l))) =
     let url : Option Parts = url_at (v.links.live l) in
     plain_ends (t == ticket_of who) (subscription_does l url) m.seen (subscription_end l url m.seen)
-does_end v t m (Does who (FailConsumer f)) = when_ends (t == ticket_of who) (Fails f ∷ []) m.seen (after_ends (Fails f) m.seen)
+does_end v t m (Does who (OfConsumer (FailConsumer f))) = when_ends (t == ticket_of who) (Fails f ∷ []) m.seen (after_ends (Fails f) m.seen)
 does_end v t m (Does who StopAll) = after_ends (Over Stopped) m.seen
 does_end v t m a = none_ends m.seen
 

@@ -5,7 +5,7 @@ use Rattle.std.proofs.lemmas.Bool.Decides.{nat_tests}
 use Rattle.std.proofs.lemmas.Grind.{common_steps}
 use Rattle.std.specs.List.{filter, flat_map}
 use Rattle.std.specs.Option.{is_some, option_map, option_to_list}
-use Rattle.pulsar_laws.proofs.ActWords.{Act, Arrival, Ask, Comes, Does, Ends, FailConsumer, LinkAct, Polls, Reads, Revive, Shown, StopAll, TakeFlow, ticket_of, ToLink}
+use Rattle.pulsar_laws.proofs.ActWords.{Act, Arrival, Ask, Comes, Does, Ends, FailConsumer, LinkAct, Polls, Reads, Revive, Shown, StopAll, TakeFlow, ticket_of, ToLink, OfConsumer}
 use Rattle.pulsar_laws.proofs.RunWords.{arranged, Begins, Each, each_append, each_either, each_map, EndsOnce, Entry, IsRun, Options, rules, Then, turned, view, View}
 use Rattle.pulsar_laws.proofs.LinkWords.{answer_at, arrival_at, closed_consumer, closing, Fault, is_asked, is_body, Reply, Seat, url_at, Words}
 use Rattle.pulsar_run.specs.Order.{InOrder, NoneBelow}
@@ -239,10 +239,10 @@ does_mute v t m (Comes (ToLink l Reads)) h = arrival_mute l (arrival_at (v.links
 does_mute v t m (Comes (ToLink l (Ends end))) h = loss_mute l (closing end v.now (v.links.live l))
 does_mute v t m (Does who (Ask l request)) h =
     each_either IsMute (is_asked (answer_at v.now request (v.links.live l)) && is_closed_by (closed_consumer request) l m) (Over Closed ∷ []) [] (tt, tt) tt
-does_mute v t m (Does who TakeFlow) h = each_either IsMute (t == ticket_of who) (Asks ∷ []) [] (tt, tt) tt
-does_mute v t m (Does who (Revive l)) h =
+does_mute v t m (Does who (OfConsumer TakeFlow)) h = each_either IsMute (t == ticket_of who) (Asks ∷ []) [] (tt, tt) tt
+does_mute v t m (Does who (OfConsumer (Revive l))) h =
     each_either IsMute (t == ticket_of who) (subscription_does l (url_at (v.links.live l))) [] (subscription_mute l (url_at (v.links.live l))) tt
-does_mute v t m (Does who (FailConsumer f)) h = each_either IsMute (t == ticket_of who) (Fails f ∷ []) [] (tt, tt) tt
+does_mute v t m (Does who (OfConsumer (FailConsumer f))) h = each_either IsMute (t == ticket_of who) (Fails f ∷ []) [] (tt, tt) tt
 does_mute v t m (Does who StopAll) h = (tt, tt)
 does_mute v t m a h = tt
 

@@ -5,7 +5,7 @@ use Rattle.std.proofs.lemmas.Bool.Decides.{nat_tests}
 use Rattle.std.proofs.lemmas.List.Sums.{sum_by-cons}
 use Rattle.std.specs.List.{list_any}
 use Rattle.std.specs.Option.{is_some, option_map}
-use Rattle.pulsar_laws.proofs.ActWords.{Act, Ask, Consumer, Does, numbers_from, Revive, ticket_of, Who}
+use Rattle.pulsar_laws.proofs.ActWords.{Act, Ask, Consumer, Does, numbers_from, Revive, ticket_of, Who, OfConsumer}
 use Rattle.pulsar_laws.proofs.RunWords.{Begins, Each, each_map, EndsOnce, Entry, IsRun, Options, Then, view, View}
 use Rattle.pulsar_laws.proofs.LinkWords.{answer_at, is_numbered, place_of, Seat, seat_asked}
 use Rattle.pulsar_frame.specs.Frame.{front}
@@ -167,7 +167,7 @@ module _ (once : EndsOnce) (o : Options) (log : List Entry) (t : ℕ) (was : Flo
     | inr d ↦
         ap (λ b. cond b (record { place = place_of (answer_at v.now (words.SendFlow m p) (v.links.live l)); permits = p } ∷ fs) fs) d ∙ was.none e
   ]
-  fresh_none (Does who (Revive l)) run e = by (t == ticket_of who && is_some (v.links.live l))
+  fresh_none (Does who (OfConsumer (Revive l))) run e = by (t == ticket_of who && is_some (v.links.live l))
     where
       by : (b : Bool) → cond b [] fs ≡ []
       by true = refl
@@ -217,11 +217,11 @@ module _ (once : EndsOnce) (o : Options) (log : List Entry) (t : ℕ) (was : Flo
           (subst (λ b. IsAt (AreBelow (record { place = place_of (answer_at v.now (words.SendFlow m' p) (Some seat)); permits = p } ∷ fs))
           (cond b (Some (seat_asked (Consumer n u) v.now (words.SendFlow m' p) seat)) (Some seat))) (sym (eq-eqb l l refl))
           (asked_below v.now m' p (Consumer n u) seat fs r answer old))
-  kept_below (Does who (Revive l)) run m k e on = by (t == ticket_of who && is_some (v.links.live l))
+  kept_below (Does who (OfConsumer (Revive l))) run m k e on = by (t == ticket_of who && is_some (v.links.live l))
     where
-      by : (b : Bool) → IsAt (AreBelow (cond b [] fs)) ((view o (Then (Does who (Revive l)) ∷ log)).links.live k)
-      by true = none_at ((view o (Then (Does who (Revive l)) ∷ log)).links.live k)
-      by false = same_below (Does who (Revive l)) run m k e on
+      by : (b : Bool) → IsAt (AreBelow (cond b [] fs)) ((view o (Then (Does who (OfConsumer (Revive l))) ∷ log)).links.live k)
+      by true = none_at ((view o (Then (Does who (OfConsumer (Revive l))) ∷ log)).links.live k)
+      by false = same_below (Does who (OfConsumer (Revive l))) run m k e on
   kept_below a run m k e on = same_below a run m k e on
 
   pub fresh_below : (a : Act) → IsRun o (Then a ∷ log) → IsFresh o log a t → flows_after v t a fs ≡ []

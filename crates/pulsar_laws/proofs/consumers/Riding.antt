@@ -2,7 +2,7 @@
 use Rattle.std.proofs.Common.{◌≡◌, ◌⊎◌, inl, inr, ◌∙◌, sym, ap, subst, ℕ, ◌+◌, ◌==◌, List, [], ◌∷◌, ◌++◌, refl, Bool, true, false, ◌&&◌, cond, Option, Some, None, eq-eqb, nat_lt}
 use Rattle.std.proofs.lemmas.Bool.{cases_Bool, eqb-true}
 use Rattle.std.specs.Option.{is_some, option_map}
-use Rattle.pulsar_laws.proofs.ActWords.{Act, Answers, Arrival, Ask, Bytes, Call, Comes, Dials, Does, Drains, End, Ends, FailConsumer, Get, Heard, is_same, LinkAct, Makes, Opens, Pings, Polls, Reads, Revive, StopAll, TakeFlow, ticket_of, ToLink, Who}
+use Rattle.pulsar_laws.proofs.ActWords.{Act, Answers, Arrival, Ask, Bytes, Call, Comes, Dials, Does, Drains, End, Ends, FailConsumer, Get, Heard, is_same, LinkAct, Makes, Opens, Pings, Polls, Reads, Revive, StopAll, TakeFlow, ticket_of, ToLink, Who, OfConsumer}
 use Rattle.pulsar_laws.proofs.RunWords.{after, Begins, begun, begun_live, EndsOnce, Entry, is_live, IsRun, link_got, live_begun, member_on, Options, Then, view, View}
 use Rattle.pulsar_laws.proofs.LinkWords.{answer_at, arrival_at, closed_by, closed_consumer, closing, Failure, Fault, got_at, is_asked, is_body, Reply, Seat, seat_asked, seat_fed, seat_got, took_end, took_some, url_at}
 use Rattle.url.specs.Parts.{Parts}
@@ -351,7 +351,7 @@ module _ (o : Options) (log : List Entry) (t : ℕ) where
 
   -- but where it is subscribed again it is on no other link than before
   abbrev Revives : Act → Type 0
-  Revives a = (who : Who) × (l : ℕ) × (a ≡ Does who (Revive l)) × ((t == ticket_of who && is_some ((view o log).links.live l)) ≡ true)
+  Revives a = (who : Who) × (l : ℕ) × (a ≡ Does who (OfConsumer (Revive l))) × ((t == ticket_of who && is_some ((view o log).links.live l)) ≡ true)
 
   tame_by : (a : Act) (m : Member) → Tame (does_to (view o log) t m a) m.seen ⊎ Revives a
   tame_by (Comes (ToLink l Reads)) m = inl (tame_arrival l (arrival_at ((view o log).links.live l)) m.seen)
@@ -363,28 +363,28 @@ module _ (o : Options) (log : List Entry) (t : ℕ) where
       (tame_either (is_asked (answer_at (view o log).now request ((view o log).links.live l)) && is_closed_by (closed_consumer request) l m)
       (Over Closed ∷ []) []
       m.seen (tame_over Closed m.seen) (tame_none m.seen))
-  tame_by (Does who TakeFlow) m = inl (tame_either (t == ticket_of who) (Asks ∷ []) [] m.seen (tame_asks m.seen) (tame_none m.seen))
-  tame_by (Does who (Revive l)) m = elim (cases_Bool (t == ticket_of who)) [
+  tame_by (Does who (OfConsumer TakeFlow)) m = inl (tame_either (t == ticket_of who) (Asks ∷ []) [] m.seen (tame_asks m.seen) (tame_none m.seen))
+  tame_by (Does who (OfConsumer (Revive l))) m = elim (cases_Bool (t == ticket_of who)) [
     | inl e ↦ on_row ((view o log).links.live l) refl e
     | inr e ↦
         inl (subst (λ b. Tame (cond b (subscription_does l (url_at ((view o log).links.live l))) []) m.seen) (sym e) (tame_none m.seen))
   ]
     where
       on_row : (row : Option Seat) → (view o log).links.live l ≡ row → (t == ticket_of who) ≡ true →
-          Tame (cond (t == ticket_of who) (subscription_does l (url_at ((view o log).links.live l))) []) m.seen ⊎ Revives (Does who (Revive l))
+          Tame (cond (t == ticket_of who) (subscription_does l (url_at ((view o log).links.live l))) []) m.seen ⊎ Revives (Does who (OfConsumer (Revive l)))
       on_row None f e =
           inl (subst (λ r. Tame (cond (t == ticket_of who) (subscription_does l (url_at r)) []) m.seen) (sym f)
           (tame_either (t == ticket_of who) [] [] m.seen (tame_none m.seen) (tame_none m.seen)))
       on_row (Some seat) f e = inr (who, l, refl, (λ i. e i && is_some (f i)))
-  tame_by (Does who (FailConsumer f)) m = inl (tame_either (t == ticket_of who) (Fails f ∷ []) [] m.seen (tame_fails f m.seen) (tame_none m.seen))
+  tame_by (Does who (OfConsumer (FailConsumer f))) m = inl (tame_either (t == ticket_of who) (Fails f ∷ []) [] m.seen (tame_fails f m.seen) (tame_none m.seen))
   tame_by (Does who StopAll) m = inl (tame_over Stopped m.seen)
   tame_by a m = inl (tame_none m.seen)
 
   kept_by : (a : Act) (m n : Member) → IsRun o (Then a ∷ log) → Rides o log m → n.seen ≡ applied (does_to (view o log) t m a) m.seen → Rides o (Then a ∷ log) n
   kept_by (Comes (ToLink l (Ends end))) m n run was is =
       ended_rides o log (Comes (ToLink l (Ends end))) t m n was is l end (closing end (view o log).now ((view o log).links.live l)) refl refl refl
-  kept_by (Does who (Revive l)) m n run was is =
-      again_rides o log (Does who (Revive l)) t m n was is l (revives_ready o log who l run) (λ end k at. absurd cc) (λ k h. by (t == ticket_of who) k h)
+  kept_by (Does who (OfConsumer (Revive l))) m n run was is =
+      again_rides o log (Does who (OfConsumer (Revive l))) t m n was is l (revives_ready o log who l run) (λ end k at. absurd cc) (λ k h. by (t == ticket_of who) k h)
     where
       by : (b : Bool) (k : ℕ) → link_of (applied (cond b (subscription_does l (url_at ((view o log).links.live l))) []) m.seen) ≡ Some k →
           (link_of m.seen ≡ Some k) ⊎ ((k ≡ l) × IsLive (view o log) l)
@@ -392,7 +392,7 @@ module _ (o : Options) (log : List Entry) (t : ℕ) where
       by false k h = inl h
   kept_by a m n run was is = elim (tame_by a m) [
     | inl tame ↦ tame_rides o log a t m n was is tame (λ k end at. absurd cc)
-    | inr k ↦ absurd (let e : a ≡ Does k.0 (Revive k.1) = k.2 in cc)
+    | inr k ↦ absurd (let e : a ≡ Does k.0 (OfConsumer (Revive k.1)) = k.2 in cc)
   ]
 
   row_rides : (a : Act) → IsRun o (Then a ∷ log) → RidesAt o log t → RowFrom o log a t → RidesAt o (Then a ∷ log) t
@@ -406,7 +406,7 @@ module _ (o : Options) (log : List Entry) (t : ℕ) where
 abbrev pub IsFresh : Options → List Entry → Act → (ticket : ℕ) → Type 0
 IsFresh o log a t =
     ((view o log).consumers.rows t ≡ None) ⊎
-    ((who : Who) × (l : ℕ) × (a ≡ Does who (Revive l)) × ((t == ticket_of who && is_some ((view o log).links.live l)) ≡ true))
+    ((who : Who) × (l : ℕ) × (a ≡ Does who (OfConsumer (Revive l))) × ((t == ticket_of who && is_some ((view o log).links.live l)) ≡ true))
 
 abbrev pub LinkFrom : Options → List Entry → Act → (ticket link : ℕ) → Type 0
 LinkFrom o log a t k = ((m : Member) × ((view o log).consumers.rows t ≡ Some m) × (link_of m.seen ≡ Some k)) ⊎ IsFresh o log a t

@@ -18,7 +18,7 @@ use Rattle.pulsar_laws.proofs.consumers.Due.{applied_number}
 use Rattle.pulsar_laws.proofs.consumers.Ended.{does_end}
 use Rattle.pulsar_laws.proofs.consumers.Flows.{led_by}
 use Rattle.pulsar_laws.proofs.consumers.Lone.{IsKept, IsMade, IsNone, RowFrom, begun_rows, consumers_alone_lem, joins_here, row_from}
-use Rattle.pulsar_laws.proofs.consumers.Members.{left_rows, subscribed_number}
+use Rattle.pulsar_laws.proofs.consumers.Members.{made_at, subscribed_number}
 use Rattle.pulsar_laws.proofs.consumers.Rested.{begins_made, IsMadeBy}
 use Rattle.pulsar_laws.specs.ConsumerLaws.{does_to, done_to, ends_by}
 
@@ -46,7 +46,7 @@ module _ (once : EndsOnce) (o : Options) where
       let v : View = view o k.older in
       let it : Member = member_on v.links.live k.joining.link (setup_of k.joining) in
       let rows : (view o (Then (Answers (Call t) k.verdict) ∷ k.older)).consumers.rows t ≡ Some it =
-      ap (λ f. f t) (left_rows (Call t) (consumers_made v.links.live (Call t) k.verdict.makes v.consumers))
+      made_at v (Call t) k.verdict t
       ∙ ap (λ x. (consumers_made v.links.live (Call t) x v.consumers).rows t) k.made
       ∙ joins_here (Call t) it v.consumers t (same_self (Call t)) in (
         it,

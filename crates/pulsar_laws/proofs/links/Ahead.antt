@@ -3,7 +3,7 @@ use Rattle.std.proofs.Common.{◌≡◌, ◌∙◌, sym, ap, ℕ, ◌-◌, ◌^�
 use Rattle.std.proofs.lemmas.Bool.Decides.{nat_tests}
 use Rattle.std.specs.List.{filter_map, flat_map}
 use Rattle.std.specs.Option.{option_map, option_to_list}
-use Rattle.pulsar_laws.proofs.ActWords.{Act, Action, Alarm, Answers, Ask, Asked, Call, Calls, CheckIdle, Comes, Dials, Does, Drains, Draw, End, Ends, Get, KeepAlive, LinkAct, Makes, Notice, OfTopic, Opens, Overdue, Part, Pings, Reads, CallRefusal, Revive, Rings, Shown, Starts, StopAll, ToLink, Who, lacks_tickets, numbers_from, opens, shares, ticket_of}
+use Rattle.pulsar_laws.proofs.ActWords.{Act, Action, Alarm, Answers, Ask, Asked, Call, Calls, CheckIdle, Comes, Dials, Does, Drains, Draw, End, Ends, Get, KeepAlive, LinkAct, Makes, Notice, OfTopic, Opens, Overdue, Part, Pings, Reads, CallRefusal, Revive, Rings, Shown, Starts, StopAll, ToLink, Who, lacks_tickets, numbers_from, opens, shares, ticket_of, OfConsumer}
 use Rattle.pulsar_laws.proofs.PlanWords.{fails}
 use Rattle.pulsar_laws.proofs.RunWords.{after, at_once, causes, dialed, further, joins, link_got, parts_of, procedure_for, room_of, setup_of, shares_unless, Turned, turned, turned_by, View, why_no_sends}
 use Rattle.pulsar_laws.proofs.LinkWords.{address_key, answer_at, arrival_at, closed_by, closed_consumer, closing, ConnectionError, Exhausted, Fault, got_at, is_asked, is_numbered, over_links, place_of, rings, Seat, seat_asked, seat_got, SendPing, stop_act, tells_asker, told_at, took, took_end, took_some, url_at, Words}
@@ -31,14 +31,14 @@ use Rattle.pulsar_links.specs.LinkRules.{answered_by, dropped, ended_by, lost_wi
 use Rattle.pulsar_links.specs.Seats.{asker_at, askers_left, got_since, ping_left, room_at, seat_read}
 use Rattle.pulsar_producer_table.specs.Asks.{draw_outcome, drawn_by}
 use Rattle.pulsar_producer_table.specs.Producers.{link_at, topic_after}
-use Rattle.pulsar_run.specs.Things.{row_by}
+use Rattle.pulsar_run.specs.Things.{row_after, row_by}
 use Rattle.pulsar_acts.specs.Effects.{effects, retries_on}
 use Rattle.pulsar_acts.specs.Reading.{made_due, tells}
 use Rattle.pulsar_acts.specs.Rules.{breaks_at, failed_on, idle_act, keeps_alive, reads_on, served_on, waiters_of}
-use Rattle.pulsar_acts.specs.View.{addresses_after, alarms_after, alarms_on, base_on, calls_after, consumers_after, consumers_left, consumers_made, joins_as, live_after, pause_for, pause_on, producers_after, room_on, stand_after, started_after}
+use Rattle.pulsar_acts.specs.View.{addresses_after, alarms_after, alarms_on, base_on, calls_after, consumers_after, consumers_left, joins_some, live_after, member_made, member_of, pause_for, pause_on, producers_after, room_on, stand_after, started_after}
 use Rattle.pulsar_consumer.specs.Topic.{of_raw}
 use Rattle.pulsar_consumer_table.specs.Consumers as consumer
-use Rattle.pulsar_consumer_table.specs.Consumers.{over_rows}
+use Rattle.pulsar_consumer_table.specs.Consumers.{Revived, member_by, over_rows}
 use Rattle.pulsar_consumer_table.specs.Notices.{due_to, heard_at, lost_at, revived_at, word_to}
 
 -- an act that reads a link
@@ -339,9 +339,9 @@ module _ (l : ℕ) (bytes : List ℕ) (v : View) where
       }) k
   does_ruled who (OfTopic n Draw) =
       λ i. record { once = tells who (draw_outcome (room_same n i) (v.producers.topics n)); joined = []; caused = []; more = []; shown = [] }
-  does_ruled who (Revive k) =
+  does_ruled who (OfConsumer (Revive k)) =
       λ i. record {
-        once = at_once v (Does who (Revive k));
+        once = at_once v (Does who (OfConsumer (Revive k)));
         joined = revived_at k (url_same k i) (ticket_of who) (v.consumers.rows (ticket_of who));
         caused = [];
         more = [];
@@ -481,10 +481,10 @@ module _ (l : ℕ) (bytes : List ℕ) (v : View) where
       (λ seat. ap (λ c. consumer.all_changed (consumer.loses_by k c) v.consumers) (closed_same bytes end v.now seat.seen)) k
   heard_same k x h = refl
 
-  made_so : (who : Who) (m : Makes) → consumers_made there.links.live who m v.consumers ≡ consumers_made v.links.live who m v.consumers
-  made_so who (makes.Consumer j) = ap (λ url. joins_as who (consumer.member_of (setup_of j) j.link url) v.consumers) (url_same l bytes v j.link)
-  made_so who (makes.RawConsumer k made) = ap (λ url. joins_as who (consumer.member_of (of_raw made) k url) v.consumers) (url_same l bytes v k)
-  made_so who m = refl
+  made_so : (m : Makes) → member_made there.links.live m ≡ member_made v.links.live m
+  made_so (makes.Consumer j) = ap (λ url. Some (consumer.member_of (setup_of j) j.link url)) (url_same l bytes v j.link)
+  made_so (makes.RawConsumer k made) = ap (λ url. Some (consumer.member_of (of_raw made) k url)) (url_same l bytes v k)
+  made_so m = refl
 
   not_both : (k : ℕ) (x : LinkAct) → apart l bytes v k x ≡ true → (k == l) ≡ true → is_read x ≡ false
   not_both k x h e = by (is_read x) (k == l) h e
@@ -513,11 +513,16 @@ module _ (l : ℕ) (bytes : List ℕ) (v : View) where
   after_same (Does who (OfTopic n Draw)) h =
       after_by l bytes bytes v (Does who (OfTopic n Draw)) (λ k. refl) refl refl refl
       (λ i. record v.producers { topics = λ m. row_by topic_after (cond (m == n) (drawn_by (room_same l bytes v n i)) []) (v.producers.topics m) })
-  after_same (Does who (Revive k)) h =
-      after_by l bytes bytes v (Does who (Revive k)) (λ j. refl) refl refl
-      (ap (λ url. consumer.changed (ticket_of who) (consumer.revived k url) v.consumers) (url_same l bytes v k)) refl
+  after_same (Does who (OfConsumer (Revive k))) h =
+      after_by l bytes bytes v (Does who (OfConsumer (Revive k))) (λ j. refl) refl refl
+      (ap
+      (λ url. record v.consumers { rows = λ t. row_by member_by (cond (t == ticket_of who) (Revived k url ∷ []) []) (v.consumers.rows t) })
+      (url_same l bytes v k)) refl
   after_same (Answers who verdict) h =
-      after_by l bytes bytes v (Answers who verdict) (λ k. refl) refl refl (ap (consumers_left who) (made_so who verdict.makes)) refl
+      after_by l bytes bytes v (Answers who verdict) (λ k. refl) refl refl
+      (ap
+      (λ m. record (consumers_left who (joins_some who m v.consumers)) { rows = λ t. row_after member_by (member_of m who t) false [] (v.consumers.rows t) })
+      (made_so verdict.makes)) refl
   after_same (Dials p starter retries) h =
       after_by l bytes bytes v (Dials p starter retries)
       (λ j. row_dialed held' (Some (dialed v.chosen v.links.started v.now p)) (j == v.links.started) (j == l) (v.links.live j)

@@ -1,7 +1,7 @@
 -- A subscription is made on a link that takes what is asked there: one step of a plan.
 use Rattle.std.proofs.Common.{◌≡◌, ◌⊎◌, inl, inr, ◌∙◌, sym, ap, ℕ, List, refl, Bool, true, false, cond, Option, Some, None, Result, Ok, Err}
 use Rattle.std.specs.Prelude.{not}
-use Rattle.pulsar_laws.proofs.ActWords.{Action, Ask, Makes, Outcome, Procedure, Rest, Revive, TakeFlow, Verdict, Word}
+use Rattle.pulsar_laws.proofs.ActWords.{Action, Ask, Makes, Outcome, Procedure, Rest, Revive, TakeFlow, Verdict, Word, OfConsumer}
 use Rattle.pulsar_laws.proofs.PlanWords.{action_of, Asking, Awaiting, begins, Command, Deed, Gives, is_answer, Looking, Making, Naming, Heard as News, news_in, overrides, Plan, SearchTurn, Served, Serving, Stays, Subscribing, told, Turn, Ways, Wish}
 use Rattle.pulsar_laws.proofs.LinkWords.{Failure, Fault, Named, Place, Words}
 use Rattle.pulsar_frame.specs.Reply.{Reply as Content}
@@ -99,8 +99,8 @@ is_reply (outcome.Replied r) = true
 is_reply _ = false
 
 abbrev pub ActSo : Plan → Outcome → Action → Type 0
-ActSo p u (Revive l) = From p u l × (is_reply u ≡ true) × (is_server p ≡ true)
-ActSo p u TakeFlow = is_server p ≡ true
+ActSo p u (OfConsumer (Revive l)) = From p u l × (is_reply u ≡ true) × (is_server p ≡ true)
+ActSo p u (OfConsumer TakeFlow) = is_server p ≡ true
 ActSo p u _ = Unit {0}
 
 abbrev pub MakesSo : Plan → Outcome → Makes → Type 0
@@ -116,8 +116,8 @@ TurnSo p u (Gives v) = MakesSo p u v.makes
 
 -- what only the plan of a consumer does
 abbrev pub is_inner : Action → Bool
-is_inner (Revive l) = true
-is_inner TakeFlow = true
+is_inner (OfConsumer (Revive l)) = true
+is_inner (OfConsumer TakeFlow) = true
 is_inner _ = false
 
 abbrev pub Plain : Turn Plan Verdict → Type 0
@@ -125,8 +125,8 @@ Plain (Stays q a) = Waits q × (asks_on q ≡ None) × (is_inner a ≡ false)
 Plain (Gives v) = is_consumer v.makes ≡ false
 
 plain_act : (p : Plan) (u : Outcome) (a : Action) → is_inner a ≡ false → ActSo p u a
-plain_act p u (Revive l) h = absurd cc
-plain_act p u TakeFlow h = absurd cc
+plain_act p u (OfConsumer (Revive l)) h = absurd cc
+plain_act p u (OfConsumer TakeFlow) h = absurd cc
 plain_act p u _ h = tt
 
 plain_link : (p : Plan) (u : Outcome) (k : Option ℕ) (q : Plan) (a : Action) → k ≡ None → LinkSo p u k q a

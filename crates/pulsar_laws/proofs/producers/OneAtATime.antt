@@ -3,7 +3,7 @@ use Rattle.std.specs.Prelude.{bytes_eq}
 use Rattle.std.proofs.Common.{◌≡◌, ◌⊎◌, inl, inr, ◌∙◌, sym, ap, subst, ℕ, ◌+◌, ◌≤◌, ◌==◌, arith, List, [], ◌∷◌, ◌++◌, refl, Bool, true, false, ◌&&◌, cond, Option, Some, None, Result, Ok, Err}
 use Rattle.std.proofs.lemmas.Bool.{cases_Bool, eqb-true}
 use Rattle.std.specs.Option.{option_map}
-use Rattle.pulsar_laws.proofs.ActWords.{Act, Action, Alarm, Answers, Ask, Comes, Dials, Does, FindConsumer, Get, is_same, Notice, OfTopic, Outcome, Part, PassTurn, Procedure, Producer, Rest, Starts, StopAll, TakeBatch, Told, Verdict, Wait, Who}
+use Rattle.pulsar_laws.proofs.ActWords.{Act, Action, Alarm, Answers, Ask, Comes, Dials, Does, FindConsumer, Get, is_same, Notice, OfTopic, Outcome, Part, PassTurn, Procedure, Producer, Rest, Starts, StopAll, TakeBatch, Told, Verdict, Wait, Who, OfConsumer}
 use Rattle.pulsar_laws.proofs.PlanWords.{Batching, begins, Gives, Plan, Stays, told, Turn}
 use Rattle.pulsar_laws.proofs.RunWords.{agenda, at_once, Begins, begun_same, does, Each, each_append, each_map, Entry, first_of, follows, follows_some, IsRun, link_got, notice, Options, performs, rest, rest_of, rules, stays, stays_some, Then, told_some, view, View}
 use Rattle.pulsar_laws.proofs.LinkWords.{answer_at, Base, Nobody, Pauses, place_of, Place, Runs, Seat, seat_asked, Series, Serves, Words}
@@ -774,7 +774,7 @@ module _ (n : ℕ) where
       clear_on (Get p) run stop clear = get_on p run clear
       clear_on (Ask l request) run stop clear = ask_on l request run clear
       clear_on (Wait delay) run stop clear = wait_on delay run clear
-      clear_on (FindConsumer t) run stop clear = let d = batcher_does o log n (FindConsumer t) run in absurd (no_find d.0 t d.1)
+      clear_on (OfConsumer (FindConsumer t)) run stop clear = let d = batcher_does o log n (OfConsumer (FindConsumer t)) run in absurd (no_find d.0 t d.1)
       clear_on StopAll run stop clear = absurd cc
       clear_on (OfTopic m TakeBatch) run stop clear = take_on m run clear
       clear_on (OfTopic m ask) run stop clear = plain_on (OfTopic m ask) run stop clear (λ w h. absurd cc) refl

@@ -45,8 +45,6 @@ use Rattle.pulsar_links.specs.declared.addresses.Pause.{Pause}
 use Rattle.pulsar_links.specs.declared.addresses.Series.{Series}
 use Rattle.pulsar_links.specs.declared.addresses.Series.TheVariants.{Nobody, Runs, Pauses, Serves}
 use Rattle.pulsar_plans.specs.declared.plan.Plan.{Plan}
-use Rattle.pulsar_plans.specs.declared.plan.Turn.{Turn}
-use Rattle.pulsar_plans.specs.declared.plan.Turn.TheVariants.{Stays, Gives}
 use Rattle.pulsar_exchange.specs.Request.{named_consumer, named_producer}
 use Rattle.pulsar_messages.specs.Content.{ProducerMessageValues}
 use Rattle.pulsar_producer.specs.Routing.{Policy}
@@ -84,6 +82,8 @@ use Rattle.pulsar_acts.specs.Reading.{acknowledges, closed_at, heard_on, leaves,
 use Rattle.pulsar_consumer_table.specs.Consumers.{Consumers, is_heard, over_rows}
 use Rattle.pulsar_calls.specs.Order.{opens, alone}
 use Rattle.pulsar_links.specs.LinkRules.{over_links, due_part, told_at, stop_act, may_ping, answered_on, served_by, ended_on, failed_over, moved_on, stopped_at}
+use Rattle.pulsar_searches.specs.declared.transition.Transition.TheVariants.{Stays, Gives}
+use Rattle.pulsar_plans.specs.Transitions.{PlanTransition}
 
 -- a call, for which the policies were asked
 abbrev pub call_part : List Policy → View → Asking → Part
@@ -111,11 +111,11 @@ does who Rest = []
 does who action = Does who action ∷ []
 
 -- a plan does what is next, or ends
-abbrev pub follows : Who → Turn Plan Verdict → List Act
+abbrev pub follows : Who → PlanTransition → List Act
 follows who (Stays plan action) = does who action
 follows who (Gives verdict) = Answers who verdict ∷ []
 
-abbrev pub follows_some : Who → Option (Turn Plan Verdict) → List Act
+abbrev pub follows_some : Who → Option (PlanTransition) → List Act
 follows_some who None = []
 follows_some who (Some turn) = follows who turn
 

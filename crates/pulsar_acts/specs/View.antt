@@ -35,8 +35,6 @@ use Rattle.pulsar_links.specs.declared.addresses.Pause.{Pause}
 use Rattle.pulsar_links.specs.declared.addresses.Series.{Series}
 use Rattle.pulsar_links.specs.declared.addresses.Series.TheVariants.{Nobody, Runs, Pauses, Serves}
 use Rattle.pulsar_plans.specs.declared.plan.Plan.{Plan}
-use Rattle.pulsar_plans.specs.declared.plan.Turn.{Turn}
-use Rattle.pulsar_plans.specs.declared.plan.Turn.TheVariants.{Stays, Gives}
 use Rattle.pulsar_links.specs.Alarms.{clear, rings, set}
 use Rattle.pulsar_calls.specs.Content as content
 use Rattle.pulsar_calls.specs.Content.{Heard, Called, Opened, FailedToOpen, Bytes, Drain, Ticked, Poll, lacks_tickets, shares}
@@ -58,6 +56,8 @@ use Rattle.pulsar_consumer.specs.Topic.{of_raw}
 use Rattle.pulsar_calls.specs.Who.{is_same, rank, ticket_of, turn_of}
 use Rattle.pulsar_links.specs.Seats.{Seat, Links, Base, nobody, Addresses, later, seat_fed, seat_of_fresh, arrival_at, closing, took_some, is_busy, answer_at, is_asked, seat_asked, got_at, may_retry, pause_with, base_turned, base_dialed, is_for, pause_put, url_at, room_at}
 use Rattle.pulsar_machine.specs.Options.{Chosen, Options}
+use Rattle.pulsar_searches.specs.declared.transition.Transition.TheVariants.{Stays, Gives}
+use Rattle.pulsar_plans.specs.Transitions.{PlanTransition}
 
 -- THINGS
 
@@ -146,15 +146,15 @@ begun e v = if is_live v e then begun_live e v else v
 -- PLANS
 
 -- where a plan stands: nowhere, before it starts and when it has given its verdict
-abbrev pub stays : Turn Plan Verdict → Option Plan
+abbrev pub stays : PlanTransition → Option Plan
 stays (Stays plan action) = Some plan
 stays (Gives verdict) = None
 
-abbrev pub told_some : Option Plan → Outcome → Option (Turn Plan Verdict)
+abbrev pub told_some : Option Plan → Outcome → Option (PlanTransition)
 told_some None o = None
 told_some (Some plan) o = Some (told plan o)
 
-abbrev pub stays_some : Option (Turn Plan Verdict) → Option Plan
+abbrev pub stays_some : Option (PlanTransition) → Option Plan
 stays_some None = None
 stays_some (Some turn) = stays turn
 

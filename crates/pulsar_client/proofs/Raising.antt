@@ -26,8 +26,6 @@ use Rattle.pulsar_links.specs.declared.addresses.Pause.{Pause}
 use Rattle.pulsar_links.specs.declared.addresses.Series.{Series}
 use Rattle.pulsar_links.specs.declared.addresses.Series.TheVariants.{Nobody, Runs, Pauses, Serves}
 use Rattle.pulsar_plans.specs.declared.plan.Plan.{Plan}
-use Rattle.pulsar_plans.specs.declared.plan.Turn.{Turn}
-use Rattle.pulsar_plans.specs.declared.plan.Turn.TheVariants.{Stays, Gives}
 use Rattle.pulsar_links.specs.Alarms.{rings}
 use Rattle.pulsar_acts.specs.Reading.{serves_by, tells}
 use Rattle.pulsar_calls.specs.Content.{Asked, shares}
@@ -39,6 +37,8 @@ use Rattle.pulsar_links.specs.Seats.{Seat, arrival_at}
 use Rattle.pulsar_calls.specs.declared.act.Outcome.TheVariants as outcome
 use Rattle.pulsar_client.proofs.Acts.{Each, StartsIn, called_each, each_append, each_either, over_each}
 use Rattle.pulsar_calls.specs.declared.act.Outcome.{Outcome}
+use Rattle.pulsar_searches.specs.declared.transition.Transition.TheVariants.{Stays, Gives}
+use Rattle.pulsar_plans.specs.Transitions.{PlanTransition}
 
 -- the plan of a call begins, that of a topic producer's batches, or that of a consumer; one does something, or ends; one is told something; an attempt begins; a link ends by what came on it, for want of use or
 -- with the client, or is pinged; and what never arises at once
@@ -109,11 +109,11 @@ does_raised : (a : Act) (who : Who) (action : Action) → may OfDeed a ≡ true 
 does_raised a who Rest d = tt
 does_raised a who _ d = (d, tt)
 
-follows_raised : (a : Act) (who : Who) (turn : Turn Plan Verdict) → may OfDeed a ≡ true → may OfVerdict a ≡ true → Each (IsRaised a) (follows who turn)
+follows_raised : (a : Act) (who : Who) (turn : PlanTransition) → may OfDeed a ≡ true → may OfVerdict a ≡ true → Each (IsRaised a) (follows who turn)
 follows_raised a who (Stays plan action) d e = does_raised a who action d
 follows_raised a who (Gives verdict) d e = (e, tt)
 
-some_raised : (a : Act) (who : Who) (turn : Option (Turn Plan Verdict)) → may OfDeed a ≡ true → may OfVerdict a ≡ true →
+some_raised : (a : Act) (who : Who) (turn : Option (PlanTransition)) → may OfDeed a ≡ true → may OfVerdict a ≡ true →
     Each (IsRaised a) (follows_some who turn)
 some_raised a who None d e = tt
 some_raised a who (Some turn) d e = follows_raised a who turn d e

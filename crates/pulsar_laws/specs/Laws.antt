@@ -58,7 +58,6 @@ use Rattle.pulsar_calls.specs.declared.act.Word.TheVariants as word
 use Rattle.pulsar_calls.specs.declared.content.Joining.{Joining}
 use Rattle.pulsar_links.specs.declared.addresses.Series.TheVariants.{Runs}
 use Rattle.pulsar_plans.specs.declared.plan.Plan.{Plan}
-use Rattle.pulsar_plans.specs.declared.plan.Turn.{Turn}
 use Rattle.pulsar_calls.specs.Content.{Asked, Bytes, Ticked, Said, Shown, Queued, Write, Failed, lacks_tickets, shares}
 use Rattle.pulsar_calls.specs.Order.{effect_below, is_before3}
 use Rattle.pulsar_links.specs.Links.{arrival, call_of, closed_by, line_places, new_places}
@@ -88,9 +87,10 @@ use Rattle.pulsar_session.specs.Link as session
 use Rattle.pulsar_outgoing.specs.declared.news.News.TheVariants as news
 use Rattle.pulsar_calls.specs.declared.act.Outcome.TheVariants as outcome
 use Rattle.pulsar_calls.specs.declared.act.Procedure.TheVariants as procedure
-use Rattle.pulsar_plans.specs.declared.plan.Turn.TheVariants as turn
 use Rattle.pulsar_links.specs.Links as links
 use Rattle.pulsar_searches.specs.declared.replies.Heard.TheVariants.{Says as CountIs}
+use Rattle.pulsar_searches.specs.declared.transition.Transition.TheVariants as transition
+use Rattle.pulsar_plans.specs.Transitions.{PlanTransition}
 
 -- THE RUN
 
@@ -162,10 +162,10 @@ abbrev pub acted : Action → List Deed
 acted Rest = []
 acted action = Acted action ∷ []
 
-abbrev pub course : Turn Plan Verdict → List Outcome → List Deed
-course (turn.Gives verdict) os = Answered verdict ∷ []
-course (turn.Stays plan action) [] = acted action
-course (turn.Stays plan action) (o ∷ os) = acted action ++ course (told plan o) os
+abbrev pub course : PlanTransition → List Outcome → List Deed
+course (transition.Gives verdict) os = Answered verdict ∷ []
+course (transition.Stays plan action) [] = acted action
+course (transition.Stays plan action) (o ∷ os) = acted action ++ course (told plan o) os
 
 -- Wherever nothing is left to do, that is at the end of each step, each of those who have plans has done what its plan gives along
 -- its outcomes: each action, and the verdict, in the step of its outcome, none more and none less.
@@ -179,9 +179,9 @@ act_of w (Acted action) = Does w action
 act_of w (Answered verdict) = Answers w verdict
 
 -- a plan comes to where this is done, or gives this verdict
-abbrev pub Leads : Deed → Turn Plan Verdict → Type 0
-Leads (Acted action) t = (plan : Plan) × (t ≡ turn.Stays plan action)
-Leads (Answered verdict) t = t ≡ turn.Gives verdict
+abbrev pub Leads : Deed → PlanTransition → Type 0
+Leads (Acted action) t = (plan : Plan) × (t ≡ transition.Stays plan action)
+Leads (Answered verdict) t = t ≡ transition.Gives verdict
 
 -- a plan starts so; it is told an outcome that leads there; or a call comes for which no ticket is left, and ends with no plan
 abbrev pub StartsSo : Who → Deed → Entry → Type 0
@@ -211,7 +211,7 @@ verdicts_in (Acted action ∷ ds) = verdicts_in ds
 verdicts_in (Answered verdict ∷ ds) = verdicts_in ds + 1
 
 abbrev pub AnswersOnce : Type 0
-AnswersOnce = (turn : Turn Plan Verdict) (os : List Outcome) → verdicts_in (course turn os) ≤ 1
+AnswersOnce = (turn : PlanTransition) (os : List Outcome) → verdicts_in (course turn os) ≤ 1
 
 -- how often a call began, and how often it ended
 abbrev pub start_of : ℕ → Act → ℕ

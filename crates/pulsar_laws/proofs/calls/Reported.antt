@@ -7,7 +7,7 @@ use Rattle.std.specs.Map.{lookup}
 use Rattle.std.specs.Option.{is_some}
 use Rattle.std.specs.Ordering.{nat_cmp}
 use Rattle.pulsar_laws.proofs.ActWords.{Act, Action, Answers, Call, Consumer, Does, is_same, Notice, numbers_from, OfTopic, Outcome, Procedure, Producer, Share, Starts, Store, Tell, TellAll, Told, Verdict, Who}
-use Rattle.pulsar_laws.proofs.PlanWords.{action_of, Batching, begins, Deed, Errand, Gives, Leaving, News, news_of, Plan, Producing, Reporting, Sending as Send, Stays, Stored, Storing, told, Turn, verdict, Ways}
+use Rattle.pulsar_laws.proofs.PlanWords.{action_of, Batching, begins, Deed, Errand, Gives, Leaving, News, news_of, Plan, PlanTransition, Producing, Reporting, Sending as Send, Stays, Stored, Storing, told, verdict, Ways}
 use Rattle.pulsar_laws.proofs.RunWords.{agenda, Answered, Begins, begun_same, Cause, counted, Entry, first, first_of, follows_some, In, IsRun, notice, Options, rest, rules, start_of, started, stays, stays_some, Then, told_some, view, View}
 use Rattle.pulsar_laws.proofs.LinkWords.{Failure}
 use Rattle.pulsar_wire.specs.Failures.{OfPartialSend, Sent}
@@ -152,7 +152,7 @@ arc_before part_stores h = absurd cc
 arc_before stored_rests h = absurd cc
 arc_before _ h = refl
 
-abbrev stays_before : Turn Plan Verdict → Bool
+abbrev stays_before : PlanTransition → Bool
 stays_before (Stays q a) = is_before q
 stays_before (Gives v) = false
 

@@ -3,7 +3,7 @@ use Rattle.std.proofs.Common.{◌≡◌, ◌∙◌, sym, ap, subst, ℕ, ◌+◌
 use Rattle.std.proofs.lemmas.Bool.{and_parts, cases_Bool, eqb-true}
 use Rattle.std.proofs.lemmas.Bool.Decides.{nat_tests}
 use Rattle.pulsar_laws.proofs.ActWords.{Act, Action, Answers, Asked, Call, Calls, Comes, Consumer, Does, Heard, is_same, lacks_tickets, Makes, Outcome, Part, Producer, Rest, shares, Starts, Told, Verdict, Who}
-use Rattle.pulsar_laws.proofs.PlanWords.{begins, Gives, Plan, Stays, told, Turn}
+use Rattle.pulsar_laws.proofs.PlanWords.{begins, Gives, Plan, PlanTransition, Stays, told}
 use Rattle.pulsar_laws.proofs.RunWords.{agenda, at_once, Begins, begun_same, called, consumers_after, does, Each, each_append, each_first, each_map, each_rest, Entry, first, follows, follows_some, is_served, IsRun, Options, performs, rest, StartsIn, stays_some, Then, told_some, view, View}
 use Rattle.pulsar_messages.specs.Claims.{is_spent}
 use Rattle.pulsar_calls.specs.declared.act.Makes.TheVariants as makes
@@ -104,7 +104,7 @@ makes_so n who (makes.Consumer made) k = k
 makes_so n who (makes.RawConsumer l made) k = k
 makes_so n who _ k = tt
 
-follows_due : (n : ℕ) (who : Who) (turn : Turn Plan Verdict) → Has n who → Each (IsDue n) (follows who turn)
+follows_due : (n : ℕ) (who : Who) (turn : PlanTransition) → Has n who → Each (IsDue n) (follows who turn)
 follows_due n who (Stays plan action) k = does_due n who action
 follows_due n who (Gives verdict) k = (makes_so n who verdict.makes k, tt)
 

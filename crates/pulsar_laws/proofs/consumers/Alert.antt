@@ -4,7 +4,7 @@ use Rattle.std.proofs.lemmas.Bool.{and_parts, cases_Bool, eqb-true}
 use Rattle.std.specs.List.{sum}
 use Rattle.std.specs.Option.{is_some, option_map}
 use Rattle.pulsar_laws.proofs.ActWords.{Act, Action, Answers, Ask, Call, Consumer, Does, is_same, Makes, Outcome, Procedure, Producer, Rest, Revive, Starts, ticket_of, Told, Verdict, Who, Word, OfConsumer}
-use Rattle.pulsar_laws.proofs.PlanWords.{begins, fails, Gives, overrides, Plan, Serving, Stays, Subscribing, told, Turn, Ways}
+use Rattle.pulsar_laws.proofs.PlanWords.{begins, fails, Gives, overrides, Plan, PlanTransition, Serving, Stays, Subscribing, told, Ways}
 use Rattle.pulsar_laws.proofs.RunWords.{agenda, Agenda, Answered, Begins, begun_same, chosen_same, consumers_after, consumers_made, EndsOnce, Entry, first, follows, follows_some, IsRun, left_with, member_on, notice, Options, setup_of, stays, stays_some, Then, told_some, view, View, ways_of}
 use Rattle.pulsar_laws.proofs.LinkWords.{answer_at, Exhausted, told_at, url_at, Words}
 use Rattle.pulsar_exchange.specs.declared.content.Subscribed.{Subscribed}
@@ -60,7 +60,7 @@ is_alert (Serving w n service.Asking) = true
 is_alert (Serving w n (service.Reviving l)) = true
 is_alert _ = false
 
-abbrev stays_alert : Turn Plan Verdict → Bool
+abbrev stays_alert : PlanTransition → Bool
 stays_alert (Stays q a) = is_alert q
 stays_alert (Gives v) = false
 
@@ -245,7 +245,7 @@ module _ (once : EndsOnce) (o : Options) (log : List Entry) (n t : ℕ) where
         IsAlert o (Then (Told (notice who u)) ∷ log) n t
     own_told p u run stood alert = elim (alert_on p u alert) [ inl s ↦ by (told p u) refl s | inr h ↦ absurd (off u run h) ]
       where
-        by : (x : Turn Plan Verdict) → told p u ≡ x → stays_alert x ≡ true → IsAlert o (Then (Told (notice who u)) ∷ log) n t
+        by : (x : PlanTransition) → told p u ≡ x → stays_alert x ≡ true → IsAlert o (Then (Told (notice who u)) ∷ log) n t
         by (Stays q a) leads s = inr (q, stand_told o log who u p q a stood leads, s)
         by (Gives v) leads s = absurd cc
 
@@ -273,7 +273,8 @@ module _ (once : EndsOnce) (o : Options) (log : List Entry) (n t : ℕ) where
 
 module _ (once : EndsOnce) (o : Options) (log : List Entry) (t : ℕ) (was : Alert o t log) where
   -- it is subscribed again
-  again : (w : Who) (j : ℕ) (m : Member) → IsRun o (Then (Does w (OfConsumer (Revive j))) ∷ log) → (t == ticket_of w) ≡ true → (view o log).consumers.rows t ≡ Some m →
+  again : (w : Who) (j : ℕ) (m : Member) → IsRun o (Then (Does w (OfConsumer (Revive j))) ∷ log) → (t == ticket_of w) ≡ true →
+      (view o log).consumers.rows t ≡ Some m →
       IsAlert o (Then (Does w (OfConsumer (Revive j))) ∷ log) m.seen.number t
   again w j m run d is =
       let x = revivers o log w j run in
@@ -281,7 +282,8 @@ module _ (once : EndsOnce) (o : Options) (log : List Entry) (t : ℕ) (was : Ale
       let s : w ≡ Consumer x.0 t = x.2 ∙ ap (Consumer x.0) (sym u) in
       subst (λ y. IsAlert o (Then (Does y (OfConsumer (Revive j))) ∷ log) m.seen.number t) (sym s) (by x.0 (subst (λ y. IsRun o (Then (Does y (OfConsumer (Revive j))) ∷ log)) s run))
     where
-      by : (n : ℕ) → IsRun o (Then (Does (Consumer n t) (OfConsumer (Revive j))) ∷ log) → IsAlert o (Then (Does (Consumer n t) (OfConsumer (Revive j))) ∷ log) m.seen.number t
+      by : (n : ℕ) → IsRun o (Then (Does (Consumer n t) (OfConsumer (Revive j))) ∷ log) →
+          IsAlert o (Then (Does (Consumer n t) (OfConsumer (Revive j))) ∷ log) m.seen.number t
       by n run =
           let k : IsRevived o log (Consumer n t) j = is_revived o log (Consumer n t) j run in
           let stood : (view o log).stand (Consumer n t) ≡ Some k.plan =

@@ -6,7 +6,7 @@ use Rattle.std.specs.Prelude.{pos, ◌/◌, ◌%◌}
 use Rattle.std.specs.Int.{w64, cast_unsigned}
 use Rattle.std.specs.Option.{option_map}
 use Rattle.pulsar_laws.proofs.ActWords.{Act, Action, Ask, Consumer, Does, is_same, Notice, Outcome, Procedure, Starts, TakeFlow, Told, Verdict, Who, OfConsumer}
-use Rattle.pulsar_laws.proofs.PlanWords.{begins, Gives, Plan, Serving, Stays, told, Turn, Ways}
+use Rattle.pulsar_laws.proofs.PlanWords.{begins, Gives, Plan, PlanTransition, Serving, Stays, told, Ways}
 use Rattle.pulsar_laws.proofs.RunWords.{agenda, Begins, begun_same, EndsOnce, Entry, first, follows, follows_some, IsRun, notice, Options, stays, stays_some, Then, told_some, view}
 use Rattle.pulsar_laws.proofs.LinkWords.{answer_at, Seat, Words}
 use Rattle.pulsar_wire.specs.declared.error.ConnectionError.TheVariants as error
@@ -168,14 +168,15 @@ module _ (o : Options) (log : List Entry) (n t : ℕ) (was : TakesAt o log n t) 
   who = Consumer n t
 
   -- another act does not come while it waits
-  not_now : (a : Act) (p : Plan) → first (agenda o log) ≡ Some a → is_flow (said a) ≡ false → (a ≡ Does who (OfConsumer TakeFlow) → ⊥) → (view o log).stand who ≡ Some p →
+  not_now : (a : Act) (p : Plan) → first (agenda o log) ≡ Some a → is_flow (said a) ≡ false → (a ≡ Does who (OfConsumer TakeFlow) → ⊥) →
+      (view o log).stand who ≡ Some p →
       is_taking p ≡ true → ⊥
   not_now a p fits plain other stood h = elim (was p stood h) [
     | inl f ↦ other (some_is (sym fits ∙ f))
     | inr k ↦ (let g : true ≡ false = sym (next_flow o log n t a fits k.0 k.1) ∙ plain in cc)
   ]
 
-  turn_takes : (p : Plan) (u : Outcome) (x : Turn Plan Verdict) (q : Plan) → first (agenda o log) ≡ Some (Told (notice who u)) →
+  turn_takes : (p : Plan) (u : Outcome) (x : PlanTransition) (q : Plan) → first (agenda o log) ≡ Some (Told (notice who u)) →
       (view o log).stand who ≡ Some p →
       told p u ≡ x → StaysSo (TakesSo p u) x → stays x ≡ Some q → is_taking q ≡ true → Takes o (Then (Told (notice who u)) ∷ log) n t
   turn_takes p u (Gives v) q fits stood leads so is h = absurd (none_some is)
@@ -340,8 +341,10 @@ pub is_placed : EndsOnce → (o : Options) (log : List Entry) (n t l m p : ℕ) 
     IsPlaced o log n t l m p
 is_placed once o log n t l m p run = led (led_by o n t log (Ask l (words.SendFlow m p)) run (λ e. absurd cc)).0
   where
-    due_here : (older : List Entry) → log ≡ Then (Told (notice (Consumer n t) (outcome.Word (word.Flow l p)))) ∷ Then (Does (Consumer n t) (OfConsumer TakeFlow)) ∷ older →
-        IsRun o (Then (Told (notice (Consumer n t) (outcome.Word (word.Flow l p)))) ∷ Then (Does (Consumer n t) (OfConsumer TakeFlow)) ∷ older) → IsPlaced o log n t l m p
+    due_here : (older : List Entry) →
+        log ≡ Then (Told (notice (Consumer n t) (outcome.Word (word.Flow l p)))) ∷ Then (Does (Consumer n t) (OfConsumer TakeFlow)) ∷ older →
+        IsRun o (Then (Told (notice (Consumer n t) (outcome.Word (word.Flow l p)))) ∷ Then (Does (Consumer n t) (OfConsumer TakeFlow)) ∷ older) →
+            IsPlaced o log n t l m p
     due_here older is r =
         let e : outcome.Word (flow_said (flow_at ((view o older).consumers.rows t))) ≡ outcome.Word (word.Flow l p) =
         ap said (some_is (sym (told_flow o older n t) ∙ r.1)) in

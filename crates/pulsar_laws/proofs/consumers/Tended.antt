@@ -3,7 +3,7 @@ use Rattle.std.proofs.Common.{◌≡◌, inl, inr, ◌∙◌, sym, ap, subst, �
 use Rattle.std.proofs.lemmas.Bool.{cases_Bool}
 use Rattle.std.specs.Option.{is_some, option_map}
 use Rattle.pulsar_laws.proofs.ActWords.{Act, Action, Answers, Call, Consumer, Does, is_same, Notice, Outcome, Procedure, Revive, Starts, TakeFlow, Told, Verdict, Who, OfConsumer}
-use Rattle.pulsar_laws.proofs.PlanWords.{Gives, Plan, Stays, told, Turn}
+use Rattle.pulsar_laws.proofs.PlanWords.{Gives, Plan, PlanTransition, Stays, told}
 use Rattle.pulsar_laws.proofs.RunWords.{agenda, Agenda, Begins, begun_same, EndsOnce, Entry, first, IsRun, notice, Options, stays, stays_some, Then, told_some, view, View}
 use Rattle.pulsar_laws.proofs.LinkWords.{url_at}
 use Rattle.pulsar_consumer.specs.Topic.{Live, Seen, Asks, asked, behind, first_due, first_in, is_due}
@@ -41,7 +41,8 @@ Tended o log t = (m : Member) (p : Plan) → (view o log).consumers.rows t ≡ S
     (view o log).stand (Consumer m.seen.number t) ≡ Some p → is_resting p ≡ true → Tells o m.seen.number t log
 
 -- what is left is left behind another act
-left_behind : (o : Options) (log : List Entry) (n t : ℕ) (a : Act) → IsRun o (Then a ∷ log) → (due_to_plan n t ≡ a → ⊥) → Tells o n t log → Tells o n t (Then a ∷ log)
+left_behind : (o : Options) (log : List Entry) (n t : ℕ) (a : Act) → IsRun o (Then a ∷ log) → (due_to_plan n t ≡ a → ⊥) → Tells o n t log →
+    Tells o n t (Then a ∷ log)
 left_behind o log n t a run other k =
     let g : Agenda = agenda o log in
     elim (first_done (due_to_plan n t) g.now g.here g.behind g.parts a run.1 k) [
@@ -64,7 +65,8 @@ flow_is_none None h = refl
 flow_is_none (Some f) h = absurd cc
 
 took_none : (o : Options) (older : List Entry) (n t : ℕ) (m : Member) →
-    (view o (Then (Does (Consumer n t) (OfConsumer TakeFlow)) ∷ older)).consumers.rows t ≡ Some m → flow_at ((view o older).consumers.rows t) ≡ None → is_due m.seen ≡ true → ⊥
+    (view o (Then (Does (Consumer n t) (OfConsumer TakeFlow)) ∷ older)).consumers.rows t ≡ Some m →
+        flow_at ((view o older).consumers.rows t) ≡ None → is_due m.seen ≡ true → ⊥
 took_none o older n t m is none h = by ((view o older).consumers.rows t) refl none
   where
     by : (row : Option Member) → (view o older).consumers.rows t ≡ row → flow_at row ≡ None → ⊥
@@ -119,7 +121,8 @@ module _ (once : EndsOnce) (o : Options) (log : List Entry) (t : ℕ) (was : Ten
     told_own u None p run stood h rests = absurd (none_some h)
     told_own u (Some q) p run stood h rests = by (told q u) refl h
       where
-        other : (due_to_plan n.seen.number t ≡ Told (notice who u) → ⊥) → Tells o n.seen.number t log → Tells o n.seen.number t (Then (Told (notice who u)) ∷ log)
+        other : (due_to_plan n.seen.number t ≡ Told (notice who u) → ⊥) → Tells o n.seen.number t log →
+            Tells o n.seen.number t (Then (Told (notice who u)) ∷ log)
         other differs k = left_behind o log n.seen.number t (Told (notice who u)) run differs k
 
         goes : (x : Plan) (action : Action) → told q u ≡ Stays x action → is_resting x ≡ true → Tells o n.seen.number t (Then (Told (notice who u)) ∷ log)
@@ -149,7 +152,7 @@ module _ (once : EndsOnce) (o : Options) (log : List Entry) (t : ℕ) (was : Ten
                 took_none o older n.seen.number t n (subst (λ y. (view o y).consumers.rows t ≡ Some n) there is)
                 (flow_is_none (flow_at ((view o older).consumers.rows t)) i) due
 
-        by : (turn : Turn Plan Verdict) → told q u ≡ turn → stays turn ≡ Some p → Tells o n.seen.number t (Then (Told (notice who u)) ∷ log)
+        by : (turn : PlanTransition) → told q u ≡ turn → stays turn ≡ Some p → Tells o n.seen.number t (Then (Told (notice who u)) ∷ log)
         by (Gives verdict) leads k = absurd (none_some k)
         by (Stays x action) leads k = goes x action leads (ap is_resting (some_is k) ∙ rests)
 

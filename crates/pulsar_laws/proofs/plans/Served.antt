@@ -1,7 +1,7 @@
 -- Only the plan of a consumer serves one, and only that takes flows, and subscribes a consumer again, where it is told a reply.
 use Rattle.std.proofs.Common.{◌≡◌, inl, inr, ◌∙◌, sym, ap, subst, ℕ, List, ◌∷◌, refl, Bool, true, false, Some}
 use Rattle.pulsar_laws.proofs.ActWords.{Action, Call, Consumer, Does, Outcome, Procedure, Producer, Revive, TakeFlow, Told, Verdict, Who, OfConsumer}
-use Rattle.pulsar_laws.proofs.PlanWords.{action_of, Deed, Plan, Stays, told, Turn}
+use Rattle.pulsar_laws.proofs.PlanWords.{action_of, Deed, Plan, PlanTransition, Stays, told}
 use Rattle.pulsar_laws.proofs.RunWords.{Entry, IsRun, notice, Options, Then, view}
 use Rattle.pulsar_laws.proofs.LinkWords.{Reply}
 use Rattle.pulsar_calls.specs.declared.act.Outcome.TheVariants as outcome
@@ -40,7 +40,7 @@ no_flow (deed.Does (wish.Ask l request)) h = cc
 no_flow (deed.Does (wish.Wait delay)) h = cc
 no_flow _ h = cc
 
-takes_by : (t : Turn Plan Verdict) (p q : Plan) (u : Outcome) → TurnSo p u t → t ≡ Stays q (OfConsumer TakeFlow) → is_server p ≡ true
+takes_by : (t : PlanTransition) (p q : Plan) (u : Outcome) → TurnSo p u t → t ≡ Stays q (OfConsumer TakeFlow) → is_server p ≡ true
 takes_by t p q u k e = (subst (TurnSo p u) e k).2
 
 pub flow_takers : (o : Options) (log : List Entry) (w : Who) → IsRun o (Then (Does w (OfConsumer TakeFlow)) ∷ log) → (n t : ℕ) × (w ≡ Consumer n t)
@@ -93,7 +93,7 @@ pub record IsRevived (o : Options) (log : List Entry) (w : Who) (l : ℕ) : Type
   pub leads : told before (outcome.Replied reply) ≡ Stays plan (OfConsumer (Revive l))
   pub revives : is_reviving plan ≡ true
 
-revives_by : (t : Turn Plan Verdict) (p q : Plan) (u : Outcome) (l : ℕ) → TurnSo p u t → t ≡ Stays q (OfConsumer (Revive l)) →
+revives_by : (t : PlanTransition) (p q : Plan) (u : Outcome) (l : ℕ) → TurnSo p u t → t ≡ Stays q (OfConsumer (Revive l)) →
     (is_reply u ≡ true) × (is_server p ≡ true)
 revives_by t p q u l k e = let x = (subst (TurnSo p u) e k).2 in (x.1, x.2)
 

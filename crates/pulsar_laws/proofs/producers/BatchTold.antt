@@ -2,7 +2,7 @@
 use Rattle.std.proofs.Common.{◌≡◌, ◌⊎◌, inl, inr, ◌∙◌, sym, ap, subst, ℕ, List, ◌∷◌, refl, length, map, Bool, true, false, cond, Option, Some, None, Result, Ok, Err}
 use Rattle.std.proofs.lemmas.Bool.{cases_Bool}
 use Rattle.pulsar_laws.proofs.ActWords.{Action, Does, Notice, Outcome, Producer, Rest, TellAll, Told}
-use Rattle.pulsar_laws.proofs.PlanWords.{Batches, Batching, Command, Errand, Fate, Heard, Looking, Making, Member, News, news_in, news_of, overrides, SearchTurn, Sending as Send, Served, told_to, Ways}
+use Rattle.pulsar_laws.proofs.PlanWords.{Batches, Batching, Command, Errand, Fate, Heard, Looking, Making, Member, News, news_in, news_of, overrides, SearchTransition, Sending as Send, Served, told_to, Ways}
 use Rattle.pulsar_laws.proofs.RunWords.{Entry, IsRun, notice, Options, Then, view}
 use Rattle.pulsar_laws.proofs.LinkWords.{Failure, Fault, Place, Reply}
 use Rattle.pulsar_messages.specs.Content.{ProducerMessageValues}
@@ -11,7 +11,6 @@ use Rattle.pulsar_wire.specs.declared.key.RequestKey.TheVariants as keys
 use Rattle.pulsar_searches.specs.Plans as search
 use Rattle.pulsar_searches.specs.Replies.{unexpected}
 use Rattle.pulsar_searches.specs.declared.turn.SearchOutcome.TheVariants as heard
-use Rattle.pulsar_searches.specs.declared.turn.Turn.TheVariants as search_turn
 use Rattle.pulsar_outgoing.specs.Batch.{batch_of, cut_report, entries_in, member_of, receipt_fate, reports}
 use Rattle.pulsar_producer.specs.Batching.{is_sent_send}
 use Rattle.pulsar_producer.specs.Plans as produce
@@ -19,7 +18,6 @@ use Rattle.pulsar_producer.specs.Plans.{Sent, fault_told, not_drawn, not_queued,
 use Rattle.pulsar_outgoing.specs.Storage.{Item}
 use Rattle.pulsar_producer.specs.declared.batching.Batching.TheVariants as batching
 use Rattle.pulsar_outgoing.specs.declared.news.News.TheVariants as news
-use Rattle.pulsar_producer.specs.declared.deed.Step.TheVariants as step
 use Rattle.pulsar_producer.specs.declared.sending.Sending.TheVariants as send
 use Rattle.pulsar_calls.specs.declared.act.Outcome.TheVariants as outcome
 use Rattle.pulsar_laws.proofs.Cases.{cond_so}
@@ -31,13 +29,14 @@ use Rattle.pulsar_laws.proofs.producers.BatchRun.{PromptSo, StateSo, batched_run
 use Rattle.pulsar_laws.proofs.producers.Drawing.{here}
 use Rattle.pulsar_laws.proofs.plans.Productions.{SendKeeps}
 use Rattle.pulsar_laws.proofs.producers.Since.{receipts_of_batches_lem}
+use Rattle.pulsar_searches.specs.declared.transition.Transition.TheVariants as transition
 
 -- A SEND THAT GIVES A RECEIPT was told its reply
 
 abbrev gives_ok : Sent → Bool
-gives_ok (step.Stays s d) = false
-gives_ok (step.Gives (Ok r)) = true
-gives_ok (step.Gives (Err f)) = false
+gives_ok (transition.Stays s d) = false
+gives_ok (transition.Gives (Ok r)) = true
+gives_ok (transition.Gives (Err f)) = false
 
 not_drawn_gives : (e : Errand) (m : ProducerMessageValues) (f : Fault) → gives_ok (not_drawn e m f) ≡ false
 not_drawn_gives e m f = cond_so (λ z. gives_ok z ≡ false) (search.is_lost f) _ _ refl refl
@@ -46,15 +45,17 @@ not_queued_gives : (e : Errand) (m : Option ProducerMessageValues) (f : Fault) �
 not_queued_gives e None f = refl
 not_queued_gives e (Some m) f = not_drawn_gives e m f
 
-makes_gives : (e : Errand) (m : ProducerMessageValues) (c : Command) (x : SearchTurn Making (Result Served Failure)) → gives_ok (send_makes e m c x) ≡ false
-makes_gives e m c (search_turn.Stays s a) = refl
-makes_gives e m c (search_turn.Gives (Ok s)) = refl
-makes_gives e m c (search_turn.Gives (Err f)) = refl
+makes_gives : (e : Errand) (m : ProducerMessageValues) (c : Command) (x : SearchTransition Making (Result Served Failure)) →
+    gives_ok (send_makes e m c x) ≡ false
+makes_gives e m c (transition.Stays s a) = refl
+makes_gives e m c (transition.Gives (Ok s)) = refl
+makes_gives e m c (transition.Gives (Err f)) = refl
 
-looks_gives : (e : Errand) (m : ProducerMessageValues) (c : Command) (x : SearchTurn Looking (Result Place Failure)) → gives_ok (send_looks e m c x) ≡ false
-looks_gives e m c (search_turn.Stays s a) = refl
-looks_gives e m c (search_turn.Gives (Ok place)) = makes_gives e m c (search.made_gets 0 place)
-looks_gives e m c (search_turn.Gives (Err f)) = refl
+looks_gives : (e : Errand) (m : ProducerMessageValues) (c : Command) (x : SearchTransition Looking (Result Place Failure)) →
+    gives_ok (send_looks e m c x) ≡ false
+looks_gives e m c (transition.Stays s a) = refl
+looks_gives e m c (transition.Gives (Ok place)) = makes_gives e m c (search.made_gets 0 place)
+looks_gives e m c (transition.Gives (Err f)) = refl
 
 abbrev is_sent : Send → Bool
 is_sent send.Sent = true
@@ -80,7 +81,7 @@ unsent_gives w e (send.Remaking m) y h = refl
 unsent_gives w e (send.Ending f) y h = refl
 
 abbrev sent_in : Content → Sent → Content
-sent_in r (step.Gives (Ok x)) = x
+sent_in r (transition.Gives (Ok x)) = x
 sent_in r _ = r
 
 abbrev heard_in : Content → Heard → Content
@@ -91,10 +92,10 @@ abbrev is_reply : Heard → Bool
 is_reply (heard.Replied q) = true
 is_reply _ = false
 
-receipt_is : (x : Heard) (r : Content) → receipt (search.verdict 7 x) ≡ step.Gives (Ok r) → (x ≡ heard.Replied r) × (is_body 7 r.body ≡ true)
+receipt_is : (x : Heard) (r : Content) → receipt (search.verdict 7 x) ≡ transition.Gives (Ok r) → (x ≡ heard.Replied r) × (is_body 7 r.body ≡ true)
 receipt_is (heard.Replied q) r h = by (is_body 7 q.body) refl h
   where
-    by : (b : Bool) → is_body 7 q.body ≡ b → receipt (cond b (Ok q) (Err (unexpected q q.body))) ≡ step.Gives (Ok r) →
+    by : (b : Bool) → is_body 7 q.body ≡ b → receipt (cond b (Ok q) (Err (unexpected q q.body))) ≡ transition.Gives (Ok r) →
         (heard.Replied q ≡ heard.Replied r) × (is_body 7 r.body ≡ true)
     by true e k = (let g : q ≡ r = ap (sent_in q) k in (ap heard.Replied g, ap (λ y. is_body 7 y.body) (sym g) ∙ e))
     by false e k = (let f : false ≡ true = ap gives_ok k in absurd cc)
@@ -108,15 +109,16 @@ replied_in (outcome.GotLink l) r h = (let f : false ≡ true = ap is_reply h in 
 replied_in outcome.Woken r h = (let f : false ≡ true = ap is_reply h in absurd cc)
 replied_in _ r h = (let f : false ≡ true = ap is_reply h in absurd cc)
 
-sent_told : (w : Ways) (e : Errand) (u : Outcome) (r : Content) → is_told_news u ≡ false → produce.send_told w e send.Sent (news_of u) ≡ step.Gives (Ok r) →
+sent_told : (w : Ways) (e : Errand) (u : Outcome) (r : Content) → is_told_news u ≡ false →
+    produce.send_told w e send.Sent (news_of u) ≡ transition.Gives (Ok r) →
     (reply : Reply) × (u ≡ outcome.Replied reply) × (reply.content ≡ r) × (is_body 7 r.body ≡ true)
 sent_told w e u r n h = by u n h
   where
-    from : (u : Outcome) → receipt (search.verdict 7 (news_in u)) ≡ step.Gives (Ok r) →
+    from : (u : Outcome) → receipt (search.verdict 7 (news_in u)) ≡ transition.Gives (Ok r) →
         (reply : Reply) × (u ≡ outcome.Replied reply) × (reply.content ≡ r) × (is_body 7 r.body ≡ true)
     from u k = let x = receipt_is (news_in u) r k in let y = replied_in u r x.0 in (y.0, y.1, y.2, x.1)
 
-    by : (u : Outcome) → is_told_news u ≡ false → produce.send_told w e send.Sent (news_of u) ≡ step.Gives (Ok r) →
+    by : (u : Outcome) → is_told_news u ≡ false → produce.send_told w e send.Sent (news_of u) ≡ transition.Gives (Ok r) →
         (reply : Reply) × (u ≡ outcome.Replied reply) × (reply.content ≡ r) × (is_body 7 r.body ≡ true)
     by (outcome.Granted (news.Told x)) n k = absurd cc
     by (outcome.Granted _) n k = (let f : false ≡ true = ap gives_ok k in absurd cc)
@@ -129,14 +131,15 @@ sent_same send.Sent h = refl
 sent_same _ h = absurd cc
 
 -- it was told its reply
-gives_told : (w : Ways) (e : Errand) (s : Send) (u : Outcome) (r : Content) → is_told_news u ≡ false → produce.send_told w e s (news_of u) ≡ step.Gives (Ok r) →
+gives_told : (w : Ways) (e : Errand) (s : Send) (u : Outcome) (r : Content) → is_told_news u ≡ false →
+    produce.send_told w e s (news_of u) ≡ transition.Gives (Ok r) →
     (reply : Reply) × (u ≡ outcome.Replied reply) × (reply.content ≡ r) × (is_body 7 r.body ≡ true)
 gives_told w e s u r n h = elim (cases_Bool (is_sent s)) [
   | inl q ↦ sent_told w e u r n (ap (λ x. produce.send_told w e x (news_of u)) (sym (sent_same s q)) ∙ h)
   | inr q ↦ (let f : false ≡ true = sym (unsent_gives w e s (news_of u) q) ∙ ap gives_ok h in absurd cc)
 ]
 
-gives_sent : (w : Ways) (e : Errand) (s : Send) (u : Outcome) (r : Content) → produce.send_told w e s (news_of u) ≡ step.Gives (Ok r) →
+gives_sent : (w : Ways) (e : Errand) (s : Send) (u : Outcome) (r : Content) → produce.send_told w e s (news_of u) ≡ transition.Gives (Ok r) →
     is_sent_send s ≡ true
 gives_sent w e s u r h = elim (cases_Bool (is_sent s)) [
   | inl q ↦ ap is_sent_send (sent_same s q)

@@ -4,7 +4,7 @@ use Rattle.std.proofs.lemmas.Bool.{cases_Bool, eqb-true}
 use Rattle.std.proofs.lemmas.Bool.Decides.{nat_tests}
 use Rattle.std.specs.Option.{is_some}
 use Rattle.pulsar_laws.proofs.ActWords.{Act, Action, Answers, Asked, Call, Calls, Comes, Does, Heard, Makes, Nothing, Notice, Number, Outcome, Procedure, Starts, Told, Verdict, Who, is_same, lacks_tickets, shares}
-use Rattle.pulsar_laws.proofs.PlanWords.{Asking, Awaiting, begins, Built, fails, Gives, Plan, Producing, Stays, told, Turn}
+use Rattle.pulsar_laws.proofs.PlanWords.{Asking, Awaiting, begins, Built, fails, Gives, Plan, PlanTransition, Producing, Stays, told}
 use Rattle.pulsar_laws.proofs.RunWords.{Answered, Begins, begun_same, counted, each_map, Entry, In, IsRun, may_call, notice, Options, producers_made, started, stays, stays_some, Then, told_some, view, View, rules}
 use Rattle.pulsar_laws.proofs.LinkWords.{Exhausted}
 use Rattle.pulsar_messages.specs.Content.{ProducerMessageValues}
@@ -226,7 +226,7 @@ sound_map Q R (Asking w) f k = k
 sound_map Q R (Awaiting w) f k = k
 sound_map Q R _ f k = tt
 
-stays_sound : (Q : ℕ → Type 0) (t : Turn Plan Verdict) (p : Plan) → TurnSound Q t → stays t ≡ Some p → IsSound Q p
+stays_sound : (Q : ℕ → Type 0) (t : PlanTransition) (p : Plan) → TurnSound Q t → stays t ≡ Some p → IsSound Q p
 stays_sound Q (Stays q action) p k h = subst (IsSound Q) (let e : q ≡ p = cc in e) k
 stays_sound Q (Gives verdict) p k h = absurd cc
 

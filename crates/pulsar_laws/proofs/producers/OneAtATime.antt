@@ -4,7 +4,7 @@ use Rattle.std.proofs.Common.{◌≡◌, ◌⊎◌, inl, inr, ◌∙◌, sym, ap
 use Rattle.std.proofs.lemmas.Bool.{cases_Bool, eqb-true}
 use Rattle.std.specs.Option.{option_map}
 use Rattle.pulsar_laws.proofs.ActWords.{Act, Action, Alarm, Answers, Ask, Comes, Dials, Does, FindConsumer, Get, is_same, Notice, OfTopic, Outcome, Part, PassTurn, Procedure, Producer, Rest, Starts, StopAll, TakeBatch, Told, Verdict, Wait, Who, OfConsumer}
-use Rattle.pulsar_laws.proofs.PlanWords.{Batching, begins, Gives, Plan, Stays, told, Turn}
+use Rattle.pulsar_laws.proofs.PlanWords.{Batching, begins, Gives, Plan, PlanTransition, Stays, told}
 use Rattle.pulsar_laws.proofs.RunWords.{agenda, at_once, Begins, begun_same, does, Each, each_append, each_map, Entry, first_of, follows, follows_some, IsRun, link_got, notice, Options, performs, rest, rest_of, rules, stays, stays_some, Then, told_some, view, View}
 use Rattle.pulsar_laws.proofs.LinkWords.{answer_at, Base, Nobody, Pauses, place_of, Place, Runs, Seat, seat_asked, Series, Serves, Words}
 use Rattle.pulsar_addresses.specs.Address.{address_key, is_reachable}
@@ -64,11 +64,11 @@ module _ (n : ℕ) where
   does_not w Rest h = tt
   does_not w _ h = (h, tt)
 
-  follows_not : (w : Who) (t : Turn Plan Verdict) → is_same (me n) w ≡ false → Each NotOwn (follows w t)
+  follows_not : (w : Who) (t : PlanTransition) → is_same (me n) w ≡ false → Each NotOwn (follows w t)
   follows_not w (Stays q a) h = does_not w a h
   follows_not w (Gives v) h = (tt, tt)
 
-  some_not : (w : Who) (t : Option (Turn Plan Verdict)) → is_same (me n) w ≡ false → Each NotOwn (follows_some w t)
+  some_not : (w : Who) (t : Option (PlanTransition)) → is_same (me n) w ≡ false → Each NotOwn (follows_some w t)
   some_not w None h = tt
   some_not w (Some t) h = follows_not w t h
 
@@ -186,7 +186,7 @@ module _ (n : ℕ) where
     does_head log s (Get p) xs k f = ((λ e. f refl), k)
     does_head log s _ xs k f = ((λ e. f refl), k)
 
-    follows_head : (log : List Entry) (s : Spot) (t : Option (Turn Plan Verdict)) (xs : List Act) → Each NotOwn xs →
+    follows_head : (log : List Entry) (s : Spot) (t : Option (PlanTransition)) (xs : List Act) → Each NotOwn xs →
         ((q : Plan) (x : Action) → t ≡ Some (Stays q x) → is_rest x ≡ false →
         Clear log s ⊎ ((is_passing x ≡ true) × (p : Plan) × (row log ≡ Some p) × (is_sent_plan p ≡ true))) →
         HeadSo log s (follows_some (me n) t ++ xs)
@@ -327,7 +327,7 @@ module _ (n : ℕ) where
         still_open keeps None e = refl
         still_open keeps (Some p) e = by (told p u) (keeps p e)
           where
-            by : (t : Turn Plan Verdict) → StaysSo Soft t → is_open (stays t) ≡ true
+            by : (t : PlanTransition) → StaysSo Soft t → is_open (stays t) ≡ true
             by (Stays q x) s = s.0
             by (Gives g) s = refl
 

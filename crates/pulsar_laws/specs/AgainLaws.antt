@@ -28,6 +28,7 @@ use Rattle.pulsar_consumer.specs.declared.building.BuildingConsumer.TheVariants 
 use Rattle.pulsar_consumer.specs.declared.resuming.Resuming.{Resuming}
 use Rattle.pulsar_consumer.specs.declared.resuming.Resuming.TheVariants as resume
 use Rattle.pulsar_calls.specs.declared.act.Act.TheVariants.{Starts, Told}
+use Rattle.pulsar_calls.specs.declared.act.Action.{Action}
 use Rattle.pulsar_calls.specs.declared.act.Action.TheVariants.{Wait}
 use Rattle.pulsar_calls.specs.declared.act.Outcome.{Outcome}
 use Rattle.pulsar_calls.specs.declared.act.Outcome.TheVariants as outcome
@@ -269,6 +270,13 @@ MadeAgainOrGivenUp = (o : Options) (log : List Entry) (who : Who) (x : Operation
     (view o log).stand who ≡ Some p → stage p ≡ Some s → answers_ask u ≡ true → MayPass x s u →
     (MayRetry o.chosen.operation.max_retries (retries o who x log) × RestsFor x o.chosen.operation.retry_delay (told p u))
     ⊎ (HasRetried o.chosen.operation.max_retries (retries o who x log) × GivesUp (told p u))
+
+-- One that rests is made again once its wait is over.
+abbrev pub GoesOn : Operation → PlanTransition → Type 0
+GoesOn x t = (p : Plan) × (action : Action) × (t ≡ Stays p action) × (progress x (Some p) ≡ Busy)
+
+abbrev pub MadeAgainInTime : Type 0
+MadeAgainInTime = (p : Plan) (x : Operation) → progress x (Some p) ≡ Resting → GoesOn x (told p outcome.Woken)
 
 -- A command that fails so that no other time may help is given up at once.
 abbrev pub GivenUpAtOnce : Type 0

@@ -32,8 +32,8 @@ use Rattle.pulsar_calls.specs.declared.act.Word.{Word}
 use Rattle.pulsar_calls.specs.declared.act.Word.TheVariants as word
 use Rattle.pulsar_consumer_table.specs.declared.numbers.Numbering.{Numbering}
 use Rattle.pulsar_consumer_table.specs.declared.numbers.Numbering.TheVariants.{Has, InUse, Spent}
-use Rattle.pulsar_consumer_table.specs.declared.row.Sought.{Sought}
-use Rattle.pulsar_consumer_table.specs.declared.row.Sought.TheVariants.{Found, Gone, Later}
+use Rattle.pulsar_consumer_table.specs.declared.row.LinkAnswer.{LinkAnswer}
+use Rattle.pulsar_consumer_table.specs.declared.row.LinkAnswer.TheVariants.{Found, Gone, Later}
 use Rattle.pulsar_calls.specs.Content as content
 use Rattle.pulsar_calls.specs.Content.{Asked, Shown, Hands, Faults, FindsNothing, FindsEnd}
 
@@ -169,16 +169,16 @@ is_heard cs l = some_row (lives_at l) cs
 
 -- THOSE WHO WANT ITS LINK: they get that of its live subscription, or wait; there is none once it has ended
 
-abbrev pub sought_for : (is_ended : Bool) → (link : Option ℕ) → Sought
+abbrev pub sought_for : (is_ended : Bool) → (link : Option ℕ) → LinkAnswer
 sought_for is_ended (Some l) = Found l
 sought_for true None = Gone
 sought_for false None = Later
 
-abbrev pub sought : Option Member → Sought
+abbrev pub sought : Option Member → LinkAnswer
 sought None = Gone
 sought (Some m) = sought_for (is_ended m.seen) (link_of m.seen)
 
-abbrev pub waits_so : Sought → Who → Member → Member
+abbrev pub waits_so : LinkAnswer → Who → Member → Member
 waits_so (Found l) w m = m
 waits_so Gone w m = m
 waits_so Later w m = record m { seekers = m.seekers ++ w ∷ [] }

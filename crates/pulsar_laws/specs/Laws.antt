@@ -74,7 +74,7 @@ use Rattle.pulsar_calls.specs.Steps.{Step}
 use Rattle.pulsar_consumer_table.specs.Consumers as consumer
 use Rattle.pulsar_consumer_table.specs.Consumers.{Member}
 use Rattle.pulsar_consumer_table.specs.declared.numbers.Numbering.TheVariants.{Has, InUse, Spent}
-use Rattle.pulsar_consumer_table.specs.declared.row.Sought.TheVariants.{Gone}
+use Rattle.pulsar_consumer_table.specs.declared.row.LinkAnswer.TheVariants.{Gone}
 use Rattle.pulsar_consumer.specs.Plans.{in_use, not_found}
 use Rattle.pulsar_incoming.specs.declared.orders.ConsumerOrder.{ConsumerOrder}
 use Rattle.pulsar_consumer.specs.Topic as reader

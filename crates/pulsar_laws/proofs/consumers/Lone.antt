@@ -13,8 +13,8 @@ use Rattle.pulsar_calls.specs.declared.act.Arrival.TheVariants as arrivals
 use Rattle.pulsar_calls.specs.declared.act.Makes.TheVariants as makes
 use Rattle.pulsar_consumer_table.specs.Consumers as consumer
 use Rattle.pulsar_consumer_table.specs.Consumers.{Consumers, Deed, FlowTaken, IsPolled, IsSought, Member, NotRevived, Revived, hears, hears_frame, loses_by, member_after, member_by, subscribed_on, waits_so}
-use Rattle.pulsar_consumer_table.specs.declared.row.Sought.{Sought}
-use Rattle.pulsar_consumer_table.specs.declared.row.Sought.TheVariants.{Found, Gone, Later}
+use Rattle.pulsar_consumer_table.specs.declared.row.LinkAnswer.{LinkAnswer}
+use Rattle.pulsar_consumer_table.specs.declared.row.LinkAnswer.TheVariants.{Found, Gone, Later}
 use Rattle.pulsar_acts.specs.View.{joins_as, member_acts, member_born, member_made, member_of}
 use Rattle.pulsar_run.specs.Things.{along, row_after as row_of, row_by}
 use Rattle.pulsar_run.proofs.Things.{row_stays}
@@ -66,7 +66,7 @@ subscription_done : (l : ℕ) (url : Option Parts) (m : Member) → IsDone (subs
 subscription_done l None m = refl
 subscription_done l (Some url) m = refl
 
-waits_done : (x : Sought) (w : Who) (m : Member) → (waits_so x w m).seen ≡ m.seen
+waits_done : (x : LinkAnswer) (w : Who) (m : Member) → (waits_so x w m).seen ≡ m.seen
 waits_done (Found l) w m = refl
 waits_done Gone w m = refl
 waits_done Later w m = refl

@@ -348,8 +348,12 @@ names_in (Some number) cs = record cs { named = insert_key nat_cmp cs.named numb
 abbrev pub member_of : Setup → (link : ℕ) → Option Parts → Member
 member_of s l url = subscribed_on l url (record { seen = fresh s; seekers = [] })
 
+-- its ticket is that of its call
+abbrev pub listed : (ticket : ℕ) → Consumers → Consumers
+listed t cs = record cs { tickets = insert_key nat_cmp cs.tickets t }
+
 abbrev pub joined : (ticket : ℕ) → Member → Consumers → Consumers
-joined t m cs = record cs { rows = λ u. if u == t then Some m else cs.rows u; tickets = insert_key nat_cmp cs.tickets t }
+joined t m cs = record (listed t cs) { rows = λ u. if u == t then Some m else cs.rows u }
 
 -- one of them is changed, and each
 abbrev pub changed : (ticket : ℕ) → (Member → Member) → Consumers → Consumers

@@ -2,7 +2,7 @@
 use Rattle.std.proofs.Common.{◌≡◌, ◌≤◌, ℕ, ◌+◌, ◌∙◌, sym, ap, subst, List, [], ◌∷◌, ◌++◌, refl, arith, Bool, true, false, ◌&&◌, cond, Option, Some, None, inl, inr, ◌==◌}
 use Rattle.std.proofs.lemmas.Bool.{and_parts, cases_Bool}
 use Rattle.pulsar_laws.proofs.ActWords.{Act, Answers, Arrival, Ask, Call, Comes, Consumer, Does, Ends, FailConsumer, FindConsumer, Heard, is_same, Makes, OfConsumer, Polls, Producer, Reads, RecallConsumer, Revive, StopAll, TakeFlow, ticket_of, ToLink, Verdict, Who}
-use Rattle.pulsar_laws.proofs.RunWords.{Begins, begun, begun_live, consumers_after, consumers_made, counted, EndsOnce, Entry, is_live, IsRun, member_on, Options, setup_of, Then, view, View}
+use Rattle.pulsar_laws.proofs.RunWords.{Begins, begun, begun_live, consumers_after, counted, EndsOnce, Entry, is_live, IsRun, member_on, Options, setup_of, Then, view, View}
 use Rattle.pulsar_laws.proofs.LinkWords.{answer_at, arrival_at, closed_consumer, closing, Fault, is_asked, is_body, Reply, url_at}
 use Rattle.url.specs.Parts.{Parts}
 use Rattle.pulsar_messages.specs.Claims.{is_spent}
@@ -15,14 +15,14 @@ use Rattle.pulsar_consumer_table.specs.Consumers as consumer
 use Rattle.pulsar_consumer_table.specs.Consumers.{Consumers, Deed, FlowTaken, IsPolled, IsSought, Member, NotRevived, Revived, hears, hears_frame, loses_by, member_after, member_by, subscribed_on, waits_so}
 use Rattle.pulsar_consumer_table.specs.declared.row.LinkAnswer.{LinkAnswer}
 use Rattle.pulsar_consumer_table.specs.declared.row.LinkAnswer.TheVariants.{Found, Gone, Later}
-use Rattle.pulsar_acts.specs.View.{joins_as, member_acts, member_born, member_made, member_of}
+use Rattle.pulsar_acts.specs.View.{member_acts, member_born, member_made, member_of}
 use Rattle.pulsar_run.specs.Things.{along, row_after as row_of, row_by}
 use Rattle.pulsar_run.proofs.Things.{row_stays}
 use Rattle.pulsar_laws.proofs.Cases.{none_some}
 use Rattle.pulsar_laws.proofs.calls.Ticketed.{consumer_ticket}
 use Rattle.pulsar_laws.specs.ConsumerLaws.{ConsumersAlone, arrival_does, does_to, done_since, done_to, frame_does, loss_does, made_as, made_with, making_does, subscription_does}
 use Rattle.pulsar_laws.specs.Laws.{end_of}
-use Rattle.pulsar_laws.proofs.consumers.Members.{made_at}
+use Rattle.pulsar_laws.proofs.consumers.Members.{row_made}
 
 -- WHAT ACTS MAKE OF WHAT IS SEEN
 
@@ -189,10 +189,10 @@ pub data RowFrom (o : Options) (log : List Entry) (a : Act) (t : ℕ) : Type 0 w
   IsKept : (m : Member) → (view o log).consumers.rows t ≡ Some m → RowAfter (view o log) a t m → made_with t (Then a ∷ log) ≡ made_with t log →
       done_to o t (Then a ∷ log) ≡ does_to (view o log) t m a ++ done_to o t log → RowFrom o log a t
 
-pub joins_here : (who : Who) (m : Member) (cs : Consumers) (t : ℕ) → is_same (Call t) who ≡ true → (joins_as who m cs).rows t ≡ Some m
-joins_here (Call u) m cs t h = let e : (t == u) ≡ true = (and_parts (t == u) (t == u) h).0 in rw e refl
-joins_here (Consumer n u) m cs t h = absurd cc
-joins_here (Producer n) m cs t h = absurd cc
+pub joins_here : (who : Who) (m : Member) (row : Option Member) (t : ℕ) → is_same (Call t) who ≡ true → row_made (Some m) who t row ≡ Some m
+joins_here (Call u) m row t h = let e : (t == u) ≡ true = (and_parts (t == u) (t == u) h).0 in rw e refl
+joins_here (Consumer n u) m row t h = absurd cc
+joins_here (Producer n) m row t h = absurd cc
 
 module _ (o : Options) (log : List Entry) (t : ℕ) where
   abbrev v : View
@@ -204,10 +204,8 @@ module _ (o : Options) (log : List Entry) (t : ℕ) where
   made_row who verdict m f none e = made_by m f
     where
       rows_are : (m : Makes) → verdict.makes ≡ m →
-          (view o (Then (Answers who verdict) ∷ log)).consumers.rows t ≡ (consumers_made v.links.live who m v.consumers).rows t
-      rows_are m f =
-          made_at v who verdict t
-          ∙ ap (λ x. (consumers_made v.links.live who x v.consumers).rows t) f
+          (view o (Then (Answers who verdict) ∷ log)).consumers.rows t ≡ row_made (member_made v.links.live m) who t (v.consumers.rows t)
+      rows_are m f = ap (λ x. row_made (member_made v.links.live x) who t (v.consumers.rows t)) f
 
       did : (m : Makes) → verdict.makes ≡ m → done_to o t (Then (Answers who verdict) ∷ log) ≡ making_does v.links.live m
       did m f =
@@ -221,11 +219,11 @@ module _ (o : Options) (log : List Entry) (t : ℕ) where
       made_by : (m : Makes) → verdict.makes ≡ m → RowFrom o log (Answers who verdict) t
       made_by (makes.Consumer j) f =
           IsMade (setup_of j) j.link none
-          (rows_are (makes.Consumer j) f ∙ joins_here who (member_on v.links.live j.link (setup_of j)) v.consumers t e)
+          (rows_are (makes.Consumer j) f ∙ joins_here who (member_on v.links.live j.link (setup_of j)) (v.consumers.rows t) t e)
           (how (makes.Consumer j) f) (did (makes.Consumer j) f)
       made_by (makes.RawConsumer l made) f =
           IsMade (of_raw made) l none
-          (rows_are (makes.RawConsumer l made) f ∙ joins_here who (member_on v.links.live l (of_raw made)) v.consumers t e)
+          (rows_are (makes.RawConsumer l made) f ∙ joins_here who (member_on v.links.live l (of_raw made)) (v.consumers.rows t) t e)
           (how (makes.RawConsumer l made) f) (did (makes.RawConsumer l made) f)
       made_by makes.Nothing f = IsNone none (rows_are makes.Nothing f ∙ none)
       made_by makes.Client f = IsNone none (rows_are makes.Client f ∙ none)

@@ -5,6 +5,7 @@ use Rattle.std.proofs.lemmas.Bool.Decides.{nat_tests}
 use Rattle.std.proofs.Math.Path.{fun_ext}
 use Rattle.std.specs.Option.{option_map}
 use Rattle.pulsar_session.specs.Link as session
+use Rattle.pulsar_session.specs.Series.{is_retryable}
 use Rattle.pulsar_wire.specs.Failures.{NotFound}
 use Rattle.pulsar_session.specs.declared.states.Stage.{Stage}
 use Rattle.pulsar_session.specs.declared.states.Stage.TheVariants as stages
@@ -17,7 +18,7 @@ use Rattle.pulsar_discovery.specs.declared.addresses.Seat.{Seat}
 use Rattle.pulsar_discovery.specs.declared.manager.Seen.{Seen}
 use Rattle.pulsar_discovery.specs.declared.manager.Terms.{Terms}
 use Rattle.pulsar_discovery.specs.declared.manager.Seen.TheVariants as seen
-use Rattle.pulsar_discovery.specs.Manager.{Known, GotRefused, GotStarted, after_again_at, after_got, after_seen, fresh, got_by, is_pausing, is_over, is_pause, is_retryable, left_of, phase_after, retries_of, seen_at, seen_running, setup, starts}
+use Rattle.pulsar_discovery.specs.Manager.{Known, GotRefused, GotStarted, after_again_at, after_got, after_seen, fresh, got_by, is_pausing, is_over, is_pause, left_of, phase_after, retries_of, seen_at, seen_running, setup, starts}
 use Rattle.pulsar_discovery.specs.Series.{in_phase, put_at, reseated, seat_of, standing, standing_at, without}
 use Rattle.pulsar_discovery.specs.History.{Event, Wants, Does, Looks, Retries, IsHistory, IsOver, IsRetried, address_of, address_or, after, after_done, change, got_started, known_after, retries_made, told_of}
 use Rattle.pulsar_discovery.proofs.Books.{Books, empty, first, freed, moved, next, seat_is}

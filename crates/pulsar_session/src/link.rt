@@ -1,6 +1,6 @@
 //! What a connection keeps, and what it does.
 
-ghost use Rattle.std.specs.Prelude.{◌≡◌, ◌++◌, Some, None, Bool, true, false, IfOk, OnOk, OnErr, option_copied, string_bytes, filter, take, drop, if◌then◌else◌};
+ghost use Rattle.std.specs.Prelude.{◌≡◌, ◌++◌, Some, None, Bool, true, false, IfOk, OnOk, OnErr, option_copied, filter, take, drop, if◌then◌else◌};
 ghost use Rattle.std.specs.List.{flat_map};
 ghost use Rattle.std.specs.Option.{option_map};
 ghost use Rattle.pulsar_frame.specs.Shown.{message_values};
@@ -15,6 +15,7 @@ ghost use Rattle.pulsar_session.specs.Soonest.{due_at};
 
 use crate::frames::{Arrival, Next, awaited_by, command_frame, is, unasked, unready};
 use crate::incoming::{First, Incoming};
+use crate::messages::text;
 use crate::service::copy_auth;
 use crate::states::{Asked, Stage};
 use pulsar_frame::message::Message;
@@ -469,15 +470,6 @@ fn settle_in(requests: Requests, message: &Message) -> Result<(Vec<u64>, Request
     let awaited = awaited_by(message);
     let (places, left) = requests.settle(awaited)?;
     Ok((places, left))
-}
-
-fn text(text: &Option<String>) -> Option<&str>
-    ensures { option_copied result ≡ option_map string_bytes text.now }
-{
-    match text {
-        Some(text) => Some(text.as_str()),
-        None => None,
-    }
 }
 
 /// Puts a frame behind bytes.

@@ -1,5 +1,5 @@
 -- What is put at one number, or under one key, and what stands at the others; and what is left of a connection behind a change.
-use Rattle.std.proofs.Common.{◌≡◌, ◌≢◌, ap, refl, ℕ, Bool, true, false, List, ◌⊎◌, inl, inr, Option, Some, None, ◌==◌, if◌then◌else◌, bytes_eq}
+use Rattle.std.proofs.Common.{◌≡◌, ◌≢◌, ap, refl, ℕ, Bool, true, false, List, [], ◌++◌, ◌⊎◌, inl, inr, Option, Some, None, ◌==◌, if◌then◌else◌, append-nil, bytes_eq}
 use Rattle.std.proofs.lemmas.Bool.{cases_Bool}
 use Rattle.std.proofs.lemmas.Bool.Decides.{Decides-eqb}
 use Rattle.std.proofs.lemmas.Slice.Eq.{bytes_eq-Decides}
@@ -59,3 +59,8 @@ reseated_off m l p (Some phase) k two = off m l (Some (seat_of p phase)) k.seat 
 pub left_at : (l : ℕ) (over : Bool) (f : ℕ → Option session.Seen) → left_of l over f l ≡ (if over then None else f l)
 left_at l true f = at l None f
 left_at l false f = refl
+
+-- nothing is told of one that is not looked at, and of one that has not changed
+pub nothing_more : {A : Type 0} (b : Bool) (xs : List A) → xs ++ (if b then [] else []) ≡ xs
+nothing_more true xs = append-nil xs
+nothing_more false xs = append-nil xs

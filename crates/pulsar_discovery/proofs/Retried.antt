@@ -16,7 +16,7 @@ use Rattle.pulsar_discovery.specs.Manager.{Known, after_again_at, after_got, aft
 use Rattle.pulsar_discovery.specs.Series.{in_phase, put_at, reseated, seat_of, standing, without}
 use Rattle.pulsar_discovery.specs.History.{Does, Event, IsHistory, IsRetried, Looks, Retries, Wants, address_of, change, known_after, retries_made, told_of, was_retried}
 use Rattle.pulsar_discovery.specs.Laws.{RetriesAreWaitedFor}
-use Rattle.pulsar_discovery.proofs.Cases.{apart, at, off, reseated_at, reseated_off, same, seat_left, which}
+use Rattle.pulsar_discovery.proofs.Cases.{apart, at, nothing_more, off, reseated_at, reseated_off, same, seat_left, which}
 use Rattle.pulsar_discovery.proofs.Sound.{Fits, Holds, Sound, sound, stands}
 
 -- of a connection: none of its series was started since where it has a seat, and one was where it was told a retry and has none
@@ -111,13 +111,9 @@ look_since u l now s c (Some p) ms b h e = by s.phase refl c h.1
 looked : (k : Known) (a : ℕ → Option Place) (ms : ℕ → List Seen) (was : ℕ → Bool) (l now : ℕ) (st : Option Seat) → k.series.seat l ≡ st → Fits st (k.connection l) (a l) (ms l) → Waited k ms was →
     Waited (after_seen l now st (seen_at k.terms l st (k.connection l)) k) (λ m. ms m ++ (if m == l then change (seen_at k.terms l st (k.connection l)) else [])) was
 looked k a ms was l now None here fits x = record {
-  since = λ m. since_too (k.series.seat m) (k.series.seat m) (ms m) (ms m ++ (if m == l then [] else [])) (was m) (was m) refl (nothing m (m == l)) refl (x.since m);
+  since = λ m. since_too (k.series.seat m) (k.series.seat m) (ms m) (ms m ++ (if m == l then [] else [])) (was m) (was m) refl (nothing_more (m == l) (ms m)) refl (x.since m);
   unused = x.unused;
 }
-  where
-    nothing : (m : ℕ) (b : Bool) → ms m ++ (if b then [] else []) ≡ ms m
-    nothing m true = append-nil (ms m)
-    nothing m false = append-nil (ms m)
 looked k a ms was l now (Some s) here fits x = record {
   since = λ m. elim (which m l) [
     | inl one ↦ since_too (seat_left s.address (phase_after now s.phase what)) ((reseated l s.address (phase_after now s.phase what) k.series).seat m) (ms m ++ change what) (ms m ++ (if m == l then change what else [])) (was m) (was m)

@@ -23,7 +23,7 @@ use Rattle.pulsar_discovery.specs.Series.{in_phase, put_at, reseated, seat_of, s
 use Rattle.pulsar_discovery.specs.History.{Event, Wants, Does, Looks, Retries, IsHistory, IsOver, IsRetried, address_of, address_or, after, after_done, change, got_started, known_after, retries_made, told_of}
 use Rattle.pulsar_discovery.proofs.Books.{Books, empty, first, freed, moved, next, seat_is}
 use Rattle.pulsar_discovery.proofs.Greeted.{IsGreeted, greeted_stays}
-use Rattle.pulsar_discovery.proofs.Cases.{apart, at, left_at, off, reseated_at, reseated_off, same, seat_left, which}
+use Rattle.pulsar_discovery.proofs.Cases.{apart, at, left_at, nothing_more, off, reseated_at, reseated_off, same, seat_left, which}
 
 abbrev pub Holds : Phase → Option session.Seen → List Seen → Type 0
 Holds (Runs r) None ms = ⊥
@@ -327,11 +327,7 @@ module _ (t : Terms) (k : Known) (a : ℕ → Option Place) (ms : ℕ → List S
   -- it is looked at what a connection has become
   pub looked : (l now : ℕ) (st : Option Seat) → k.series.seat l ≡ st →
       Sound t (after_seen l now st (seen_at k.terms l st (k.connection l)) k) a (λ m. ms m ++ (if m == l then change (seen_at k.terms l st (k.connection l)) else [])) rs
-  looked l now None here = subst (λ ns. Sound t k a ns rs) (fun_ext (λ m. sym (nothing m (m == l)))) x
-    where
-      nothing : (m : ℕ) (b : Bool) → ms m ++ (if b then [] else []) ≡ ms m
-      nothing m true = append-nil (ms m)
-      nothing m false = append-nil (ms m)
+  looked l now None here = subst (λ ns. Sound t k a ns rs) (fun_ext (λ m. sym (nothing_more (m == l) (ms m)))) x
   looked l now (Some s) here =
       record {
         terms = x.terms;

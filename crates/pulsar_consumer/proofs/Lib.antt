@@ -1,9 +1,15 @@
-pub mod Begun
+pub mod Copying
 pub mod Counted
+pub mod Due
+pub mod Following
 pub mod Going
 pub mod Having
 pub mod Held
 pub mod Histories
+pub mod Keeping
+pub mod Licensed
+pub mod Named
 pub mod Permits
 pub mod Placing
+pub mod Trying
 pub mod Yields

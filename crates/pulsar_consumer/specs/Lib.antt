@@ -1,8 +1,12 @@
+pub mod DeadLetters
+pub mod Redelivery
 pub mod Frames
 pub mod Topic
 pub mod Consumer
 pub mod Commands
 pub mod Plans
+pub mod IdOrder
+pub mod KeptIds
 pub mod KeptFrame
 pub mod KeptLive
 pub mod KeptEngine

@@ -1,3 +1,5 @@
+pub mod Again
+pub mod Checking
 pub mod Copying
 pub mod Counted
 pub mod Due
@@ -11,5 +13,6 @@ pub mod Licensed
 pub mod Named
 pub mod Permits
 pub mod Placing
+pub mod Plain
 pub mod Trying
 pub mod Yields

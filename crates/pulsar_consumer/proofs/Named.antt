@@ -23,12 +23,12 @@ use Rattle.pulsar_consumer.proofs.Keeping.{due_is, sorted_filter}
 
 -- AN ENGINE THAT GOES ON places some items, and keeps their ids
 
-record Places (d e : Engine) : Type 0 where
-  more : List Item
-  unread : d.unread ≡ e.unread ++ more
-  kept : d.kept ≡ keep_all (due_at e.delay e.clock) more e.kept
-  delay : d.delay ≡ e.delay
-  clock : d.clock ≡ e.clock
+pub record Places (d e : Engine) : Type 0 where
+  pub more : List Item
+  pub unread : d.unread ≡ e.unread ++ more
+  pub kept : d.kept ≡ keep_all (due_at e.delay e.clock) more e.kept
+  pub delay : d.delay ≡ e.delay
+  pub clock : d.clock ≡ e.clock
 
 no_more : (e : Engine) → Places e e
 no_more e = record { more = []; unread = sym (append-nil e.unread); kept = refl; delay = refl; clock = refl }
@@ -78,10 +78,10 @@ as_from d b e u k l c p =
       clock = p.clock ∙ c;
     }
 
-hears_more : (f : Frame) (e : Engine) → Places (hears f e) e
+pub hears_more : (f : Frame) (e : Engine) → Places (hears f e) e
 hears_more f e = as_from (hears f e) (record e { waiting = e.waiting ++ f ∷ [] }) e refl refl refl refl (advances_more (record e { waiting = e.waiting ++ f ∷ [] }))
 
-takes_more : (e : Engine) → Places (takes_copy e) e
+pub takes_more : (e : Engine) → Places (takes_copy e) e
 takes_more e = by (is_some e.copying) e.letters
   where
     by : (b : Bool) (ls : List Letter) → Places (cond b e (takes_copy_from ls e)) e
@@ -97,7 +97,7 @@ none_acked : (b : Bool) (old : Kept) → forget_one (only_if b None) old ≡ old
 none_acked true old = refl
 none_acked false old = refl
 
-copied_more : (e : Engine) → Places (copied e) (forgot e)
+pub copied_more : (e : Engine) → Places (copied e) (forgot e)
 copied_more e = by e.copying refl
   where
     by : (o : Option Id) → e.copying ≡ o → Places (cond (is_some o) (advances (record e { copying = None; kept = forget_one (acked_by e) e.kept })) e) (forgot e)
@@ -128,14 +128,14 @@ gives_up_more e =
     as_from (gives_up e) (record e { rest = e.rest ++ lost_letter ∷ []; letters = []; copying = None }) e refl refl refl refl
     (advances_more (record e { rest = e.rest ++ lost_letter ∷ []; letters = []; copying = None }))
 
-failed_more : (e : Engine) → Places (copy_failed e) e
+pub failed_more : (e : Engine) → Places (copy_failed e) e
 failed_more e = by (is_some e.copying)
   where
     by : (b : Bool) → Places (cond b (gives_up e) e) e
     by true = gives_up_more e
     by false = no_more e
 
-stops_more : (e : Engine) → Places (stops e) e
+pub stops_more : (e : Engine) → Places (stops e) e
 stops_more e = by (is_pending e)
   where
     by : (b : Bool) → Places (cond b (gives_up (record e { stopped = true })) (record e { stopped = true })) e
@@ -143,14 +143,14 @@ stops_more e = by (is_pending e)
     by false = record { more = []; unread = sym (append-nil e.unread); kept = refl; delay = refl; clock = refl }
 
 -- an item is given, and others are placed behind those that are left
-record Gives (d e : Engine) : Type 0 where
-  more : List Item
-  items : one_of (first_of e.unread) ++ d.unread ≡ e.unread ++ more
-  kept : d.kept ≡ keep_all (due_at e.delay e.clock) more e.kept
-  delay : d.delay ≡ e.delay
-  clock : d.clock ≡ e.clock
+pub record Gives (d e : Engine) : Type 0 where
+  pub more : List Item
+  pub items : one_of (first_of e.unread) ++ d.unread ≡ e.unread ++ more
+  pub kept : d.kept ≡ keep_all (due_at e.delay e.clock) more e.kept
+  pub delay : d.delay ≡ e.delay
+  pub clock : d.clock ≡ e.clock
 
-gives_more : (us : List Item) (e : Engine) → e.unread ≡ us → Gives (gives_from us e) e
+pub gives_more : (us : List Item) (e : Engine) → e.unread ≡ us → Gives (gives_from us e) e
 gives_more [] e w =
     record { more = []; items = ap (λ u. one_of (first_of u) ++ e.unread) w ∙ sym (append-nil e.unread); kept = refl; delay = refl; clock = refl }
 gives_more (x ∷ xs) e w =
@@ -187,7 +187,7 @@ ordered_gives : (e : Engine) → AreOrdered e.kept → AreOrdered (gives e).kept
 ordered_gives e all =
     let p = gives_more e.unread e refl in subst AreOrdered (sym p.kept) (placed_ordered (due_at e.delay e.clock) p.more e.kept all)
 
-none_ordered : AreOrdered []
+pub none_ordered : AreOrdered []
 unfolding IsStrictlySortedBy
 none_ordered = tt
 
@@ -254,7 +254,7 @@ keeps_none s h = always KeepsNone none_kept s h (λ nay. refl)
 abbrev Delays : Setup → Seen → Type 0
 Delays s v = v.engine.delay ≡ cond (is_ended v) None s.config.unacked_message_redelivery_delay
 
-ended_some : (o : Option Ending) (why : Ending) → is_some (option_or o (Some why)) ≡ true
+pub ended_some : (o : Option Ending) (why : Ending) → is_some (option_or o (Some why)) ≡ true
 ended_some None why = refl
 ended_some (Some other) why = refl
 
@@ -312,18 +312,18 @@ module _ (s : Setup) where
       by true = p
       by false = p
 
-  delays : (h : List Act) → Delays s (seen s h)
+  pub delays : (h : List Act) → Delays s (seen s h)
   delays [] = refl
   delays (act ∷ h) = delays_after act (seen s h) (delays h)
 
 -- WHAT AN ACT MAKES OF THEM, where it has not ended behind it: it forgets some, and keeps those that it places
 
-record Moves (act : Act) (v w : Seen) : Type 0 where
-  more : List Item
-  items : given_by act v ++ w.engine.unread ≡ v.engine.unread ++ more
-  base : Kept
-  kept : w.engine.kept ≡ keep_all (due_at w.engine.delay w.engine.clock) more base
-  others : (id : Id) → lookup (is_same_id id) base ≡ cond (is_forgotten_by act v id (lookup (is_same_id id) v.engine.kept)) None (lookup (is_same_id id) v.engine.kept)
+pub record Moves (act : Act) (v w : Seen) : Type 0 where
+  pub more : List Item
+  pub items : given_by act v ++ w.engine.unread ≡ v.engine.unread ++ more
+  pub base : Kept
+  pub kept : w.engine.kept ≡ keep_all (due_at w.engine.delay w.engine.clock) more base
+  pub others : (id : Id) → lookup (is_same_id id) base ≡ cond (is_forgotten_by act v id (lookup (is_same_id id) v.engine.kept)) None (lookup (is_same_id id) v.engine.kept)
 
 -- nothing is placed, and nothing forgotten
 stays_so : (act : Act) (v w : Seen) → given_by act v ≡ [] → w.engine.unread ≡ v.engine.unread → w.engine.kept ≡ v.engine.kept →
@@ -359,7 +359,7 @@ live_link : (l : Option Live) → is_some (option_map (λ l. l.link) l) ≡ is_s
 live_link None = refl
 live_link (Some l) = refl
 
-moves_after : (act : Act) (v : Seen) → AreOrdered v.engine.kept → is_ended (after act v) ≡ false → Moves act v (after act v)
+pub moves_after : (act : Act) (v : Seen) → AreOrdered v.engine.kept → is_ended (after act v) ≡ false → Moves act v (after act v)
 moves_after (Lives link url) v in_order not_so = by (is_ended v)
   where
     by : (b : Bool) → Moves (Lives link url) v (cond b v (subscribed_again link url v))
@@ -465,87 +465,3 @@ moves_after (Checks clock) v in_order not_so = by (is_some v.engine.live) refl
         }
     by false nay =
         stays_so (Checks clock) v _ refl refl refl (λ id due. ap (λ b. b && is_early clock due) (live_link v.engine.live ∙ nay))
-
--- THE LAWS
-
-module _ (s : Setup) where
-  placed_more : (act : Act) (h : List Act) (m : Moves act (seen s h) (seen s (act ∷ h))) → placed_by s act h ≡ m.more
-  placed_more act h m =
-      ap (λ xs. drop (length (placed s h)) xs)
-      (placed_is s (act ∷ h)
-      ∙ append_assoc (given s h) (given_by act (seen s h)) (seen s (act ∷ h)).engine.unread
-      ∙ ap (λ xs. given s h ++ xs) m.items
-      ∙ sym (append_assoc (given s h) (seen s h).engine.unread m.more)
-      ∙ ap (λ xs. xs ++ m.more) (sym (placed_is s h)))
-      ∙ drop_at (placed s h) m.more (length (placed s h)) refl
-
-  -- with a delay or without
-  due_so : (delay : Option ℕ) (clock : ℕ) (more : List Item) (base : Kept) (id : Id) → (delay ≡ None → lookup (is_same_id id) base ≡ None) →
-      lookup (is_same_id id) (keep_all (due_at delay clock) more base) ≡ cond (is_one_of id more) (due_at delay clock) (lookup (is_same_id id) base)
-  due_so None clock more base id none =
-      ap (lookup (is_same_id id)) (kept_none more base) ∙ none refl ∙ sym (ap (λ x. cond (is_one_of id more) None x) (none refl) ∙ either_none (is_one_of id more))
-    where
-      either_none : (b : Bool) → cond {A = Option ℕ} b None None ≡ None
-      either_none true = refl
-      either_none false = refl
-  due_so (Some delay) clock more base id none = found_placed id (capped (clock + delay)) more base
-
-  gone : (b : Bool) → cond {A = Option ℕ} b None None ≡ None
-  gone true = refl
-  gone false = refl
-
-  due_step : (act : Act) (h : List Act) (id : Id) → lookup (is_same_id id) (seen s h).engine.kept ≡ due_of s h id →
-      lookup (is_same_id id) (seen s (act ∷ h)).engine.kept ≡ due_of s (act ∷ h) id
-  due_step act h id before = by (is_ended w) refl
-    where
-      v : Seen
-      v = seen s h
-
-      w : Seen
-      w = seen s (act ∷ h)
-
-      by : (b : Bool) → is_ended w ≡ b →
-          lookup (is_same_id id) w.engine.kept
-          ≡ cond b None (cond (is_one_of id (placed_by s act h)) (due_at s.config.unacked_message_redelivery_delay w.engine.clock) (cond (is_forgotten_by act v id (due_of s h id)) None (due_of s h id)))
-      by true aye =
-          let none : w.engine.delay ≡ None = delays s (act ∷ h) ∙ ap (λ b. cond b None s.config.unacked_message_redelivery_delay) aye in
-          ap (lookup (is_same_id id)) (keeps_none s (act ∷ h) none)
-      by false nay =
-          let m = moves_after act v (ordered s h) nay in
-          let delay : w.engine.delay ≡ s.config.unacked_message_redelivery_delay = delays s (act ∷ h) ∙ ap (λ b. cond b None s.config.unacked_message_redelivery_delay) nay in
-          ap (lookup (is_same_id id)) m.kept
-          ∙ due_so w.engine.delay w.engine.clock m.more m.base id
-          (λ none. m.others id ∙ ap (λ x. cond (is_forgotten_by act v id x) None x) (ap (lookup (is_same_id id)) (keeps_none s h (earlier none))) ∙ gone (is_forgotten_by act v id None))
-          ∙ ap (λ xs. cond (is_one_of id xs) (due_at w.engine.delay w.engine.clock) (lookup (is_same_id id) m.base)) (sym (placed_more act h m))
-          ∙ ap (λ d. cond (is_one_of id (placed_by s act h)) (due_at d w.engine.clock) (lookup (is_same_id id) m.base)) delay
-          ∙ ap (λ x. cond (is_one_of id (placed_by s act h)) (due_at s.config.unacked_message_redelivery_delay w.engine.clock) x)
-          (m.others id ∙ ap (λ x. cond (is_forgotten_by act v id x) None x) before)
-        where
-          -- it had no delay before, where it has none now
-          had_none : (b : Bool) → is_ended v ≡ b → v.engine.delay ≡ cond b None s.config.unacked_message_redelivery_delay → w.engine.delay ≡ None → v.engine.delay ≡ None
-          had_none true aye d none = d
-          had_none false aye d none = d ∙ sym (delays s (act ∷ h) ∙ ap (λ b. cond b None s.config.unacked_message_redelivery_delay) nay) ∙ none
-
-          earlier : w.engine.delay ≡ None → v.engine.delay ≡ None
-          earlier none = had_none (is_ended v) refl (delays s h) none
-
-  due_is_so : (h : List Act) (id : Id) → lookup (is_same_id id) (seen s h).engine.kept ≡ due_of s h id
-  due_is_so [] id = refl
-  due_is_so (act ∷ h) id = due_step act h id (due_is_so h id)
-
-pub kept_are_due : KeptAreDue
-kept_are_due s h = (ordered s h, due_is_so s h)
-
-pub checks_name_the_due : ChecksNameTheDue
-checks_name_the_due s h clock = by (is_some (link_of v))
-  where
-    v : Seen
-    v = seen s h
-
-    by : (b : Bool) → IsStrictlySortedBy id_order (cond b (due_before clock v.engine.kept) [])
-        × ((id : Id) → list_any (is_same_id id) (cond b (due_before clock v.engine.kept) []) ≡ (b && is_early clock (due_of s h id)))
-    by true = (
-      sorted_filter (is_due_before clock) v.engine.kept (ordered s h),
-      λ id. due_is clock v.engine.kept (ordered s h) id ∙ ap (is_early clock) (due_is_so s h id),
-    )
-    by false = (none_ordered, λ id. refl)

@@ -1,5 +1,5 @@
 -- What a message gives, from its parts as the code has them.
-use Rattle.std.proofs.Common.{◌≡◌, ℕ, ℤ, ◌∙◌, ap, Bool, [], ◌∷◌, refl, cond, true, false, Some, None}
+use Rattle.std.proofs.Common.{◌≡◌, ℤ, ◌∙◌, ap, [], ◌∷◌, refl, cond, true, false, Some, None}
 use Rattle.pulsar_wire.specs.Rows.{message_metadata}
 use Rattle.pulsar_wire.specs.Views.{message_id_values, message_metadata_values}
 use Rattle.pulsar_wire.specs.declared.commands.ids.MessageIdData.{MessageIdData}
@@ -10,7 +10,6 @@ use Rattle.pulsar_frame.specs.Payload.{payload_values}
 use Rattle.pulsar_frame.specs.declared.payload.Payload.{Payload}
 use Rattle.pulsar_wire.specs.Failures.{OfConsumer, ConsumerIo}
 use Rattle.pulsar_frame.specs.Items.{Item, Faulty, counted, given, int32_in, is_compressed, items_of, opened}
-use Rattle.pulsar_consumer.specs.Frames.{Frame, frame_so}
 
 compression_is : (m : MessageMetadata) → int32_in 8 message_metadata (message_metadata_values m) ≡ m.compression
 unfolding message_metadata_values
@@ -19,14 +18,6 @@ compression_is m = refl
 count_is : (m : MessageMetadata) → num_messages_in_batch (message_metadata_values m) ≡ m.num_messages_in_batch
 unfolding message_metadata_values
 count_is m = refl
-
--- a frame without items
-abbrev pub empty_of : ℕ → Frame
-empty_of weight = record { weight = weight; items = []; letters = [] }
-
-pub no_items_sorted : (is_dead : Bool) (weight : ℕ) → empty_of weight ≡ frame_so is_dead weight []
-no_items_sorted true weight = refl
-no_items_sorted false weight = refl
 
 -- the fault of a payload that is compressed
 abbrev pub unreadable : Item

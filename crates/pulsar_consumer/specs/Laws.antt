@@ -357,6 +357,29 @@ AreAmong (x ∷ xs) (y ∷ ys) = ((x ≡ y) × AreAmong xs ys) ⊎ AreAmong (x �
 abbrev pub ReceiptsLicenseAcks : Type 0
 ReceiptsLicenseAcks = (s : Setup) (h : List Act) → AreAmong (acks s h) (receipts s h)
 
+-- MOMENTS
+
+-- the moment that it was told last
+abbrev pub moment : Setup → List Act → ℕ
+moment s [] = 0
+moment s (Lives link url ∷ h) = moment s h
+moment s (Hears link f ∷ h) = moment s h
+moment s (Loses link ∷ h) = moment s h
+moment s (Fails f ∷ h) = moment s h
+moment s (Ends why ∷ h) = moment s h
+moment s (Polls clock ∷ h) = clock
+moment s (Asks ∷ h) = moment s h
+moment s (IsAt clock ∷ h) = clock
+moment s (TakesCopy ∷ h) = moment s h
+moment s (IsCopied key clock ∷ h) = if s.key == key then clock else moment s h
+moment s (FailsCopy key clock ∷ h) = if s.key == key then clock else moment s h
+moment s (Stops ∷ h) = moment s h
+moment s (Forgets id ∷ h) = moment s h
+moment s (Checks clock ∷ h) = moment s h
+
+abbrev pub MomentsAreTold : Type 0
+MomentsAreTold = (s : Setup) (h : List Act) → (seen s h).engine.clock ≡ moment s h
+
 -- MESSAGES THAT ARE GIVEN AGAIN
 
 -- the items that were placed, whether they were given or not
@@ -400,7 +423,7 @@ is_forgotten_by (Checks clock) v id due = is_some (link_of v) && is_early clock 
 abbrev pub due_now : Setup → Act → List Act → Id → (before : Option ℕ) → Option ℕ
 due_now s act h id before =
     if is_ended (seen s (act ∷ h)) then None
-    else if is_one_of id (placed_by s act h) then due_at s.config.unacked_message_redelivery_delay (seen s (act ∷ h)).engine.clock
+    else if is_one_of id (placed_by s act h) then due_at s.config.unacked_message_redelivery_delay (moment s (act ∷ h))
     else if is_forgotten_by act (seen s h) id before then None
     else before
 
@@ -421,27 +444,6 @@ ChecksNameTheDue = (s : Setup) (h : List Act) (clock : ℕ) →
     × ((id : Id) → list_any (is_same_id id) (asked_again clock (seen s h)) ≡ (is_some (link_of (seen s h)) && is_early clock (due_of s h id)))
 
 -- CHECKS
-
--- the moment that it was told last
-abbrev pub moment : Setup → List Act → ℕ
-moment s [] = 0
-moment s (Lives link url ∷ h) = moment s h
-moment s (Hears link f ∷ h) = moment s h
-moment s (Loses link ∷ h) = moment s h
-moment s (Fails f ∷ h) = moment s h
-moment s (Ends why ∷ h) = moment s h
-moment s (Polls clock ∷ h) = clock
-moment s (Asks ∷ h) = moment s h
-moment s (IsAt clock ∷ h) = clock
-moment s (TakesCopy ∷ h) = moment s h
-moment s (IsCopied key clock ∷ h) = if s.key == key then clock else moment s h
-moment s (FailsCopy key clock ∷ h) = if s.key == key then clock else moment s h
-moment s (Stops ∷ h) = moment s h
-moment s (Forgets id ∷ h) = moment s h
-moment s (Checks clock ∷ h) = moment s h
-
-abbrev pub MomentsAreTold : Type 0
-MomentsAreTold = (s : Setup) (h : List Act) → (seen s h).engine.clock ≡ moment s h
 
 -- when the next check is due: from the first subscription on, and behind each check, until the consumer has ended
 abbrev pub check_by : Setup → Act → List Act → (before : Option ℕ) → Option ℕ
@@ -466,6 +468,12 @@ check_of s (act ∷ h) = if is_ended (seen s (act ∷ h)) then None else check_b
 
 abbrev pub ChecksComeInTime : Type 0
 ChecksComeInTime = (s : Setup) (h : List Act) → (seen s h).engine.check ≡ check_of s h
+
+-- WHOSE OUTCOMES COUNT: one that was told for another consumer changes nothing, and acknowledges nothing
+
+abbrev pub OutcomesAreOwn : Type 0
+OutcomesAreOwn = (s : Setup) (h : List Act) (key clock : ℕ) → (s.key == key) ≡ false →
+    (seen s (IsCopied key clock ∷ h) ≡ seen s h) × (seen s (FailsCopy key clock ∷ h) ≡ seen s h) × (acked key (seen s h) ≡ None)
 
 -- WHERE NO DEAD LETTERS ARE ASKED FOR, all items of its arrivals are given, and none is pending
 

@@ -5,6 +5,7 @@ pub mod Counted
 pub mod Due
 pub mod Following
 pub mod Going
+pub mod Granting
 pub mod Having
 pub mod Held
 pub mod Histories

@@ -390,7 +390,7 @@ counts_first clock (Some item) v = counts clock item v
 
 -- the copy that is to be sent to the other topic now, with the key of its consumer
 abbrev pub copy_due : Seen → Option (ℕ × ProducerMessageValues)
-copy_due v = option_map (λ l. (v.key, copy_of v.topic l)) (to_copy v.engine)
+copy_due v = option_map (λ m. (v.key, m)) (option_map (copy_of v.topic) (to_copy v.engine))
 
 -- the entry that is acknowledged as its copy has its receipt, where a subscription is live then; that of another consumer acknowledges nothing
 abbrev pub acked : (key : ℕ) → Seen → Option Id

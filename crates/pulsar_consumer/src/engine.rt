@@ -306,8 +306,9 @@ impl ConsumerEngine {
         ensures named { IfOk result (λ ids. map message_id_values ids.items ≡ (if is_some self.old.live then due_before clock self.old.kept else [])) }
         ensures after { OnOk result (self.new ≡ meaning.checks clock self.old) }
     {
-        self.check = next_check(clock, self.check);
+        let next = next_check(clock, self.check);
         let named = self.name_due(clock)?;
+        self.check = next;
         Ok(named)
     }
 

@@ -31,7 +31,8 @@ module _ (s : Setup) where
   due_so : (delay : Option ℕ) (clock : ℕ) (more : List Item) (base : Kept) (id : Id) → (delay ≡ None → lookup (is_same_id id) base ≡ None) →
       lookup (is_same_id id) (keep_all (due_at delay clock) more base) ≡ cond (is_one_of id more) (due_at delay clock) (lookup (is_same_id id) base)
   due_so None clock more base id none =
-      ap (lookup (is_same_id id)) (kept_none more base) ∙ none refl ∙ sym (ap (λ x. cond (is_one_of id more) None x) (none refl) ∙ either_none (is_one_of id more))
+      ap (lookup (is_same_id id)) (kept_none more base) ∙ none refl
+      ∙ sym (ap (λ x. cond (is_one_of id more) None x) (none refl) ∙ either_none (is_one_of id more))
     where
       either_none : (b : Bool) → cond {A = Option ℕ} b None None ≡ None
       either_none true = refl
@@ -54,16 +55,20 @@ module _ (s : Setup) where
 
       by : (b : Bool) → is_ended w ≡ b →
           lookup (is_same_id id) w.engine.kept
-          ≡ cond b None (cond (is_one_of id (placed_by s act h)) (due_at s.config.unacked_message_redelivery_delay (moment s (act ∷ h))) (cond (is_forgotten_by act v id (due_of s h id)) None (due_of s h id)))
+          ≡ cond b None
+          (cond (is_one_of id (placed_by s act h)) (due_at s.config.unacked_message_redelivery_delay (moment s (act ∷ h)))
+          (cond (is_forgotten_by act v id (due_of s h id)) None (due_of s h id)))
       by true aye =
           let none : w.engine.delay ≡ None = delays s (act ∷ h) ∙ ap (λ b. cond b None s.config.unacked_message_redelivery_delay) aye in
           ap (lookup (is_same_id id)) (keeps_none s (act ∷ h) none)
       by false nay =
           let m = moves_after act v (ordered s h) nay in
-          let delay : w.engine.delay ≡ s.config.unacked_message_redelivery_delay = delays s (act ∷ h) ∙ ap (λ b. cond b None s.config.unacked_message_redelivery_delay) nay in
+          let delay : w.engine.delay ≡ s.config.unacked_message_redelivery_delay =
+          delays s (act ∷ h) ∙ ap (λ b. cond b None s.config.unacked_message_redelivery_delay) nay in
           ap (lookup (is_same_id id)) m.kept
           ∙ due_so w.engine.delay w.engine.clock m.more m.base id
-          (λ none. m.others id ∙ ap (λ x. cond (is_forgotten_by act v id x) None x) (ap (lookup (is_same_id id)) (keeps_none s h (earlier none))) ∙ gone (is_forgotten_by act v id None))
+          (λ none. m.others id ∙ ap (λ x. cond (is_forgotten_by act v id x) None x) (ap (lookup (is_same_id id)) (keeps_none s h (earlier none)))
+          ∙ gone (is_forgotten_by act v id None))
           ∙ ap (λ xs. cond (is_one_of id xs) (due_at w.engine.delay w.engine.clock) (lookup (is_same_id id) m.base)) (sym (placed_more act h m))
           ∙ ap (λ d. cond (is_one_of id (placed_by s act h)) (due_at d w.engine.clock) (lookup (is_same_id id) m.base)) delay
           ∙ ap (λ c. cond (is_one_of id (placed_by s act h)) (due_at s.config.unacked_message_redelivery_delay c) (lookup (is_same_id id) m.base))
@@ -72,7 +77,8 @@ module _ (s : Setup) where
           (m.others id ∙ ap (λ x. cond (is_forgotten_by act v id x) None x) before)
         where
           -- it had no delay before, where it has none now
-          had_none : (b : Bool) → is_ended v ≡ b → v.engine.delay ≡ cond b None s.config.unacked_message_redelivery_delay → w.engine.delay ≡ None → v.engine.delay ≡ None
+          had_none : (b : Bool) → is_ended v ≡ b → v.engine.delay ≡ cond b None s.config.unacked_message_redelivery_delay → w.engine.delay ≡ None →
+              v.engine.delay ≡ None
           had_none true aye d none = d
           had_none false aye d none = d ∙ sym (delays s (act ∷ h) ∙ ap (λ b. cond b None s.config.unacked_message_redelivery_delay) nay) ∙ none
 

@@ -33,7 +33,8 @@ property_inserted k v [] = refl
 property_inserted k v (e ∷ es) = inserted_next k v e es (by_text k e.0) refl (property_inserted k v es)
 
 -- whether there is one of a name
-found_next : {Z : Type 0} (name : List ℕ) (e : String Z × String Z) (es : List (String Z × String Z)) (b : Bool) → is_at (slice_cmp nat_cmp name) (string_bytes e.0) ≡ b →
+found_next : {Z : Type 0} (name : List ℕ) (e : String Z × String Z) (es : List (String Z × String Z)) (b : Bool) →
+    is_at (slice_cmp nat_cmp name) (string_bytes e.0) ≡ b →
     is_some (lookup (is_at (λ k. slice_cmp nat_cmp name (string_bytes k))) es) ≡ has_property name (map property es) →
     is_some (lookup (is_at (λ k. slice_cmp nat_cmp name (string_bytes k))) (e ∷ es)) ≡ has_property name (map property (e ∷ es))
 found_next name e es true h more = rw h refl
@@ -45,7 +46,8 @@ property_found name [] = refl
 property_found name (e ∷ es) = found_next name e es (is_at (slice_cmp nat_cmp name) (string_bytes e.0)) refl (property_found name es)
 
 -- one more is put behind the others
-pub put_more : (xs : List (Values key_value)) (x : Values key_value) (ps : List Property) → with_properties (xs ++ x ∷ []) ps ≡ with_property x.0 x.1.0 (with_properties xs ps)
+pub put_more : (xs : List (Values key_value)) (x : Values key_value) (ps : List Property) →
+    with_properties (xs ++ x ∷ []) ps ≡ with_property x.0 x.1.0 (with_properties xs ps)
 put_more [] (name ▸ value ▸ end) ps = refl
 put_more ((name ▸ value ▸ end) ∷ xs) x ps = put_more xs x (with_property name value ps)
 

@@ -45,15 +45,18 @@ abbrev Lightened : (all flows : ℕ) → List Frame → Option Live → Type 0
 Lightened all flows waiting None = Unit {0}
 Lightened all flows waiting (Some l) = Counted all flows waiting (Some l) × (l.weight ≡ 0)
 
-finish_counted : (all flows : ℕ) (o : Option ℕ) (batch : ℕ) (waiting : List Frame) (l : Option Live) → o ≡ Some batch → Bounded batch l → Counted all flows waiting l →
+finish_counted : (all flows : ℕ) (o : Option ℕ) (batch : ℕ) (waiting : List Frame) (l : Option Live) → o ≡ Some batch → Bounded batch l →
+    Counted all flows waiting l →
     Lightened all flows waiting (option_map (finishes o) l)
 finish_counted all flows None batch waiting l same bounds is = absurd cc
 finish_counted all flows (Some b) batch waiting None same bounds is = tt
 finish_counted all flows (Some b) batch waiting (Some l) same bounds is =
     let e : b ≡ batch = cc in
-    subst (λ n. Counted all flows waiting (Some (finishes_by n l)) × ((finishes_by n l).weight ≡ 0)) (sym e) (finishes_counted all flows batch waiting l bounds.0 is)
+    subst (λ n. Counted all flows waiting (Some (finishes_by n l)) × ((finishes_by n l).weight ≡ 0)) (sym e)
+    (finishes_counted all flows batch waiting l bounds.0 is)
 
-begin_counted : (all flows : ℕ) (f : Frame) (fs : List Frame) (l : Option Live) → Lightened all flows (f ∷ fs) l → Counted all flows fs (option_map (begins f.weight) l)
+begin_counted : (all flows : ℕ) (f : Frame) (fs : List Frame) (l : Option Live) → Lightened all flows (f ∷ fs) l →
+    Counted all flows fs (option_map (begins f.weight) l)
 begin_counted all flows f fs None is = tt
 begin_counted all flows f fs (Some l) is =
     let one = sum_by-cons (λ f. f.weight) f fs in
@@ -65,7 +68,8 @@ counted_light : (all flows : ℕ) (waiting : List Frame) (l : Option Live) → L
 counted_light all flows waiting None is = tt
 counted_light all flows waiting (Some l) is = is.0
 
-goes_counted : (all flows batch : ℕ) (fs : List Frame) (e : Engine) → e.waiting ≡ fs → e.batch ≡ Some batch → Bounded batch e.live → Counted all flows fs e.live →
+goes_counted : (all flows batch : ℕ) (fs : List Frame) (e : Engine) → e.waiting ≡ fs → e.batch ≡ Some batch → Bounded batch e.live →
+    Counted all flows fs e.live →
     Counted all flows (goes_on fs e).waiting (goes_on fs e).live
 goes_counted all flows batch [] e w size bounds is = by (is_finished e)
   where
@@ -87,14 +91,16 @@ goes_counted all flows batch (f ∷ fs) e w size bounds is =
     by false next = subst (λ fs. Counted all flows fs e.live) (sym w) is
 
 -- one more frame that waits
-waits_counted : (all flows : ℕ) (waiting : List Frame) (f : Frame) (l : Option Live) → Counted all flows waiting l → Counted (all + f.weight) flows (waiting ++ f ∷ []) l
+waits_counted : (all flows : ℕ) (waiting : List Frame) (f : Frame) (l : Option Live) → Counted all flows waiting l →
+    Counted (all + f.weight) flows (waiting ++ f ∷ []) l
 waits_counted all flows waiting f None is = tt
 waits_counted all flows waiting f (Some l) is =
     let more = sum_by_push (λ f. f.weight) waiting f in
     omega (arith, more, is)
 
 -- a flow that is asked for is due no longer
-asked_counted : (all flows : ℕ) (waiting : List Frame) (l : Option Live) → Counted all flows waiting l → Counted all (flows + unwrap_or (first_due l) 0) waiting (option_map asked l)
+asked_counted : (all flows : ℕ) (waiting : List Frame) (l : Option Live) → Counted all flows waiting l →
+    Counted all (flows + unwrap_or (first_due l) 0) waiting (option_map asked l)
 asked_counted all flows waiting None is = tt
 asked_counted all flows waiting (Some l) is = by l.due is
   where
@@ -104,7 +110,8 @@ asked_counted all flows waiting (Some l) is = by l.due is
     by (n ∷ ns) old = let one = sum_by-cons (λ n. n) n ns in omega (arith, one, old)
 
 -- the same number of all, and of flows
-recounted : (all all' flows flows' : ℕ) (waiting : List Frame) (l : Option Live) → all ≡ all' → flows ≡ flows' → Counted all flows waiting l → Counted all' flows' waiting l
+recounted : (all all' flows flows' : ℕ) (waiting : List Frame) (l : Option Live) → all ≡ all' → flows ≡ flows' → Counted all flows waiting l →
+    Counted all' flows' waiting l
 recounted all all' flows flows' waiting l same also is = subst (λ n. Counted all' n waiting l) also (subst (λ n. Counted n flows waiting l) same is)
 
 -- AN ENGINE THAT GOES ON
@@ -136,7 +143,9 @@ copied_counted : (all flows batch : ℕ) (e : Engine) → e.batch ≡ Some batch
     Counted all flows (copied e).waiting (copied e).live
 copied_counted all flows batch e size bounds is = by (is_some e.copying)
   where
-    by : (b : Bool) → Counted all flows (cond b (advances (record e { copying = None; kept = forget_one (acked_by e) e.kept })) e).waiting (cond b (advances (record e { copying = None; kept = forget_one (acked_by e) e.kept })) e).live
+    by : (b : Bool) →
+        Counted all flows (cond b (advances (record e { copying = None; kept = forget_one (acked_by e) e.kept })) e).waiting
+        (cond b (advances (record e { copying = None; kept = forget_one (acked_by e) e.kept })) e).live
     by true = advances_counted all flows batch (record e { copying = None; kept = forget_one (acked_by e) e.kept }) size bounds is
     by false = is
 
@@ -183,7 +192,8 @@ module _ (s : Setup) (raw : s.is_raw ≡ false) where
   heard h f flows is =
       let e = (seen s h).engine in
       let all = grants s h raw in
-      recounted (weights (arrivals s h) + f.weight) (weights (arrivals s h ++ f ∷ [])) flows flows (hears f e).waiting (hears f e).live (sym (sum_by_push (λ f. f.weight) (arrivals s h) f)) refl
+      recounted (weights (arrivals s h) + f.weight) (weights (arrivals s h ++ f ∷ [])) flows flows (hears f e).waiting (hears f e).live
+      (sym (sum_by_push (λ f. f.weight) (arrivals s h) f)) refl
       (heard_counted (weights (arrivals s h)) flows (batch_size s.config) f e all.0 all.1.0 is)
 
   -- an outcome came, for this consumer or for another
@@ -205,7 +215,8 @@ module _ (s : Setup) (raw : s.is_raw ≡ false) where
 
       lived : Holds (arrivals s h ++ []) (0 + weights (begun s h)) (record v.engine { live = Some (subscribed v.engine.batch link url) })
       lived =
-          subst (λ fs. Holds fs (0 + weights (begun s h)) (record v.engine { live = Some (subscribed v.engine.batch link url) })) (sym (frames_begin_in_turn s h) ∙ sym (append-nil (arrivals s h)))
+          subst (λ fs. Holds fs (0 + weights (begun s h)) (record v.engine { live = Some (subscribed v.engine.batch link url) }))
+          (sym (frames_begin_in_turn s h) ∙ sym (append-nil (arrivals s h)))
           (lives_counted (0 + weights (begun s h)) (batch_size s.config) link url v.engine.batch (begun s h) v.engine.waiting (grants s h raw).0 refl)
 
       by : (b : Bool) → Holds (arrivals s h) (asked_since s h + weighed_before s h) v.engine →
@@ -260,7 +271,8 @@ module _ (s : Setup) (raw : s.is_raw ≡ false) where
   counted (Asks ∷ h) =
       let v = seen s h in
       let first = unwrap_or (first_due v.engine.live) 0 in
-      as_before (arrivals s h) (asked_since s h + weighed_before s h + first) (asked_since s h + first + weighed_before s h) (record v.engine { live = option_map asked v.engine.live }) (omega arith)
+      as_before (arrivals s h) (asked_since s h + weighed_before s h + first) (asked_since s h + first + weighed_before s h)
+      (record v.engine { live = option_map asked v.engine.live }) (omega arith)
       (asked_counted (weights (arrivals s h)) (asked_since s h + weighed_before s h) v.engine.waiting v.engine.live (counted h))
   counted (IsAt clock ∷ h) =
       let flows = asked_since s h + weighed_before s h in as_before (arrivals s h) flows flows (clocked clock (seen s h).engine) refl (counted h)
@@ -304,6 +316,8 @@ module _ (s : Setup) (raw : s.is_raw ≡ false) where
 pub permits_are_counted : PermitsAreCounted
 permits_are_counted s h l raw is =
     let e = (seen s h).engine in
-    let all : Counted (weights (arrivals s h)) (asked_since s h + weighed_before s h) e.waiting (Some l) = subst (Counted (weights (arrivals s h)) (asked_since s h + weighed_before s h) e.waiting) is (counted s raw h) in
-    let both : weights (arrivals s h) ≡ weights (begun s h) + weights e.waiting = ap weights (frames_begin_in_turn s h) ∙ sum_by-append (λ f. f.weight) (begun s h) e.waiting in
+    let all : Counted (weights (arrivals s h)) (asked_since s h + weighed_before s h) e.waiting (Some l) =
+    subst (Counted (weights (arrivals s h)) (asked_since s h + weighed_before s h) e.waiting) is (counted s raw h) in
+    let both : weights (arrivals s h) ≡ weights (begun s h) + weights e.waiting =
+    ap weights (frames_begin_in_turn s h) ∙ sum_by-append (λ f. f.weight) (begun s h) e.waiting in
     omega (arith, all, both)

@@ -43,7 +43,8 @@ found_at q k v e es Greater h more = rw h (by (is_same_id q e.0) (is_same_id q k
         absurd (let nay : Less ≡ Greater = sym less ∙ equal in cc)
 
     by : (b c : Bool) → is_same_id q e.0 ≡ b → is_same_id q k ≡ c →
-        cond (is_same_id q e.0) (Some e.1) (lookup (is_same_id q) (insert_entry id_order es k v)) ≡ cond (is_same_id q k) (Some v) (cond (is_same_id q e.0) (Some e.1) (lookup (is_same_id q) es))
+        cond (is_same_id q e.0) (Some e.1) (lookup (is_same_id q) (insert_entry id_order es k v)) ≡ cond (is_same_id q k) (Some v)
+        (cond (is_same_id q e.0) (Some e.1) (lookup (is_same_id q) es))
     by true true here there = absurd (apart here there)
     by true false here there = rw (here, there) refl
     by false c here there = rw here more
@@ -59,7 +60,8 @@ not_cond false x = refl
 
 pub found_left : (q id : Id) (kept : Kept) → lookup (is_same_id q) (forget id kept) ≡ cond (is_same_id id q) None (lookup (is_same_id q) kept)
 found_left q id kept =
-    lookup-filter-keys (is_same_id q) (λ k. not (is_same_id id k)) (not (is_same_id id q)) (λ k here. ap (λ x. not (is_same_id id x)) (sym (is_this q k here))) kept
+    lookup-filter-keys (is_same_id q) (λ k. not (is_same_id id k)) (not (is_same_id id q))
+    (λ k here. ap (λ x. not (is_same_id id x)) (sym (is_this q k here))) kept
     ∙ not_cond (is_same_id id q) (lookup (is_same_id q) kept)
 
 pub found_left_all : (q : Id) (ids : List Id) (kept : Kept) →

@@ -44,7 +44,8 @@ pub record Follows (all : List Frame) (os : List Bool) (gave : List Item) (e : E
       begun_in d (os ++ more) room (frames ++ gs) ≡ frames ++ begun_behind (fate d more (open_of e)) (size gave e) room (λ left room. begun_in d left room gs)
 
 -- what says nothing of items and frames changes nothing
-pub renewed : {all : List Frame} {os : List Bool} {gave : List Item} (e : Engine) (live : Option Live) (delay : Option ℕ) (clock : ℕ) (kept : Kept) (check : Option ℕ) → Follows all os gave e →
+pub renewed : {all : List Frame} {os : List Bool} {gave : List Item} (e : Engine) (live : Option Live) (delay : Option ℕ) (clock : ℕ) (kept : Kept)
+    (check : Option ℕ) → Follows all os gave e →
     Follows all os gave (record e { live = live; delay = delay; clock = clock; kept = kept; check = check })
 renewed e live delay clock kept check s =
     record {
@@ -81,7 +82,8 @@ module _ (all : List Frame) (os : List Bool) (gave : List Item) where
         still = s.still;
         items = λ d more gs may.
             s.items d more gs may
-            ∙ ap (λ x. gave ++ x) (sym (split_again (e.queue - length e.unread) e.unread e.rest (behind_fate (fate d more (open_of e)) (λ left. ready_in d left gs))));
+            ∙ ap (λ x. gave ++ x)
+            (sym (split_again (e.queue - length e.unread) e.unread e.rest (behind_fate (fate d more (open_of e)) (λ left. ready_in d left gs))));
         pends = s.pends;
         begins = λ d more gs room may fits.
             s.begins d more gs room may fits
@@ -114,7 +116,8 @@ opened_pends true (l ∷ ls) d more k may =
     (subst (λ more. pending_behind (fate true more (l ∷ ls)) k ≡ k more) (sym two.1) refl)
 
 -- where so many items came before
-shifted : (x : Fate) (before n room : ℕ) (k : List Bool → ℕ → List Frame) → before ≤ room → begun_behind x n (room - before) k ≡ begun_behind x (before + n) room k
+shifted : (x : Fate) (before n room : ℕ) (k : List Bool → ℕ → List Frame) → before ≤ room →
+    begun_behind x n (room - before) k ≡ begun_behind x (before + n) room k
 shifted Pending before n room k le = refl
 shifted (Settled items left) before n room k le =
     ap (λ b. cond b [] (k left (room - before - (n + length items)))) same
@@ -140,8 +143,10 @@ opened_begins true items (l ∷ ls) d more room k may =
     let two = may refl in
     let one : begun_behind (Settled (lost_letter ∷ []) []) (length items) room k ≡ begun_behind (Settled [] []) (length (items ++ lost_letter ∷ [])) room k =
     grown_by_one (length items) room k [] ∙ ap (λ n. begun_behind (Settled [] []) n room k) (sym (length-append items (lost_letter ∷ []))) in
-    subst (λ d. begun_behind (fate d more (l ∷ ls)) (length items) room k ≡ begun_behind (Settled [] more) (length (items ++ lost_letter ∷ [])) room k) (sym two.0)
-    (subst (λ more. begun_behind (fate true more (l ∷ ls)) (length items) room k ≡ begun_behind (Settled [] more) (length (items ++ lost_letter ∷ [])) room k) (sym two.1) one)
+    subst (λ d. begun_behind (fate d more (l ∷ ls)) (length items) room k ≡ begun_behind (Settled [] more) (length (items ++ lost_letter ∷ [])) room k)
+    (sym two.0)
+    (subst (λ more. begun_behind (fate true more (l ∷ ls)) (length items) room k ≡ begun_behind (Settled [] more) (length (items ++ lost_letter ∷ [])) room k)
+    (sym two.1) one)
 
 stopped_none : (b : Bool) (ls : List Letter) → b ≡ true → cond b [] ls ≡ []
 stopped_none true ls h = refl
@@ -164,7 +169,8 @@ module _ (all : List Frame) (os : List Bool) (gave : List Item) where
             ∙ ap (λ r. gave ++ (e.unread ++ (r ++ behind_fate (fate d more (open_of e)) (λ left. ready_in d left (f ∷ gs))))) none
             ∙ ap (λ ls. gave ++ (e.unread ++ behind_fate (fate d more ls) (λ left. ready_in d left (f ∷ gs)))) none_open
             ∙ ap (λ x. gave ++ (e.unread ++ x)) (opened_items e.stopped f.items f.letters d more (λ left. ready_in d left gs) may
-            ∙ ap (λ o. (f.items ++ cond e.stopped (error_for f.letters) []) ++ behind_fate (fate d more (holding o (cond e.stopped [] f.letters))) (λ left. ready_in d left gs)) (sym idle.0));
+            ∙ ap (λ o. (f.items ++ cond e.stopped (error_for f.letters) []) ++ behind_fate (fate d more (holding o (cond e.stopped [] f.letters)))
+            (λ left. ready_in d left gs)) (sym idle.0));
         pends = λ d more gs may.
             ap (λ xs. pending_in d (os ++ more) xs) (append_assoc s.frames (f ∷ []) gs)
             ∙ s.pends d more (f ∷ gs) may
@@ -175,11 +181,14 @@ module _ (all : List Frame) (os : List Bool) (gave : List Item) where
             ap (λ xs. begun_in d (os ++ more) room xs) (append_assoc s.frames (f ∷ []) gs)
             ∙ s.begins d more (f ∷ gs) room may (earlier room fits)
             ∙ ap (λ ls. s.frames ++ begun_behind (fate d more ls) (size gave e) room (λ left room. begun_in d left room (f ∷ gs))) none_open
-            ∙ ap (λ b. s.frames ++ cond b [] (begun_in d more (room - (size gave e + 0)) (f ∷ gs))) (let nay : nat_lt room (size gave e + 0) ≡ false = grind (arith, nat_tests) in nay)
+            ∙ ap (λ b. s.frames ++ cond b [] (begun_in d more (room - (size gave e + 0)) (f ∷ gs)))
+            (let nay : nat_lt room (size gave e + 0) ≡ false = grind (arith, nat_tests) in nay)
             ∙ ap (λ n. s.frames ++ begun_in d more (room - n) (f ∷ gs)) (let e0 : size gave e + 0 ≡ size gave e = omega arith in e0)
             ∙ ap (λ xs. s.frames ++ (f ∷ xs)) (opened_begins e.stopped f.items f.letters d more (room - size gave e) (λ left room. begun_in d left room gs) may
-            ∙ shifted (fate d more (holding None (cond e.stopped [] f.letters))) (size gave e) (length (f.items ++ cond e.stopped (error_for f.letters) [])) room (λ left room. begun_in d left room gs) fits
-            ∙ ap (λ o. begun_behind (fate d more (holding o (cond e.stopped [] f.letters))) (size gave e + length (f.items ++ cond e.stopped (error_for f.letters) [])) room (λ left room. begun_in d left room gs)) (sym idle.0)
+            ∙ shifted (fate d more (holding None (cond e.stopped [] f.letters))) (size gave e)
+            (length (f.items ++ cond e.stopped (error_for f.letters) [])) room (λ left room. begun_in d left room gs) fits
+            ∙ ap (λ o. begun_behind (fate d more (holding o (cond e.stopped [] f.letters)))
+            (size gave e + length (f.items ++ cond e.stopped (error_for f.letters) [])) room (λ left room. begun_in d left room gs)) (sym idle.0)
             ∙ ap (λ n. begun_behind (fate d more (holding e.copying (cond e.stopped [] f.letters))) n room (λ left room. begun_in d left room gs)) larger)
             ∙ sym (append_assoc s.frames (f ∷ []) _);
       }
@@ -239,7 +248,8 @@ hears_follows all os gave f e le s =
 
 -- AN ITEM IS GIVEN
 
-gives_from_follows : (all : List Frame) (os : List Bool) (gave : List Item) (us : List Item) (e : Engine) → e.unread ≡ us → length e.unread ≤ e.queue → Follows all os gave e →
+gives_from_follows : (all : List Frame) (os : List Bool) (gave : List Item) (us : List Item) (e : Engine) → e.unread ≡ us → length e.unread ≤ e.queue →
+    Follows all os gave e →
     Follows all os (gave ++ one_of (first_of us)) (gives_from us e)
 gives_from_follows all os gave [] e w le s = subst (λ xs. Follows all os xs e) (sym (append-nil gave)) s
 gives_from_follows all os gave (x ∷ xs) e w le s =
@@ -282,7 +292,8 @@ any_letter d [] l m ls = refl
 any_letter d (true ∷ os) l m ls = refl
 any_letter d (false ∷ os) l m ls = refl
 
-takes_from_follows : (all : List Frame) (os : List Bool) (gave : List Item) (ls : List Letter) (e : Engine) → e.copying ≡ None → e.letters ≡ ls → Follows all os gave e →
+takes_from_follows : (all : List Frame) (os : List Bool) (gave : List Item) (ls : List Letter) (e : Engine) → e.copying ≡ None → e.letters ≡ ls →
+    Follows all os gave e →
     Follows all os gave (takes_copy_from ls e)
 takes_from_follows all os gave [] e none w s = s
 takes_from_follows all os gave (l ∷ ls) e none w s =
@@ -348,10 +359,13 @@ module _ (all : List Frame) (os : List Bool) (gave : List Item) where
             ∙ ap (λ o. s.frames ++ begun_behind (fate d (true ∷ more) (holding o e.letters)) (size gave e) room (λ left room. begun_in d left room gs)) is;
       }
 
-  pub copied_follows : (e : Engine) → length e.unread ≤ e.queue → Follows all os gave e → Follows all (os ++ outcome_if (is_some e.copying) true) gave (copied e)
+  pub copied_follows : (e : Engine) → length e.unread ≤ e.queue → Follows all os gave e →
+      Follows all (os ++ outcome_if (is_some e.copying) true) gave (copied e)
   copied_follows e le s = by e.copying refl
     where
-      by : (o : Option Id) → e.copying ≡ o → Follows all (os ++ outcome_if (is_some o) true) gave (cond (is_some o) (advances (record e { copying = None; kept = forget_one (acked_by e) e.kept })) e)
+      by : (o : Option Id) → e.copying ≡ o →
+          Follows all (os ++ outcome_if (is_some o) true) gave
+          (cond (is_some o) (advances (record e { copying = None; kept = forget_one (acked_by e) e.kept })) e)
       by None none = subst (λ xs. Follows all xs gave e) (sym (append-nil os)) s
       by (Some id) is =
           advances_follows all (os ++ true ∷ []) gave (record e { copying = None; kept = forget_one (acked_by e) e.kept }) le
@@ -394,7 +408,8 @@ module _ (all : List Frame) (os : List Bool) (gave : List Item) where
             ∙ ap (λ n. begun_behind (Settled [] more) n room (λ left room. begun_in d left room gs)) (larger_by_one gave e));
       }
 
-  pub failed_follows : (e : Engine) → length e.unread ≤ e.queue → Follows all os gave e → Follows all (os ++ outcome_if (is_some e.copying) false) gave (copy_failed e)
+  pub failed_follows : (e : Engine) → length e.unread ≤ e.queue → Follows all os gave e →
+      Follows all (os ++ outcome_if (is_some e.copying) false) gave (copy_failed e)
   failed_follows e le s = by e.copying refl
     where
       by : (o : Option Id) → e.copying ≡ o → Follows all (os ++ outcome_if (is_some o) false) gave (cond (is_some o) (gives_up e) e)
@@ -418,7 +433,8 @@ module _ (all : List Frame) (os : List Bool) (gave : List Item) where
       }
 
   -- what is none_open comes to an error
-  stop_fails : (e : Engine) (l : Letter) (ls : List Letter) → open_of e ≡ l ∷ ls → Follows all os gave e → Follows all os gave (given_up (record e { stopped = true }))
+  stop_fails : (e : Engine) (l : Letter) (ls : List Letter) → open_of e ≡ l ∷ ls → Follows all os gave e →
+      Follows all os gave (given_up (record e { stopped = true }))
   stop_fails e l ls is s =
       record {
         frames = s.frames;
@@ -452,7 +468,8 @@ module _ (all : List Frame) (os : List Bool) (gave : List Item) where
       idle_open : is_pending e ≡ false → open_of e ≡ []
       idle_open nay = let two = is_idle e nay in ap (λ o. holding o e.letters) two.0 ∙ two.1
 
-      some_there : (o : Option Id) (ls : List Letter) → e.copying ≡ o → e.letters ≡ ls → is_pending e ≡ true → Follows all os gave (given_up (record e { stopped = true }))
+      some_there : (o : Option Id) (ls : List Letter) → e.copying ≡ o → e.letters ≡ ls → is_pending e ≡ true →
+          Follows all os gave (given_up (record e { stopped = true }))
       some_there (Some id) ls c w aye = stop_fails e _ e.letters (ap (λ o. holding o e.letters) c) s
       some_there None (l ∷ ls) c w aye = stop_fails e l ls (ap (λ o. holding o e.letters) c ∙ w) s
       some_there None [] c w aye = absurd (nothing_open e.copying e.letters c w aye)

@@ -20,7 +20,8 @@ Grants batch e = (e.batch ≡ Some batch) × InBounds batch e
 abbrev Granting : ℕ → Engine → Type 0
 Granting batch e = (e.batch ≡ Some batch) × Bounded batch e.live
 
-lives_bounded : (o : Option ℕ) (batch link : ℕ) (url : Parts) → o ≡ Some batch → Bounded batch (Some (subscribed o link url)) × ((subscribed o link url).weight ≡ 0)
+lives_bounded : (o : Option ℕ) (batch link : ℕ) (url : Parts) → o ≡ Some batch →
+    Bounded batch (Some (subscribed o link url)) × ((subscribed o link url).weight ≡ 0)
 lives_bounded None batch link url is = absurd cc
 lives_bounded (Some b) batch link url is =
     let same : b ≡ batch = cc in ((omega (arith, same), subst (λ n. half batch ≤ n) (sym same) (subscribed_bounded batch)), refl)

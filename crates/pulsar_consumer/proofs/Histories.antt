@@ -241,7 +241,8 @@ stopped_after (Fails f) h v p = by (is_ended v)
     by false = hears_halts (is_stopped h) (failed f) v.engine p
 stopped_after (Ends why) h v p = p
 stopped_after (Polls clock) h v p =
-    subst (λ e. e.stopped ≡ is_stopped h) (sym (counted_same (first_of v.engine.unread) clock (polls_at clock v)).0) (gives_halts (is_stopped h) (clocked clock v.engine) p)
+    subst (λ e. e.stopped ≡ is_stopped h) (sym (counted_same (first_of v.engine.unread) clock (polls_at clock v)).0)
+    (gives_halts (is_stopped h) (clocked clock v.engine) p)
 stopped_after Asks h v p = p
 stopped_after (IsAt clock) h v p = p
 stopped_after TakesCopy h v p = takes_halts (is_stopped h) v.engine p
@@ -282,13 +283,15 @@ unchanged {all} {os} {gave} e s =
     (subst (λ xs. Follows all os xs e) (sym (append-nil gave)) s))
 
 -- a frame came
-came : (all : List Frame) (os : List Bool) (gave : List Item) (f : Frame) (e : Engine) → Follows (all ++ f ∷ []) os gave e → Follows (all ++ f ∷ []) (os ++ []) (gave ++ []) e
+came : (all : List Frame) (os : List Bool) (gave : List Item) (f : Frame) (e : Engine) → Follows (all ++ f ∷ []) os gave e →
+    Follows (all ++ f ∷ []) (os ++ []) (gave ++ []) e
 came all os gave f e s =
     subst (λ xs. Follows (all ++ f ∷ []) xs (gave ++ []) e) (sym (append-nil os))
     (subst (λ xs. Follows (all ++ f ∷ []) os xs e) (sym (append-nil gave)) s)
 
 -- an outcome came
-settled_one : (all : List Frame) (os : List Bool) (gave : List Item) (more : List Bool) (e : Engine) → Follows all (os ++ more) gave e → Follows (all ++ []) (os ++ more) (gave ++ []) e
+settled_one : (all : List Frame) (os : List Bool) (gave : List Item) (more : List Bool) (e : Engine) → Follows all (os ++ more) gave e →
+    Follows (all ++ []) (os ++ more) (gave ++ []) e
 settled_one all os gave more e s =
     subst (λ xs. Follows xs (os ++ more) (gave ++ []) e) (sym (append-nil all))
     (subst (λ xs. Follows all (os ++ more) xs e) (sym (append-nil gave)) s)
@@ -306,7 +309,9 @@ module _ (all : List Frame) (os : List Bool) (gave : List Item) where
     where
       by : (b : Bool) → Follows (all ++ []) (os ++ []) (gave ++ []) (cond b v (subscribed_again link url v)).engine
       by true = unchanged v.engine s
-      by false = unchanged _ (renewed v.engine (Some (subscribed v.engine.batch link url)) v.engine.delay v.engine.clock v.engine.kept (lives link url v.engine).check s)
+      by false =
+          unchanged _
+          (renewed v.engine (Some (subscribed v.engine.batch link url)) v.engine.delay v.engine.clock v.engine.kept (lives link url v.engine).check s)
   follows_after (Hears link f) v le s = by (lives_on link v)
     where
       by : (b : Bool) → Follows (all ++ cond b (frame_for v f ∷ []) []) (os ++ []) (gave ++ []) (cond b (heard f v) v).engine
@@ -328,7 +333,8 @@ module _ (all : List Frame) (os : List Bool) (gave : List Item) where
   follows_after (Ends why) v le s = unchanged _ (shut_follows v.engine s)
   follows_after (Polls clock) v le s =
       subst (λ e. Follows (all ++ []) (os ++ []) (gave ++ item_in (polled v)) e) (sym (counted_same (first_of v.engine.unread) clock (polls_at clock v)).0)
-      (subst (λ g. Follows (all ++ []) (os ++ []) (gave ++ g) (gives (clocked clock v.engine))) (sym (polled_one (first_of v.engine.unread) (over (is_pending v.engine) v.ended)))
+      (subst (λ g. Follows (all ++ []) (os ++ []) (gave ++ g) (gives (clocked clock v.engine)))
+      (sym (polled_one (first_of v.engine.unread) (over (is_pending v.engine) v.ended)))
       (subst (λ xs. Follows xs (os ++ []) (gave ++ one_of (first_of v.engine.unread)) (gives (clocked clock v.engine))) (sym (append-nil all))
       (subst (λ xs. Follows all xs (gave ++ one_of (first_of v.engine.unread)) (gives (clocked clock v.engine))) (sym (append-nil os))
       (gives_follows all os gave (clocked clock v.engine) le (clocked_follows clock v.engine s)))))
@@ -340,24 +346,28 @@ module _ (all : List Frame) (os : List Bool) (gave : List Item) where
       by : (b : Bool) → Follows (all ++ []) (os ++ outcome_if (b && is_some v.engine.copying) true) (gave ++ [])
           (cond b (record v { engine = copied (clocked clock v.engine) }) v).engine
       by true =
-          settled_one all os gave (outcome_if (is_some v.engine.copying) true) _ (copied_follows all os gave (clocked clock v.engine) le (clocked_follows clock v.engine s))
+          settled_one all os gave (outcome_if (is_some v.engine.copying) true) _
+          (copied_follows all os gave (clocked clock v.engine) le (clocked_follows clock v.engine s))
       by false = unchanged v.engine s
   follows_after (FailsCopy key clock) v le s = by (v.key == key)
     where
       by : (b : Bool) → Follows (all ++ []) (os ++ outcome_if (b && is_some v.engine.copying) false) (gave ++ [])
           (cond b (record v { engine = copy_failed (clocked clock v.engine) }) v).engine
       by true =
-          settled_one all os gave (outcome_if (is_some v.engine.copying) false) _ (failed_follows all os gave (clocked clock v.engine) le (clocked_follows clock v.engine s))
+          settled_one all os gave (outcome_if (is_some v.engine.copying) false) _
+          (failed_follows all os gave (clocked clock v.engine) le (clocked_follows clock v.engine s))
       by false = unchanged v.engine s
   follows_after Stops v le s = unchanged _ (stops_follows all os gave v.engine le s)
   follows_after (Forgets id) v le s = unchanged _ (renewed v.engine v.engine.live v.engine.delay v.engine.clock (forget id v.engine.kept) v.engine.check s)
   follows_after (Checks clock) v le s = by (is_some v.engine.live)
     where
       by : (b : Bool) → Follows (all ++ []) (os ++ []) (gave ++ [])
-          (record (cond b (record v.engine { kept = forget_all (due_before clock v.engine.kept) v.engine.kept }) v.engine) { check = next_check clock v.engine.check })
+          (record (cond b
+          (record v.engine { kept = forget_all (due_before clock v.engine.kept) v.engine.kept }) v.engine) { check = next_check clock v.engine.check })
       by true =
           unchanged _
-          (renewed v.engine v.engine.live v.engine.delay v.engine.clock (forget_all (due_before clock v.engine.kept) v.engine.kept) (next_check clock v.engine.check) s)
+          (renewed v.engine v.engine.live v.engine.delay v.engine.clock (forget_all (due_before clock v.engine.kept) v.engine.kept)
+          (next_check clock v.engine.check) s)
       by false = unchanged _ (renewed v.engine v.engine.live v.engine.delay v.engine.clock v.engine.kept (next_check clock v.engine.check) s)
 
 pub follows : (s : Setup) (h : List Act) → Follows (arrivals s h) (outcomes s h) (given s h) (seen s h).engine
@@ -374,7 +384,8 @@ follows s [] =
       begins = λ d more gs room may fits. sym (no_room more gs d room);
     }
   where
-    no_room : (more : List Bool) (gs : List Frame) (d : Bool) (room : ℕ) → begun_behind (Settled [] more) 0 room (λ left room. begun_in d left room gs) ≡ begun_in d more room gs
+    no_room : (more : List Bool) (gs : List Frame) (d : Bool) (room : ℕ) →
+        begun_behind (Settled [] more) 0 room (λ left room. begun_in d left room gs) ≡ begun_in d more room gs
     no_room more gs d room =
         ap (λ b. cond b [] (begun_in d more (room - 0) gs)) (let nay : nat_lt room (0 + 0) ≡ false = grind (arith, nat_tests) in nay)
         ∙ ap (λ n. begun_in d more n gs) (let same : room - 0 ≡ room = omega arith in same)
@@ -439,7 +450,8 @@ module _ (s : Setup) (h : List Act) where
       by : (b : Bool) → no_items now.rest ≡ b → now.unread ≡ take now.queue (now.unread ++ (now.rest ++ held_back))
       by true none =
           let rest = none_left now.rest none in
-          let same : now.unread ++ (now.rest ++ held_back) ≡ now.unread = ap (λ r. now.unread ++ (r ++ held_back)) rest ∙ ap (λ x. now.unread ++ x) (nothing_behind rest) ∙ append-nil now.unread in
+          let same : now.unread ++ (now.rest ++ held_back) ≡ now.unread =
+          ap (λ r. now.unread ++ (r ++ held_back)) rest ∙ ap (λ x. now.unread ++ x) (nothing_behind rest) ∙ append-nil now.unread in
           sym (ap (λ x. take now.queue x) same ∙ take_all now.queue now.unread (settled s h).0.0)
       by false more =
           let len : length now.unread ≡ now.queue = (settled s h).0.1 more in
@@ -491,7 +503,8 @@ module _ (s : Setup) (h : List Act) where
       some_open None (l ∷ ls) c w aye = found _ (ap (λ o. holding o now.letters) c ∙ w) l ls refl (is_stopped h) refl
       some_open None [] c w aye = absurd (nothing_open now.copying now.letters c w aye)
 
-      by : (b : Bool) → is_pending now ≡ b → pending_behind (fate (is_stopped h) [] (open_of now)) (λ left. pending_in (is_stopped h) left now.waiting) ≡ is_pending now
+      by : (b : Bool) → is_pending now ≡ b →
+          pending_behind (fate (is_stopped h) [] (open_of now)) (λ left. pending_in (is_stopped h) left now.waiting) ≡ is_pending now
       by true aye = some_open now.copying now.letters refl refl aye ∙ sym aye
       by false nay =
           let idle_now = is_idle now nay in
@@ -501,7 +514,8 @@ module _ (s : Setup) (h : List Act) where
           ∙ sym nay
 
   -- the frames that are begun are those that don't wait
-  begun_rest : begun_behind (fate (is_stopped h) [] (open_of now)) (size (given s h) now) (length (given s h) + queue s) (λ left room. begun_in (is_stopped h) left room now.waiting) ≡ []
+  begun_rest : begun_behind (fate (is_stopped h) [] (open_of now)) (size (given s h) now) (length (given s h) + queue s)
+  (λ left room. begun_in (is_stopped h) left room now.waiting) ≡ []
   begun_rest = by (no_items now.rest) refl
     where
       full_so : (x : Fate) (n room : ℕ) (k : List Bool → ℕ → List Frame) → room < n → begun_behind x n room k ≡ []
@@ -514,38 +528,47 @@ module _ (s : Setup) (h : List Act) where
       either_none false = refl
 
       stuck_so : (ls : List Letter) → open_of now ≡ ls → (l : Letter) (more : List Letter) → ls ≡ l ∷ more → (d : Bool) → is_stopped h ≡ d →
-          begun_behind (fate (is_stopped h) [] (open_of now)) (size (given s h) now) (length (given s h) + queue s) (λ left room. begun_in (is_stopped h) left room now.waiting) ≡ []
+          begun_behind (fate (is_stopped h) [] (open_of now)) (size (given s h) now) (length (given s h) + queue s)
+          (λ left room. begun_in (is_stopped h) left room now.waiting) ≡ []
       stuck_so ls is l more w true aye =
           let bad : ls ≡ [] = sym is ∙ (follows s h).still (halted s h ∙ aye) in
           absurd (let nay : l ∷ more ≡ [] = sym w ∙ bad in cc)
       stuck_so ls is l more w false nay =
-          ap (λ d. begun_behind (fate d [] (open_of now)) (size (given s h) now) (length (given s h) + queue s) (λ left room. begun_in (is_stopped h) left room now.waiting)) nay
-          ∙ ap (λ ls. begun_behind (fate false [] ls) (size (given s h) now) (length (given s h) + queue s) (λ left room. begun_in (is_stopped h) left room now.waiting)) (is ∙ w)
+          ap (λ d. begun_behind (fate d [] (open_of now)) (size (given s h) now) (length (given s h) + queue s)
+          (λ left room. begun_in (is_stopped h) left room now.waiting)) nay
+          ∙ ap (λ ls. begun_behind (fate false [] ls) (size (given s h) now) (length (given s h) + queue s)
+          (λ left room. begun_in (is_stopped h) left room now.waiting)) (is ∙ w)
 
       some_open : (o : Option Id) (ls : List Letter) → now.copying ≡ o → now.letters ≡ ls → is_pending now ≡ true →
-          begun_behind (fate (is_stopped h) [] (open_of now)) (size (given s h) now) (length (given s h) + queue s) (λ left room. begun_in (is_stopped h) left room now.waiting) ≡ []
+          begun_behind (fate (is_stopped h) [] (open_of now)) (size (given s h) now) (length (given s h) + queue s)
+          (λ left room. begun_in (is_stopped h) left room now.waiting) ≡ []
       some_open (Some id) ls c w aye = stuck_so _ (ap (λ o. holding o now.letters) c) _ now.letters refl (is_stopped h) refl
       some_open None (l ∷ ls) c w aye = stuck_so _ (ap (λ o. holding o now.letters) c ∙ w) l ls refl (is_stopped h) refl
       some_open None [] c w aye = absurd (nothing_open now.copying now.letters c w aye)
 
       done : (b : Bool) → now.rest ≡ [] → is_pending now ≡ b →
-          begun_behind (fate (is_stopped h) [] (open_of now)) (size (given s h) now) (length (given s h) + queue s) (λ left room. begun_in (is_stopped h) left room now.waiting) ≡ []
+          begun_behind (fate (is_stopped h) [] (open_of now)) (size (given s h) now) (length (given s h) + queue s)
+          (λ left room. begun_in (is_stopped h) left room now.waiting) ≡ []
       done true none aye = some_open now.copying now.letters refl refl aye
       done false none nay =
           let idle_now = is_idle now nay in
           let none_open : open_of now ≡ [] = ap (λ o. holding o now.letters) idle_now.0 ∙ idle_now.1 in
-          ap (λ ls. begun_behind (fate (is_stopped h) [] ls) (size (given s h) now) (length (given s h) + queue s) (λ left room. begun_in (is_stopped h) left room now.waiting)) none_open
-          ∙ ap (λ fs. begun_behind (Settled [] []) (size (given s h) now) (length (given s h) + queue s) (λ left room. begun_in (is_stopped h) left room fs)) ((settled s h).1 (done_of now.rest (is_pending now) none nay))
+          ap (λ ls. begun_behind (fate (is_stopped h) [] ls) (size (given s h) now) (length (given s h) + queue s)
+          (λ left room. begun_in (is_stopped h) left room now.waiting)) none_open
+          ∙ ap (λ fs. begun_behind (Settled [] []) (size (given s h) now) (length (given s h) + queue s) (λ left room. begun_in (is_stopped h) left room fs))
+          ((settled s h).1 (done_of now.rest (is_pending now) none nay))
           ∙ either_none (nat_lt (length (given s h) + queue s) (size (given s h) now + 0))
 
       by : (b : Bool) → no_items now.rest ≡ b →
-          begun_behind (fate (is_stopped h) [] (open_of now)) (size (given s h) now) (length (given s h) + queue s) (λ left room. begun_in (is_stopped h) left room now.waiting) ≡ []
+          begun_behind (fate (is_stopped h) [] (open_of now)) (size (given s h) now) (length (given s h) + queue s)
+          (λ left room. begun_in (is_stopped h) left room now.waiting) ≡ []
       by true none = done (is_pending now) (none_left now.rest none) refl
       by false more =
           let full : length now.unread ≡ now.queue = (settled s h).0.1 more in
           let some : 0 < length now.rest = some_in now.rest more in
           let same : now.queue ≡ queue s = (sizes s h).0 in
-          full_so (fate (is_stopped h) [] (open_of now)) (size (given s h) now) (length (given s h) + queue s) (λ left room. begun_in (is_stopped h) left room now.waiting)
+          full_so (fate (is_stopped h) [] (open_of now)) (size (given s h) now) (length (given s h) + queue s)
+          (λ left room. begun_in (is_stopped h) left room now.waiting)
           (omega (arith, full, some, same))
 
   begun_is : begun s h ≡ (follows s h).frames
@@ -562,7 +585,8 @@ module _ (s : Setup) (h : List Act) where
 pub polls_give_arrivals : PollsGiveArrivals
 polls_give_arrivals s h = ap (λ x. given s h ++ x) (left_is s h) ∙ sym (ready_is s h)
 
-polled_same : (us : List Item) (o : Option Item) (p q : Bool) (why : Option Ending) → first_of us ≡ o → (us ≡ [] → p ≡ q) → polled_from (first_of us) (over p why) ≡ polled_from o (over q why)
+polled_same : (us : List Item) (o : Option Item) (p q : Bool) (why : Option Ending) → first_of us ≡ o → (us ≡ [] → p ≡ q) →
+    polled_from (first_of us) (over p why) ≡ polled_from o (over q why)
 polled_same [] o p q why e same = ap (λ o. polled_from o (over p why)) e ∙ ap (λ b. polled_from o (over b why)) (same refl)
 polled_same (x ∷ xs) o p q why e same = ap (λ o. polled_from o (over p why)) e ∙ item_anyway o (sym e)
   where
@@ -675,7 +699,8 @@ stays_after (Hears link f) v why is dead =
 stays_after (Loses link) v why is dead =
     (lives_stays (lives_on link v) why (loses v) v (lives_stays v.is_raw why (ends LinkLost v) (lost v) (or_first v.ended why LinkLost is) is) is, refl)
 stays_after (Fails f) v why is dead =
-    (lives_stays (is_ended v) why v (ends NotSubscribed (refused (failed f) v)) is (or_first v.ended why NotSubscribed is), ap (λ b. cond b [] (failed f ∷ [])) (ended_not v.ended why is))
+    (lives_stays (is_ended v) why v (ends NotSubscribed (refused (failed f) v)) is (or_first v.ended why NotSubscribed is), ap (λ b. cond b [] (failed f ∷ []))
+    (ended_not v.ended why is))
 stays_after (Ends other) v why is dead = (or_first v.ended why other is, refl)
 stays_after (Polls clock) v why is dead = ((counted_same (first_of v.engine.unread) clock (polls_at clock v)).1 ∙ is, refl)
 stays_after Asks v why is dead = (is, refl)

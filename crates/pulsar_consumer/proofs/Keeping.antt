@@ -54,7 +54,8 @@ exact_id (a, (b, (c, (d, (e, (f, u)))))) (a', (b', (c', (d', (e', (f', u')))))) 
     let p3 = both_equal _ _ p4.0 in
     let p2 = both_equal _ _ p3.0 in
     let p1 = both_equal _ _ p2.0 in
-    λ i. (exact_unsigned a a' p1.0 i, (exact_unsigned b b' p1.1 i, (exact_option c c' p2.1 i, (exact_option d d' p3.1 i, (exact_list e e' p4.1 i, (exact_option f f' p5.1 i, tt))))))
+    λ i. (exact_unsigned a a' p1.0 i,
+    (exact_unsigned b b' p1.1 i, (exact_option c c' p2.1 i, (exact_option d d' p3.1 i, (exact_list e e' p4.1 i, (exact_option f f' p5.1 i, tt))))))
 
 pub is_this : (a b : Id) → is_same_id a b ≡ true → a ≡ b
 is_this a b h = tells_apart exact_id a b h
@@ -65,7 +66,8 @@ pub unlisted : (m : ℕ) (here was is : Bool) (before old : Option ℕ) → is �
     was ≡ is_moment m old → (here ≡ true → old ≡ before) → is ≡ is_moment m (cond here None old)
 unlisted m here was is before old e w h = by (is_moment m before) refl here e h
   where
-    by : (same : Bool) → is_moment m before ≡ same → (b : Bool) → is ≡ cond (is_moment m before && b) false was → (b ≡ true → old ≡ before) → is ≡ is_moment m (cond b None old)
+    by : (same : Bool) → is_moment m before ≡ same → (b : Bool) → is ≡ cond (is_moment m before && b) false was → (b ≡ true → old ≡ before) →
+        is ≡ is_moment m (cond b None old)
     by true s true e h = e ∙ ap (λ t. cond (t && true) false was) s
     by true s false e h = e ∙ ap (λ t. cond (t && false) false was) s ∙ w
     by false s true e h = e ∙ ap (λ t. cond (t && true) false was) s ∙ w ∙ ap (is_moment m) (h refl) ∙ s

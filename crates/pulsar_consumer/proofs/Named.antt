@@ -73,13 +73,16 @@ as_from d b e u k l c p =
     record {
       more = p.more;
       unread = p.unread ∙ ap (λ x. x ++ p.more) u;
-      kept = p.kept ∙ ap (λ x. keep_all (due_at x b.clock) p.more b.kept) l ∙ ap (λ x. keep_all (due_at e.delay x) p.more b.kept) c ∙ ap (keep_all (due_at e.delay e.clock) p.more) k;
+      kept =
+          p.kept ∙ ap (λ x. keep_all (due_at x b.clock) p.more b.kept) l ∙ ap (λ x. keep_all (due_at e.delay x) p.more b.kept) c
+          ∙ ap (keep_all (due_at e.delay e.clock) p.more) k;
       delay = p.delay ∙ l;
       clock = p.clock ∙ c;
     }
 
 pub hears_more : (f : Frame) (e : Engine) → Places (hears f e) e
-hears_more f e = as_from (hears f e) (record e { waiting = e.waiting ++ f ∷ [] }) e refl refl refl refl (advances_more (record e { waiting = e.waiting ++ f ∷ [] }))
+hears_more f e =
+    as_from (hears f e) (record e { waiting = e.waiting ++ f ∷ [] }) e refl refl refl refl (advances_more (record e { waiting = e.waiting ++ f ∷ [] }))
 
 pub takes_more : (e : Engine) → Places (takes_copy e) e
 takes_more e = by (is_some e.copying) e.letters
@@ -100,8 +103,12 @@ none_acked false old = refl
 pub copied_more : (e : Engine) → Places (copied e) (forgot e)
 copied_more e = by e.copying refl
   where
-    by : (o : Option Id) → e.copying ≡ o → Places (cond (is_some o) (advances (record e { copying = None; kept = forget_one (acked_by e) e.kept })) e) (forgot e)
-    by (Some id) c = as_from (advances (record e { copying = None; kept = forget_one (acked_by e) e.kept })) (record e { copying = None; kept = forget_one (acked_by e) e.kept }) (forgot e) refl refl refl refl (advances_more (record e { copying = None; kept = forget_one (acked_by e) e.kept }))
+    by : (o : Option Id) → e.copying ≡ o →
+        Places (cond (is_some o) (advances (record e { copying = None; kept = forget_one (acked_by e) e.kept })) e) (forgot e)
+    by (Some id) c =
+        as_from (advances (record e { copying = None; kept = forget_one (acked_by e) e.kept }))
+        (record e { copying = None; kept = forget_one (acked_by e) e.kept }) (forgot e) refl refl refl refl
+        (advances_more (record e { copying = None; kept = forget_one (acked_by e) e.kept }))
     by None c =
         record {
           more = [];
@@ -323,7 +330,8 @@ pub record Moves (act : Act) (v w : Seen) : Type 0 where
   pub items : given_by act v ++ w.engine.unread ≡ v.engine.unread ++ more
   pub base : Kept
   pub kept : w.engine.kept ≡ keep_all (due_at w.engine.delay w.engine.clock) more base
-  pub others : (id : Id) → lookup (is_same_id id) base ≡ cond (is_forgotten_by act v id (lookup (is_same_id id) v.engine.kept)) None (lookup (is_same_id id) v.engine.kept)
+  pub others : (id : Id) →
+      lookup (is_same_id id) base ≡ cond (is_forgotten_by act v id (lookup (is_same_id id) v.engine.kept)) None (lookup (is_same_id id) v.engine.kept)
 
 -- nothing is placed, and nothing forgotten
 stays_so : (act : Act) (v w : Seen) → given_by act v ≡ [] → w.engine.unread ≡ v.engine.unread → w.engine.kept ≡ v.engine.kept →
@@ -378,14 +386,16 @@ moves_after (Loses link) v in_order not_so = by (lives_on link v) v.is_raw not_s
     by false c nay = stays_so (Loses link) v v refl refl refl (λ id due. refl)
 moves_after (Fails f) v in_order not_so = by (is_ended v) refl not_so
   where
-    by : (b : Bool) → is_ended v ≡ b → is_ended (cond b v (ends NotSubscribed (refused (failed f) v))) ≡ false → Moves (Fails f) v (cond b v (ends NotSubscribed (refused (failed f) v)))
+    by : (b : Bool) → is_ended v ≡ b → is_ended (cond b v (ends NotSubscribed (refused (failed f) v))) ≡ false →
+        Moves (Fails f) v (cond b v (ends NotSubscribed (refused (failed f) v)))
     by true aye nay = absurd (let bad : true ≡ false = sym aye ∙ nay in cc)
     by false aye nay = absurd (no_end v.ended NotSubscribed nay)
 moves_after (Ends why) v in_order not_so = absurd (no_end v.ended why not_so)
 moves_after (Polls clock) v in_order not_so =
     let p = gives_more v.engine.unread (clocked clock v.engine) refl in
     let e = gives (clocked clock v.engine) in
-    let same : (counts_first clock (first_of v.engine.unread) (polls_at clock v)).engine ≡ e = (counted_same (first_of v.engine.unread) clock (polls_at clock v)).0 in
+    let same : (counts_first clock (first_of v.engine.unread) (polls_at clock v)).engine ≡ e =
+    (counted_same (first_of v.engine.unread) clock (polls_at clock v)).0 in
     record {
       more = p.more;
       items =
@@ -461,7 +471,8 @@ moves_after (Checks clock) v in_order not_so = by (is_some v.engine.live) refl
           others = λ id.
               found_left_all id (due_before clock v.engine.kept) v.engine.kept
               ∙ ap (λ b. cond b None (lookup (is_same_id id) v.engine.kept)) (due_is clock v.engine.kept in_order id)
-              ∙ ap (λ b. cond (b && is_early clock (lookup (is_same_id id) v.engine.kept)) None (lookup (is_same_id id) v.engine.kept)) (sym (live_link v.engine.live ∙ aye));
+              ∙ ap (λ b. cond (b && is_early clock (lookup (is_same_id id) v.engine.kept)) None (lookup (is_same_id id) v.engine.kept))
+              (sym (live_link v.engine.live ∙ aye));
         }
     by false nay =
         stays_so (Checks clock) v _ refl refl refl (λ id due. ap (λ b. b && is_early clock due) (live_link v.engine.live ∙ nay))

@@ -49,12 +49,15 @@ module _ (P B : Engine → Type 0) (weak : (e : Engine) → P e → B e) (on : (
   copied_so e p = by (is_some e.copying)
     where
       by : (b : Bool) → P (cond b (advances (record e { copying = None; kept = forget_one (acked_by e) e.kept })) e)
-      by true = on (record e { copying = None; kept = forget_one (acked_by e) e.kept }) (bare e e.unread e.rest e.letters None e.waiting (forget_one (acked_by e) e.kept) (weak e p))
+      by true =
+          on (record e { copying = None; kept = forget_one (acked_by e) e.kept })
+          (bare e e.unread e.rest e.letters None e.waiting (forget_one (acked_by e) e.kept) (weak e p))
       by false = p
 
   pub gives_up_so : (e : Engine) → B e → P (gives_up e)
   gives_up_so e p =
-      on (record e { rest = e.rest ++ lost_letter ∷ []; letters = []; copying = None }) (bare e e.unread (e.rest ++ lost_letter ∷ []) [] None e.waiting e.kept p)
+      on (record e { rest = e.rest ++ lost_letter ∷ []; letters = []; copying = None })
+      (bare e e.unread (e.rest ++ lost_letter ∷ []) [] None e.waiting e.kept p)
 
   pub failed_so : (e : Engine) → P e → P (copy_failed e)
   failed_so e p = by (is_some e.copying)
@@ -120,7 +123,8 @@ InBounds batch e = Bounded batch e.live × (is_finished e ≡ true → Weightles
 half_below : (batch : ℕ) → half batch ≤ batch
 half_below batch = omega arith
 
-finishes_by_bounded : (batch : ℕ) (l : Live) → l.level ≤ batch → half batch ≤ l.level → Bounded batch (Some (finishes_by batch l)) × ((finishes_by batch l).weight ≡ 0)
+finishes_by_bounded : (batch : ℕ) (l : Live) → l.level ≤ batch → half batch ≤ l.level →
+    Bounded batch (Some (finishes_by batch l)) × ((finishes_by batch l).weight ≡ 0)
 finishes_by_bounded batch l most least = by (nat_lt l.level (half batch + l.weight)) refl
   where
     more : Live
@@ -135,7 +139,8 @@ finishes_by_bounded batch l most least = by (nat_lt l.level (half batch + l.weig
         let above : half batch + l.weight ≤ l.level = grind (arith, nat_tests) in
         ((omega (arith, most), omega (arith, above)), refl)
 
-pub finish_bounded : (o : Option ℕ) (batch : ℕ) (l : Option Live) → o ≡ Some batch → Bounded batch l → Bounded batch (option_map (finishes o) l) × Weightless (option_map (finishes o) l)
+pub finish_bounded : (o : Option ℕ) (batch : ℕ) (l : Option Live) → o ≡ Some batch → Bounded batch l →
+    Bounded batch (option_map (finishes o) l) × Weightless (option_map (finishes o) l)
 finish_bounded None batch l is all = absurd cc
 finish_bounded (Some b) batch None is all = (tt, tt)
 finish_bounded (Some b) batch (Some l) is all =
@@ -153,7 +158,8 @@ goes_bounded [] e batch is all = by (is_finished e) refl
     by true none = let two = finish_bounded e.batch batch e.live is all in (two.0, λ x. two.1)
     by false more = (all, λ none. absurd (let nay : true ≡ false = sym none ∙ more in cc))
 goes_bounded (f ∷ fs) e batch is all =
-    by (is_finished e) refl (goes_bounded fs (next_of f fs e) batch is (begin_bounded batch f.weight (finish e).live (finish_bounded e.batch batch e.live is all).0))
+    by (is_finished e) refl
+    (goes_bounded fs (next_of f fs e) batch is (begin_bounded batch f.weight (finish e).live (finish_bounded e.batch batch e.live is all).0))
   where
     by : (b : Bool) → is_finished e ≡ b → InBounds batch (goes_on fs (next_of f fs e)) → InBounds batch (cond b (goes_on fs (next_of f fs e)) e)
     by true none next = next

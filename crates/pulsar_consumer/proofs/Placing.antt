@@ -8,7 +8,8 @@ use Rattle.pulsar_consumer.specs.Redelivery.{Kept, keep_all, keep_item}
 less_room : {A : Type 0} (q : ℕ) (u : List A) (x : A) → length u < q → q - length u ≡ suc (q - length (u ++ x ∷ []))
 less_room q u x lt = let more = length-append u (x ∷ []) in omega (arith, lt, more)
 
-pub placed_more : {A : Type 0} (q : ℕ) (u r : List A) (x : A) → length u < q → (u ++ x ∷ []) ++ take (q - length (u ++ x ∷ [])) r ≡ u ++ take (q - length u) (x ∷ r)
+pub placed_more : {A : Type 0} (q : ℕ) (u r : List A) (x : A) → length u < q →
+    (u ++ x ∷ []) ++ take (q - length (u ++ x ∷ [])) r ≡ u ++ take (q - length u) (x ∷ r)
 placed_more q u r x lt =
     append_assoc u (x ∷ []) (take (q - length (u ++ x ∷ [])) r) ∙ ap (λ n. u ++ take n (x ∷ r)) (sym (less_room q u x lt))
 

@@ -32,7 +32,8 @@ module _ (all : List Frame) (os : List Bool) (ts : List Id) where
   checked_tries : (e : Engine) (check : Option ℕ) → Tries all os ts e → Tries all os ts (record e { check = check })
   checked_tries e check s = record { frames = s.frames; parts = s.parts; done = s.done; ids = s.ids; tries = s.tries }
 
-  next_tries : (e : Engine) (f : Frame) (fs : List Frame) → e.waiting ≡ f ∷ fs → is_finished e ≡ true → e.stopped ≡ false → Tries all os ts e → Tries all os ts (bare_of f fs e)
+  next_tries : (e : Engine) (f : Frame) (fs : List Frame) → e.waiting ≡ f ∷ fs → is_finished e ≡ true → e.stopped ≡ false → Tries all os ts e →
+      Tries all os ts (bare_of f fs e)
   next_tries e f fs w over_now runs s =
       record {
         frames = s.frames ++ f ∷ [];
@@ -63,20 +64,23 @@ module _ (all : List Frame) (os : List Bool) (ts : List Id) where
       by false = s
   goes_tries (f ∷ fs) e w runs s = by (is_finished e) refl (λ x. goes_tries fs (next_of f fs e) refl runs x)
     where
-      by : (b : Bool) → is_finished e ≡ b → (Tries all os ts (next_of f fs e) → Tries all os ts (goes_on fs (next_of f fs e))) → Tries all os ts (cond b (goes_on fs (next_of f fs e)) e)
+      by : (b : Bool) → is_finished e ≡ b → (Tries all os ts (next_of f fs e) → Tries all os ts (goes_on fs (next_of f fs e))) →
+          Tries all os ts (cond b (goes_on fs (next_of f fs e)) e)
       by true over_now next =
           let d = bare_of f fs e in
           next (placed_tries d d.delay d.clock d.live (places d).unread (places d).rest (places d).kept (next_tries e f fs w over_now runs s))
       by false more next = s
 
   advances_tries : (e : Engine) → e.stopped ≡ false → Tries all os ts e → Tries all os ts (advances e)
-  advances_tries e runs s = goes_tries e.waiting (places e) refl runs (placed_tries e e.delay e.clock e.live (places e).unread (places e).rest (places e).kept s)
+  advances_tries e runs s =
+      goes_tries e.waiting (places e) refl runs (placed_tries e e.delay e.clock e.live (places e).unread (places e).rest (places e).kept s)
 
   gives_tries : (us : List Item) (e : Engine) → e.stopped ≡ false → Tries all os ts e → Tries all os ts (gives_from us e)
   gives_tries [] e runs s = s
   gives_tries (x ∷ xs) e runs s = advances_tries (record e { unread = xs }) runs (placed_tries e e.delay e.clock e.live xs e.rest e.kept s)
 
-hears_tries : (all : List Frame) (os : List Bool) (ts : List Id) (f : Frame) (e : Engine) → e.stopped ≡ false → Tries all os ts e → Tries (all ++ f ∷ []) os ts (hears f e)
+hears_tries : (all : List Frame) (os : List Bool) (ts : List Id) (f : Frame) (e : Engine) → e.stopped ≡ false → Tries all os ts e →
+    Tries (all ++ f ∷ []) os ts (hears f e)
 hears_tries all os ts f e runs s =
     advances_tries (all ++ f ∷ []) os ts (record e { waiting = e.waiting ++ f ∷ [] }) runs
     (record {
@@ -123,7 +127,8 @@ module _ (all : List Frame) (os : List Bool) (ts : List Id) where
   copied_tries : (e : Engine) → e.stopped ≡ false → Tries all os ts e → Tries all (os ++ outcome_if (is_some e.copying) true) ts (copied e)
   copied_tries e runs s = by e.copying refl
     where
-      by : (o : Option Id) → e.copying ≡ o → Tries all (os ++ outcome_if (is_some o) true) ts (cond (is_some o) (advances (record e { copying = None; kept = forget_one (acked_by e) e.kept })) e)
+      by : (o : Option Id) → e.copying ≡ o →
+          Tries all (os ++ outcome_if (is_some o) true) ts (cond (is_some o) (advances (record e { copying = None; kept = forget_one (acked_by e) e.kept })) e)
       by None c = subst (λ xs. Tries all xs ts e) (sym (append-nil os)) s
       by (Some id) c =
           advances_tries all (os ++ true ∷ []) ts (record e { copying = None; kept = forget_one (acked_by e) e.kept }) runs
@@ -135,7 +140,8 @@ module _ (all : List Frame) (os : List Bool) (ts : List Id) where
             tries = λ more gs.
                 ap (λ xs. tried_in xs (s.frames ++ gs)) (one_outcome os true more)
                 ∙ s.tries (true ∷ more) gs
-                ∙ ap (λ o. s.done ++ (tried (true ∷ more) (holding o e.letters) ++ tried_behind (fate false (true ∷ more) (holding o e.letters)) (λ left. tried_in left gs))) c
+                ∙ ap (λ o. s.done ++
+                (tried (true ∷ more) (holding o e.letters) ++ tried_behind (fate false (true ∷ more) (holding o e.letters)) (λ left. tried_in left gs))) c
                 ∙ sym (append_assoc s.done (id ∷ []) (tried more e.letters ++ tried_behind (fate false more e.letters) (λ left. tried_in left gs)));
           })
 
@@ -154,7 +160,8 @@ module _ (all : List Frame) (os : List Bool) (ts : List Id) where
             tries = λ more gs.
                 ap (λ xs. tried_in xs (s.frames ++ gs)) (one_outcome os false more)
                 ∙ s.tries (false ∷ more) gs
-                ∙ ap (λ o. s.done ++ (tried (false ∷ more) (holding o e.letters) ++ tried_behind (fate false (false ∷ more) (holding o e.letters)) (λ left. tried_in left gs))) c
+                ∙ ap (λ o. s.done ++
+                (tried (false ∷ more) (holding o e.letters) ++ tried_behind (fate false (false ∷ more) (holding o e.letters)) (λ left. tried_in left gs))) c
                 ∙ sym (append_assoc s.done (id ∷ []) (tried_in more gs));
           })
 
@@ -166,11 +173,13 @@ same_tries {all} {os} {ts} e s =
     (subst (λ xs. Tries all xs (ts ++ []) e) (sym (append-nil os))
     (subst (λ xs. Tries all os xs e) (sym (append-nil ts)) s))
 
-came_tries : (all : List Frame) (os : List Bool) (ts : List Id) (f : Frame) (e : Engine) → Tries (all ++ f ∷ []) os ts e → Tries (all ++ f ∷ []) (os ++ []) (ts ++ []) e
+came_tries : (all : List Frame) (os : List Bool) (ts : List Id) (f : Frame) (e : Engine) → Tries (all ++ f ∷ []) os ts e →
+    Tries (all ++ f ∷ []) (os ++ []) (ts ++ []) e
 came_tries all os ts f e s =
     subst (λ xs. Tries (all ++ f ∷ []) xs (ts ++ []) e) (sym (append-nil os)) (subst (λ xs. Tries (all ++ f ∷ []) os xs e) (sym (append-nil ts)) s)
 
-told_tries : (all : List Frame) (os : List Bool) (ts : List Id) (more : List Bool) (e : Engine) → Tries all (os ++ more) ts e → Tries (all ++ []) (os ++ more) (ts ++ []) e
+told_tries : (all : List Frame) (os : List Bool) (ts : List Id) (more : List Bool) (e : Engine) → Tries all (os ++ more) ts e →
+    Tries (all ++ []) (os ++ more) (ts ++ []) e
 told_tries all os ts more e s =
     subst (λ xs. Tries xs (os ++ more) (ts ++ []) e) (sym (append-nil all)) (subst (λ xs. Tries all (os ++ more) xs e) (sym (append-nil ts)) s)
 
@@ -190,7 +199,8 @@ module _ (all : List Frame) (os : List Bool) (ts : List Id) where
       by false =
           same_tries _
           (checked_tries all os ts _ (lives link url v.engine).check
-          (placed_tries all os ts v.engine v.engine.delay v.engine.clock (Some (subscribed v.engine.batch link url)) v.engine.unread v.engine.rest v.engine.kept s))
+          (placed_tries all os ts v.engine v.engine.delay v.engine.clock
+          (Some (subscribed v.engine.batch link url)) v.engine.unread v.engine.rest v.engine.kept s))
   tries_after (Hears link f) h v nay runs s = by (lives_on link v)
     where
       by : (b : Bool) → Tries (all ++ cond b (frame_for v f ∷ []) []) (os ++ []) (ts ++ []) (cond b (heard f v) v).engine
@@ -216,7 +226,8 @@ module _ (all : List Frame) (os : List Bool) (ts : List Id) where
       subst (λ e. Tries (all ++ []) (os ++ []) (ts ++ []) e) (sym (counted_same (first_of v.engine.unread) clock (polls_at clock v)).0)
       (same_tries (gives (clocked clock v.engine)) (gives_tries all os ts v.engine.unread (clocked clock v.engine) runs (clocked_tries clock v.engine s)))
   tries_after Asks h v nay runs s =
-      same_tries _ (placed_tries all os ts v.engine v.engine.delay v.engine.clock (option_map asked v.engine.live) v.engine.unread v.engine.rest v.engine.kept s)
+      same_tries _
+      (placed_tries all os ts v.engine v.engine.delay v.engine.clock (option_map asked v.engine.live) v.engine.unread v.engine.rest v.engine.kept s)
   tries_after (IsAt clock) h v nay runs s = same_tries _ (clocked_tries clock v.engine s)
   tries_after TakesCopy h v nay runs s =
       let x = takes_tries all os ts v.engine s in
@@ -226,13 +237,17 @@ module _ (all : List Frame) (os : List Bool) (ts : List Id) where
     where
       by : (b : Bool) → Tries (all ++ []) (os ++ outcome_if (b && is_some v.engine.copying) true) (ts ++ [])
           (cond b (record v { engine = copied (clocked clock v.engine) }) v).engine
-      by true = told_tries all os ts (outcome_if (is_some v.engine.copying) true) _ (copied_tries all os ts (clocked clock v.engine) runs (clocked_tries clock v.engine s))
+      by true =
+          told_tries all os ts (outcome_if (is_some v.engine.copying) true) _
+          (copied_tries all os ts (clocked clock v.engine) runs (clocked_tries clock v.engine s))
       by false = same_tries v.engine s
   tries_after (FailsCopy key clock) h v nay runs s = by (v.key == key)
     where
       by : (b : Bool) → Tries (all ++ []) (os ++ outcome_if (b && is_some v.engine.copying) false) (ts ++ [])
           (cond b (record v { engine = copy_failed (clocked clock v.engine) }) v).engine
-      by true = told_tries all os ts (outcome_if (is_some v.engine.copying) false) _ (failed_tries all os ts (clocked clock v.engine) runs (clocked_tries clock v.engine s))
+      by true =
+          told_tries all os ts (outcome_if (is_some v.engine.copying) false) _
+          (failed_tries all os ts (clocked clock v.engine) runs (clocked_tries clock v.engine s))
       by false = same_tries v.engine s
   tries_after Stops h v nay runs s = absurd cc
   tries_after (Forgets id) h v nay runs s =
@@ -240,11 +255,13 @@ module _ (all : List Frame) (os : List Bool) (ts : List Id) where
   tries_after (Checks clock) h v nay runs s = by (is_some v.engine.live)
     where
       by : (b : Bool) → Tries (all ++ []) (os ++ []) (ts ++ [])
-          (record (cond b (record v.engine { kept = forget_all (due_before clock v.engine.kept) v.engine.kept }) v.engine) { check = next_check clock v.engine.check })
+          (record (cond b
+          (record v.engine { kept = forget_all (due_before clock v.engine.kept) v.engine.kept }) v.engine) { check = next_check clock v.engine.check })
       by true =
           same_tries _
           (checked_tries all os ts _ (next_check clock v.engine.check)
-          (placed_tries all os ts v.engine v.engine.delay v.engine.clock v.engine.live v.engine.unread v.engine.rest (forget_all (due_before clock v.engine.kept) v.engine.kept) s))
+          (placed_tries all os ts v.engine v.engine.delay v.engine.clock v.engine.live v.engine.unread v.engine.rest
+          (forget_all (due_before clock v.engine.kept) v.engine.kept) s))
       by false = same_tries _ (checked_tries all os ts v.engine (next_check clock v.engine.check) s)
 
 -- a history without a stop had none before

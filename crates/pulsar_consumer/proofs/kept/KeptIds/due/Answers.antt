@@ -34,7 +34,8 @@ returns c =
     (λ a. c.loop-ids.invariant a
     ∙ sym (any_map deref_pair (gives a) c.loop-ids.yielded)
     ∙ ap (list_any (gives a)) whole.0
-    ∙ all_early (is_in a) refl clock (λ q. not (is_le (nat_cmp clock q))) (passes clock) i.ids c.range-ids-items.ensures.ordered (moment_of a i.moments.entries) (λ m. c.self.invariant.listed m a))
+    ∙ all_early (is_in a) refl clock (λ q. not (is_le (nat_cmp clock q))) (passes clock) i.ids c.range-ids-items.ensures.ordered (moment_of a i.moments.entries)
+    (λ m. c.self.invariant.listed m a))
     in
     with_both c.in_order.result _ _ _
     (λ found is ordered. is ∙ due_keys clock i.moments.entries c.self.invariant.ordered c.loop-ids.found ordered has ∙ ap (due_before clock) c.self.view_is)

@@ -81,52 +81,52 @@ outcomes_are_own s h key clock other = (
 -- THE MOMENT THAT WAS TOLD LAST
 
 module _ (s : Setup) (h : List Act) where
-  abbrev v : Seen
-  v = seen s h
+  abbrev one : Seen
+  one = seen s h
 
-  told_at : (key clock : ℕ) (e : Engine) → e.clock ≡ clock → v.engine.clock ≡ moment s h → (told key e v).engine.clock ≡ cond (s.key == key) clock (moment s h)
-  told_at key clock e at was = by (v.key == key) ∙ ap (λ k. cond (k == key) clock (moment s h)) (key_is s h)
+  told_at : (key clock : ℕ) (e : Engine) → e.clock ≡ clock → one.engine.clock ≡ moment s h → (told key e one).engine.clock ≡ cond (s.key == key) clock (moment s h)
+  told_at key clock e at was = by (one.key == key) ∙ ap (λ k. cond (k == key) clock (moment s h)) (key_is s h)
     where
-      by : (b : Bool) → (cond b (record v { engine = e }) v).engine.clock ≡ cond b clock (moment s h)
+      by : (b : Bool) → (cond b (record one { engine = e }) one).engine.clock ≡ cond b clock (moment s h)
       by true = at
       by false = was
 
-  moment_after : (act : Act) → v.engine.clock ≡ moment s h → (after act v).engine.clock ≡ moment s (act ∷ h)
-  moment_after (Lives link url) p = by (is_ended v)
+  moment_after : (act : Act) → one.engine.clock ≡ moment s h → (after act one).engine.clock ≡ moment s (act ∷ h)
+  moment_after (Lives link url) p = by (is_ended one)
     where
-      by : (b : Bool) → (cond b v (subscribed_again link url v)).engine.clock ≡ moment s h
+      by : (b : Bool) → (cond b one (subscribed_again link url one)).engine.clock ≡ moment s h
       by true = p
       by false = p
-  moment_after (Hears link f) p = by (lives_on link v)
+  moment_after (Hears link f) p = by (lives_on link one)
     where
-      by : (b : Bool) → (cond b (heard f v) v).engine.clock ≡ moment s h
-      by true = (hears_more (frame_for v f) v.engine).clock ∙ p
+      by : (b : Bool) → (cond b (heard f one) one).engine.clock ≡ moment s h
+      by true = (hears_more (frame_for one f) one.engine).clock ∙ p
       by false = p
-  moment_after (Loses link) p = by (lives_on link v) v.is_raw
+  moment_after (Loses link) p = by (lives_on link one) one.is_raw
     where
-      by : (b c : Bool) → (cond b (cond c (ends LinkLost v) (lost v)) v).engine.clock ≡ moment s h
+      by : (b c : Bool) → (cond b (cond c (ends LinkLost one) (lost one)) one).engine.clock ≡ moment s h
       by true true = p
       by true false = p
       by false c = p
-  moment_after (Fails f) p = by (is_ended v)
+  moment_after (Fails f) p = by (is_ended one)
     where
-      by : (b : Bool) → (cond b v (ends NotSubscribed (refused (failed f) v))).engine.clock ≡ moment s h
+      by : (b : Bool) → (cond b one (ends NotSubscribed (refused (failed f) one))).engine.clock ≡ moment s h
       by true = p
-      by false = (hears_more (failed f) v.engine).clock ∙ p
+      by false = (hears_more (failed f) one.engine).clock ∙ p
   moment_after (Ends why) p = p
   moment_after (Polls clock) p =
-      ap (λ e. e.clock) (counted_same (first_of v.engine.unread) clock (polls_at clock v)).0
-      ∙ (gives_more v.engine.unread (clocked clock v.engine) refl).clock
+      ap (λ e. e.clock) (counted_same (first_of one.engine.unread) clock (polls_at clock one)).0
+      ∙ (gives_more one.engine.unread (clocked clock one.engine) refl).clock
   moment_after Asks p = p
   moment_after (IsAt clock) p = refl
-  moment_after TakesCopy p = (takes_more v.engine).clock ∙ p
-  moment_after (IsCopied key clock) p = told_at key clock (copied (clocked clock v.engine)) (copied_more (clocked clock v.engine)).clock p
-  moment_after (FailsCopy key clock) p = told_at key clock (copy_failed (clocked clock v.engine)) (failed_more (clocked clock v.engine)).clock p
-  moment_after Stops p = (stops_more v.engine).clock ∙ p
+  moment_after TakesCopy p = (takes_more one.engine).clock ∙ p
+  moment_after (IsCopied key clock) p = told_at key clock (copied (clocked clock one.engine)) (copied_more (clocked clock one.engine)).clock p
+  moment_after (FailsCopy key clock) p = told_at key clock (copy_failed (clocked clock one.engine)) (failed_more (clocked clock one.engine)).clock p
+  moment_after Stops p = (stops_more one.engine).clock ∙ p
   moment_after (Forgets id) p = p
-  moment_after (Checks clock) p = by (is_some v.engine.live)
+  moment_after (Checks clock) p = by (is_some one.engine.live)
     where
-      by : (b : Bool) → (cond b (record v.engine { kept = forget_all (due_before clock v.engine.kept) v.engine.kept }) v.engine).clock ≡ moment s h
+      by : (b : Bool) → (cond b (record one.engine { kept = forget_all (due_before clock one.engine.kept) one.engine.kept }) one.engine).clock ≡ moment s h
       by true = p
       by false = p
 

@@ -515,7 +515,7 @@ module _ (s : Setup) (h : List Act) where
 
   -- the frames that are begun are those that don't wait
   begun_rest : begun_behind (fate (is_stopped h) [] (open_of now)) (size (given s h) now) (length (given s h) + queue s)
-  (λ left room. begun_in (is_stopped h) left room now.waiting) ≡ []
+      (λ left room. begun_in (is_stopped h) left room now.waiting) ≡ []
   begun_rest = by (no_items now.rest) refl
     where
       full_so : (x : Fate) (n room : ℕ) (k : List Bool → ℕ → List Frame) → room < n → begun_behind x n room k ≡ []
@@ -698,9 +698,11 @@ stays_after (Hears link f) v why is dead =
     (lives_stays (lives_on link v) why (heard f v) v is is, ap (λ b. cond b (frame_for v f ∷ []) []) (not_on link v.engine.live dead))
 stays_after (Loses link) v why is dead =
     (lives_stays (lives_on link v) why (loses v) v (lives_stays v.is_raw why (ends LinkLost v) (lost v) (or_first v.ended why LinkLost is) is) is, refl)
-stays_after (Fails f) v why is dead =
-    (lives_stays (is_ended v) why v (ends NotSubscribed (refused (failed f) v)) is (or_first v.ended why NotSubscribed is), ap (λ b. cond b [] (failed f ∷ []))
-    (ended_not v.ended why is))
+stays_after (Fails f) v why is dead = (
+  lives_stays (is_ended v) why v (ends NotSubscribed (refused (failed f) v)) is (or_first v.ended why NotSubscribed is),
+  ap (λ b. cond b [] (failed f ∷ []))
+      (ended_not v.ended why is),
+)
 stays_after (Ends other) v why is dead = (or_first v.ended why other is, refl)
 stays_after (Polls clock) v why is dead = ((counted_same (first_of v.engine.unread) clock (polls_at clock v)).1 ∙ is, refl)
 stays_after Asks v why is dead = (is, refl)

@@ -54,8 +54,10 @@ exact_id (a, (b, (c, (d, (e, (f, u)))))) (a', (b', (c', (d', (e', (f', u')))))) 
     let p3 = both_equal _ _ p4.0 in
     let p2 = both_equal _ _ p3.0 in
     let p1 = both_equal _ _ p2.0 in
-    λ i. (exact_unsigned a a' p1.0 i,
-    (exact_unsigned b b' p1.1 i, (exact_option c c' p2.1 i, (exact_option d d' p3.1 i, (exact_list e e' p4.1 i, (exact_option f f' p5.1 i, tt))))))
+    λ i. (
+      exact_unsigned a a' p1.0 i,
+      (exact_unsigned b b' p1.1 i, (exact_option c c' p2.1 i, (exact_option d d' p3.1 i, (exact_list e e' p4.1 i, (exact_option f f' p5.1 i, tt))))),
+    )
 
 pub is_this : (a b : Id) → is_same_id a b ≡ true → a ≡ b
 is_this a b h = tells_apart exact_id a b h

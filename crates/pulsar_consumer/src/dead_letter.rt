@@ -71,7 +71,8 @@ fn copied_properties(
     id: &MessageIdData,
     given: Vec<KeyValue>,
 ) -> Result<BTreeMap<String, String>, NoMemory>
-    ensures { IfOk result (λ ps. map property ps.entries ≡ meaning.copied_properties topic.now (message_id_values id.now) (map key_value_values given.items)) }
+    ensures { IfOk result (λ ps. map property ps.entries
+        ≡ meaning.copied_properties topic.now (message_id_values id.now) (map key_value_values given.items)) }
 {
     let mut properties = BTreeMap::new(alloc);
     put_all(&mut properties, given)?;
@@ -82,7 +83,8 @@ fn copied_properties(
 }
 
 fn put_all(properties: &mut BTreeMap<String, String>, given: Vec<KeyValue>) -> Result<(), NoMemory>
-    ensures { OnOk result (map property properties.new.entries ≡ meaning.with_properties (map key_value_values given.items) (map property properties.old.entries)) }
+    ensures { OnOk result (map property properties.new.entries
+        ≡ meaning.with_properties (map key_value_values given.items) (map property properties.old.entries)) }
 {
     for KeyValue { key, value } in given {
         properties.insert(key, value)?;

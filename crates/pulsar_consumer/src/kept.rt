@@ -148,7 +148,8 @@ fn unlist(
     moment: Option<u64>,
     id: &KeptId,
 ) -> Result<(), NoMemory>
-    ensures { OnOk result ((m : ℕ) (i : Id) → is_in i (get nat_cmp ids.new m) ≡ (if is_moment m moment && is_same_id id.now i then false else is_in i (get nat_cmp ids.old m))) }
+    ensures { OnOk result ((m : ℕ) (i : Id) → is_in i (get nat_cmp ids.new m)
+        ≡ (if is_moment m moment && is_same_id id.now i then false else is_in i (get nat_cmp ids.old m))) }
 {
     let Some(moment) = moment else {
         return Ok(());
@@ -161,7 +162,8 @@ fn take_out(
     moment: u64,
     id: &KeptId,
 ) -> Result<(), NoMemory>
-    ensures { OnOk result ((m : ℕ) (i : Id) → is_in i (get nat_cmp ids.new m) ≡ (if (moment == m) && is_same_id id.now i then false else is_in i (get nat_cmp ids.old m))) }
+    ensures { OnOk result ((m : ℕ) (i : Id) → is_in i (get nat_cmp ids.new m)
+        ≡ (if (moment == m) && is_same_id id.now i then false else is_in i (get nat_cmp ids.old m))) }
 {
     let Some(mut others) = ids.remove(&moment) else {
         return Ok(());
@@ -180,7 +182,8 @@ fn list(
     moment: u64,
     id: KeptId,
 ) -> Result<(), NoMemory>
-    ensures { OnOk result ((m : ℕ) (i : Id) → is_in i (get nat_cmp ids.new m) ≡ (if (moment == m) && is_same_id id i then true else is_in i (get nat_cmp ids.old m))) }
+    ensures { OnOk result ((m : ℕ) (i : Id) → is_in i (get nat_cmp ids.new m)
+        ≡ (if (moment == m) && is_same_id id i then true else is_in i (get nat_cmp ids.old m))) }
 {
     let mut others = match ids.remove(&moment) {
         Some(others) => others,

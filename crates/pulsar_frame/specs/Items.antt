@@ -4,7 +4,7 @@ use Rattle.pulsar_wire.specs.declared.error.Reason.TheVariants as reason
 use Rattle.pulsar_frame.specs.Batch as batch
 use Rattle.std.specs.Prelude.{ℕ, zero, ℤ, pos, negsuc, Bool, true, false, List, [], ◌∷◌, map, Option, Some, None, ◌==◌, if◌then◌else◌}
 use Rattle.pulsar_wire.specs.Field.{◌>>=◌}
-use Rattle.pulsar_wire.specs.Row.{Required, Optional, Int32, Row, End, Plain, Embedded, Numbers, Values, ◌&◌}
+use Rattle.pulsar_wire.specs.Row.{Required, Optional, Int32, Row, End, Plain, Embedded, Numbers, Values, spelling, ◌&◌}
 use Rattle.pulsar_wire.specs.Rows.{message_id, message_metadata}
 use Rattle.pulsar_wire.specs.At.{uint64_at}
 use Rattle.pulsar_wire.specs.Command.{BodyValues}
@@ -12,12 +12,12 @@ use Rattle.pulsar_wire.specs.declared.error.IoKind.TheVariants.{Other}
 use Rattle.pulsar_frame.specs.Batch.{batch_items, num_messages_in_batch}
 use Rattle.pulsar_frame.specs.Message.{MessageValues}
 use Rattle.pulsar_frame.specs.Payload.{PayloadValues}
-use Rattle.pulsar_frame.specs.Reply.{maybe_uint32_at}
 use Rattle.pulsar_wire.specs.Failures.{Failure, OfConnection, OfConsumer, ConsumerIo, Decoding}
 
--- what a consumer is given: a message, with its id, or why there is none
+-- what a consumer is given: a message, with its id and its metadata as they are written and with the number of entries of its batch, or
+-- why there is none
 pub data Item : Type 0 where
-  Given : (id : Values message_id) (payload : PayloadValues) → Item
+  Given : (id : List ℕ) (batch_size : Option ℤ) (metadata payload : List ℕ) → Item
   Faulty : Failure → Item
 
 -- THE ID OF A MESSAGE
@@ -65,7 +65,7 @@ id_of_body b = inner_at 2 b.row b.values >>= id_in
 
 -- a message by itself
 abbrev pub given : batch.Item → Item
-given x = Given x.0 x.1
+given x = Given (spelling message_id x.0) (num_messages_in_batch x.1.metadata) (spelling message_metadata x.1.metadata) x.1.bytes
 
 -- a compression other than none, which is 0
 abbrev pub is_compressed : Option ℤ → Bool
@@ -122,14 +122,7 @@ weight_with p (Some b) = if b.number == 9 then weight_behind p else 0
 abbrev pub weight_in : MessageValues → ℕ
 weight_in m = weight_with m.payload m.command.body
 
--- REDELIVERY
-
--- how often a message was given before, where its command says so
-abbrev pub redeliveries_in : Option BodyValues → Option ℕ
-redeliveries_in None = None
-redeliveries_in (Some b) = if b.number == 9 then maybe_uint32_at 3 b.row b.values else None
-
 -- an item that is no error counts as a message that was received
 abbrev pub is_message : Item → Bool
-is_message (Given id payload) = true
+is_message (Given id batch_size metadata payload) = true
 is_message (Faulty f) = false

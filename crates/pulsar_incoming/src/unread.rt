@@ -52,13 +52,6 @@ impl Unread {
         }
     }
 
-    /// The item.
-    pub fn get(&self) -> &Item
-        ensures { item_of result.now ≡ self.now }
-    {
-        &self.item
-    }
-
     /// The item without its box.
     pub fn into_inner(self) -> Item
         ensures { item_of result ≡ self }

@@ -7,7 +7,7 @@ use Rattle.std.specs.Map.{lookup}
 use Rattle.std.specs.Option.{is_some}
 use Rattle.pulsar_wire.specs.Sink.{capped}
 use Rattle.pulsar_wire.specs.Orders.{id_order}
-use Rattle.pulsar_frame.specs.Items.{Item}
+use Rattle.pulsar_consumer.specs.Items.{Item}
 use Rattle.pulsar_consumer.specs.Redelivery.{Id, Kept, due_at, due_before, is_due_before, is_early, is_same_id, keep_all}
 use Rattle.pulsar_consumer.specs.Topic.{Act, Seen, Setup, is_ended, link_of, seen}
 use Rattle.pulsar_consumer.specs.Laws.{ChecksNameTheDue, KeptAreDue, due_of, given, given_by, is_forgotten_by, is_one_of, moment, placed, placed_by}

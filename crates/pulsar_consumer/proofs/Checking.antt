@@ -2,7 +2,7 @@
 use Rattle.std.proofs.Common.{◌≡◌, ◌∙◌, sym, ap, refl, ℕ, ◌==◌, Bool, true, false, cond, List, [], ◌∷◌, Option, Some, None}
 use Rattle.std.specs.Option.{is_some, option_or}
 use Rattle.pulsar_wire.specs.Sink.{capped}
-use Rattle.pulsar_frame.specs.Items.{Item, is_message}
+use Rattle.pulsar_consumer.specs.Items.{Item, is_message}
 use Rattle.pulsar_consumer.specs.DeadLetters.{Letter}
 use Rattle.pulsar_consumer.specs.Frames.{Frame, failed}
 use Rattle.pulsar_consumer.specs.Redelivery.{Id, Kept as KeptList, due_before, first_check, forget_all, next_check}

@@ -6,7 +6,7 @@ use Rattle.std.proofs.lemmas.List.Sums.{sum_by-append, sum_by-cons, sum_by_push}
 use Rattle.std.specs.List.{sum}
 use Rattle.std.specs.Option.{is_some, option_map}
 use Rattle.url.specs.Parts.{Parts}
-use Rattle.pulsar_frame.specs.Items.{Item}
+use Rattle.pulsar_consumer.specs.Items.{Item}
 use Rattle.pulsar_consumer.specs.Frames.{Frame, failed}
 use Rattle.pulsar_consumer.specs.Laws.{PermitsAreCounted, arrivals, asked_since, begun, weighed_before, weights}
 use Rattle.pulsar_consumer.specs.DeadLetters.{Letter, lost_letter}

@@ -12,7 +12,7 @@ use Rattle.std.specs.Ordering.{ordering_reverse}
 use Rattle.std.specs.declared.cmp.Ordering.{Ordering}
 use Rattle.std.specs.declared.cmp.Ordering.TheVariants.{Less, Equal, Greater}
 use Rattle.pulsar_wire.specs.Orders.{id_order}
-use Rattle.pulsar_frame.specs.Items.{Item}
+use Rattle.pulsar_consumer.specs.Items.{Item}
 use Rattle.pulsar_consumer.specs.Laws.{has_id, is_one_of}
 use Rattle.pulsar_consumer.specs.IdOrder.{id_total}
 use Rattle.pulsar_consumer.specs.Redelivery.{Id, Kept, due_before, forget, forget_all, id_of, is_same_id, keep, keep_all, keep_if, keep_item}

@@ -5,7 +5,7 @@ use Rattle.std.proofs.lemmas.List.{append-nil, append_assoc, length-append, leng
 use Rattle.std.specs.Option.{is_some, option_map}
 use Rattle.pulsar_wire.specs.Row.{none_of}
 use Rattle.pulsar_wire.specs.Rows.{message_metadata}
-use Rattle.pulsar_frame.specs.Items.{Item}
+use Rattle.pulsar_consumer.specs.Items.{Item}
 use Rattle.pulsar_consumer.specs.DeadLetters.{Letter, lost_letter}
 use Rattle.pulsar_consumer.specs.Frames.{Frame}
 use Rattle.pulsar_consumer.specs.Laws.{Fate, Pending, Settled, begun_behind, begun_in, behind_fate, fate, outcome_if, pending_behind, pending_in, ready_in}

@@ -1,7 +1,7 @@
 -- The steps in which an engine goes on.
 use Rattle.std.proofs.Common.{◌≡◌, ◌∙◌, ap, refl, ◌==◌, not, true, false, cond, List, [], ◌∷◌, length, arith}
 use Rattle.std.proofs.lemmas.Bool.Decides.{nat_tests}
-use Rattle.pulsar_frame.specs.Items.{Item}
+use Rattle.pulsar_consumer.specs.Items.{Item}
 use Rattle.pulsar_consumer.specs.Frames.{Frame}
 use Rattle.pulsar_consumer.specs.DeadLetters.{Letter}
 use Rattle.pulsar_consumer.specs.Topic.{Engine, begin, finish, goes_on, is_finished, no_items, no_letters}

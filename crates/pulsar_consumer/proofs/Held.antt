@@ -1,8 +1,8 @@
 -- What an engine holds: as many items are placed as there is room for.
 use Rattle.std.proofs.Common.{◌≡◌, ◌∙◌, sym, ap, refl, ℕ, suc, ◌+◌, ◌-◌, ◌<◌, ◌≤◌, min, not, ◌&&◌, ◌||◌, Bool, true, false, cond, List, [], ◌∷◌, ◌++◌, length, take, drop, Option, Some, None, arith}
 use Rattle.std.proofs.lemmas.List.{append-nil, append_assoc, length-append, length-drop, length-take, take-append-drop}
-use Rattle.std.specs.Option.{is_some, option_map}
-use Rattle.pulsar_frame.specs.Items.{Item}
+use Rattle.std.specs.Option.{is_some, option_map, option_to_list}
+use Rattle.pulsar_consumer.specs.Items.{Item}
 use Rattle.pulsar_consumer.specs.DeadLetters.{Letter, lost_letter}
 use Rattle.pulsar_consumer.specs.Frames.{Frame}
 use Rattle.pulsar_consumer.specs.Redelivery.{Id, forget_one}
@@ -26,8 +26,7 @@ split_again n u r w =
     ∙ ap (λ x. u ++ x) (sym (append_assoc (take n r) (drop n r) w) ∙ ap (λ x. x ++ w) (take-append-drop n r))
 
 abbrev pub one_of : Option Item → List Item
-one_of None = []
-one_of (Some item) = item ∷ []
+one_of o = option_to_list o
 
 -- a frame is finished where nothing of it is left
 both_so : (a b : Bool) → (a && not b) ≡ true → (a ≡ true) × (b ≡ false)

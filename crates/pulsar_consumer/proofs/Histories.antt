@@ -5,12 +5,12 @@ use Rattle.std.proofs.lemmas.List.{append-nil, drop_at, take-append-le, take_all
 use Rattle.std.specs.Option.{is_some, option_map, option_or}
 use Rattle.url.specs.Parts.{Parts}
 use Rattle.pulsar_wire.specs.Sink.{capped}
-use Rattle.pulsar_frame.specs.Items.{Item, is_message}
+use Rattle.pulsar_consumer.specs.Items.{Item, is_message}
 use Rattle.pulsar_consumer.specs.DeadLetters.{Letter}
 use Rattle.pulsar_consumer.specs.Frames.{Frame, failed}
 use Rattle.pulsar_consumer.specs.Redelivery.{Id, Kept as KeptList, due_before, forget, forget_all, next_check}
 use Rattle.pulsar_consumer.specs.Topic.{Act, Lives, Hears, Loses, Fails, Ends, Polls, Asks, IsAt, TakesCopy, IsCopied, FailsCopy, Stops, Forgets, Checks, Engine, Live, Seen, Setup, advances, after, asked, checks, clocked, copied, copy_failed, counts_first, cut_off, ends, finish, first_of, frame_for, gives, goes_on, heard, hears, idle, is_ended, is_finished, is_on, is_pending, lives, lives_on, loses, names_due, no_items, over, places, polled, polled_from, queue_of, seen, shut, stops, subscribed, takes_copy, told}
-use Rattle.pulsar_consumer.specs.Laws.{EndIsFinal, Fate, Pending, Settled, FramesBeginInTurn, PollsGiveArrivals, PollsGiveTheNext, QueueIsKept, arrivals, arrives_by, begun, begun_behind, begun_in, behind_fate, fate, given, given_by, is_pending_in, is_stopped, item_in, left, outcome_by, outcome_if, outcomes, pending_behind, pending_in, queue, ready, ready_in}
+use Rattle.pulsar_consumer.specs.Laws.{EndIsFinal, Fate, Pending, Settled, FramesBeginInTurn, PollsGiveArrivals, PollsGiveTheNext, QueueIsKept, arrivals, arrives_by, begun, begun_behind, begun_in, behind_fate, fate, given, given_by, is_pending_in, is_stopped, left, outcome_by, outcome_if, outcomes, pending_behind, pending_in, queue, ready, ready_in}
 use Rattle.pulsar_incoming.specs.declared.polled.Ending.{Ending}
 use Rattle.pulsar_incoming.specs.declared.polled.Ending.TheVariants.{LinkLost, NotSubscribed}
 use Rattle.pulsar_consumer.proofs.Following.{Allowed, Follows, copied_follows, failed_follows, gives_follows, hears_follows, holding, open_of, renewed, size, stops_follows, takes_follows}
@@ -270,11 +270,6 @@ halted s (act ∷ h) = stopped_after act h (seen s h) (halted s h)
 
 -- ITEMS
 
-pub polled_one : (o : Option Item) (why : Option Ending) → item_in (polled_from o why) ≡ one_of o
-polled_one (Some item) why = refl
-polled_one None (Some why) = refl
-polled_one None None = refl
-
 -- nothing came
 unchanged : {all : List Frame} {os : List Bool} {gave : List Item} (e : Engine) → Follows all os gave e → Follows (all ++ []) (os ++ []) (gave ++ []) e
 unchanged {all} {os} {gave} e s =
@@ -332,12 +327,11 @@ module _ (all : List Frame) (os : List Bool) (gave : List Item) where
           came all os gave (failed f) _ (renewed (hears (failed f) v.engine) None None (hears (failed f) v.engine).clock [] None heard_one)
   follows_after (Ends why) v le s = unchanged _ (shut_follows v.engine s)
   follows_after (Polls clock) v le s =
-      subst (λ e. Follows (all ++ []) (os ++ []) (gave ++ item_in (polled v)) e) (sym (counted_same (first_of v.engine.unread) clock (polls_at clock v)).0)
-      (subst (λ g. Follows (all ++ []) (os ++ []) (gave ++ g) (gives (clocked clock v.engine)))
-      (sym (polled_one (first_of v.engine.unread) (over (is_pending v.engine) v.ended)))
+      subst (λ e. Follows (all ++ []) (os ++ []) (gave ++ one_of (first_of v.engine.unread)) e)
+      (sym (counted_same (first_of v.engine.unread) clock (polls_at clock v)).0)
       (subst (λ xs. Follows xs (os ++ []) (gave ++ one_of (first_of v.engine.unread)) (gives (clocked clock v.engine))) (sym (append-nil all))
       (subst (λ xs. Follows all xs (gave ++ one_of (first_of v.engine.unread)) (gives (clocked clock v.engine))) (sym (append-nil os))
-      (gives_follows all os gave (clocked clock v.engine) le (clocked_follows clock v.engine s)))))
+      (gives_follows all os gave (clocked clock v.engine) le (clocked_follows clock v.engine s))))
   follows_after Asks v le s = unchanged _ (renewed v.engine (option_map asked v.engine.live) v.engine.delay v.engine.clock v.engine.kept v.engine.check s)
   follows_after (IsAt clock) v le s = unchanged _ (clocked_follows clock v.engine s)
   follows_after TakesCopy v le s = unchanged _ (takes_follows all os gave v.engine s)

@@ -8,7 +8,7 @@ use Rattle.std.specs.Option.{is_some, option_map, option_or}
 use Rattle.url.specs.Parts.{Parts}
 use Rattle.pulsar_wire.specs.Sink.{capped}
 use Rattle.pulsar_wire.specs.Orders.{id_order}
-use Rattle.pulsar_frame.specs.Items.{Item}
+use Rattle.pulsar_consumer.specs.Items.{Item}
 use Rattle.pulsar_consumer.specs.DeadLetters.{Letter, lost_letter}
 use Rattle.pulsar_consumer.specs.Frames.{Frame, failed}
 use Rattle.pulsar_consumer.specs.Redelivery.{Id, Kept, due_at, due_before, forget, forget_all, forget_one, is_due_before, is_early, is_same_id, keep_all, next_check}
@@ -18,7 +18,7 @@ use Rattle.pulsar_incoming.specs.declared.polled.Ending.{Ending}
 use Rattle.pulsar_incoming.specs.declared.polled.Ending.TheVariants.{LinkLost, NotSubscribed}
 use Rattle.pulsar_consumer.proofs.Due.{AreOrdered, forget_all_ordered, forget_none, forget_ordered, found_left, found_left_all, found_placed, keep_more, kept_none, placed_ordered}
 use Rattle.pulsar_consumer.proofs.Held.{bare_of, next_of, one_of}
-use Rattle.pulsar_consumer.proofs.Histories.{Kept as Keeping, counted_same, kept as always, is_shut, lost, not_on, polled_one, polls_at, queue_is_kept, polls_give_arrivals, refused, subscribed_again}
+use Rattle.pulsar_consumer.proofs.Histories.{Kept as Keeping, counted_same, kept as always, is_shut, lost, not_on, polls_at, queue_is_kept, polls_give_arrivals, refused, subscribed_again}
 use Rattle.pulsar_consumer.proofs.Keeping.{due_is, sorted_filter}
 
 -- AN ENGINE THAT GOES ON places some items, and keeps their ids
@@ -399,8 +399,7 @@ moves_after (Polls clock) v in_order not_so =
     record {
       more = p.more;
       items =
-          ap (λ d. given_by (Polls clock) v ++ d.unread) same
-          ∙ ap (λ g. g ++ e.unread) (polled_one (first_of v.engine.unread) (over (is_pending v.engine) v.ended)) ∙ p.items;
+          ap (λ d. given_by (Polls clock) v ++ d.unread) same ∙ p.items;
       base = v.engine.kept;
       kept =
           ap (λ d. d.kept) same

@@ -9,7 +9,8 @@ use Rattle.pulsar_frame.specs.Batch.{batch_items, num_messages_in_batch}
 use Rattle.pulsar_frame.specs.Payload.{payload_values}
 use Rattle.pulsar_frame.specs.declared.payload.Payload.{Payload}
 use Rattle.pulsar_wire.specs.Failures.{OfConsumer, ConsumerIo}
-use Rattle.pulsar_frame.specs.Items.{Item, Faulty, counted, given, int32_in, is_compressed, items_of, opened}
+use Rattle.pulsar_frame.specs.Items.{int32_in, is_compressed}
+use Rattle.pulsar_consumer.specs.Items.{Item, Faulty, counted, given, items_of, opened}
 
 compression_is : (m : MessageMetadata) → int32_in 8 message_metadata (message_metadata_values m) ≡ m.compression
 unfolding message_metadata_values

@@ -10,7 +10,7 @@ use Rattle.pulsar_wire.specs.Row.{Values}
 use Rattle.pulsar_wire.specs.Rows.{key_value, message_id, message_metadata}
 use Rattle.pulsar_frame.specs.Batch as batch
 use Rattle.pulsar_frame.specs.Batch.{◌▸◌}
-use Rattle.pulsar_frame.specs.Items.{Item, Given, Faulty}
+use Rattle.pulsar_consumer.specs.Items.{Item, Given, Faulty}
 use Rattle.pulsar_messages.specs.Content.{Property, ProducerMessageValues, empty_message}
 use Rattle.pulsar_wire.specs.Failures.{Custom}
 use Rattle.pulsar_incoming.specs.Content.{DeadLetterValues}

@@ -2,11 +2,12 @@
 use Rattle.std.specs.Prelude.{ℕ, Bool, List, [], ◌∷◌, Option, None, if◌then◌else◌}
 use Rattle.pulsar_wire.specs.Command.{BodyValues}
 use Rattle.pulsar_frame.specs.Payload.{PayloadValues}
-use Rattle.pulsar_frame.specs.Items.{Item, Faulty, items_with, redeliveries_in, weight_with}
-use Rattle.pulsar_exchange.specs.Messages.{Reply}
+use Rattle.pulsar_frame.specs.Items.{weight_with}
+use Rattle.pulsar_exchange.specs.Messages.{Reply, id_in, redeliveries_in}
 use Rattle.pulsar_wire.specs.Failures.{Failure}
 use Rattle.pulsar_incoming.specs.Content.{DeadLetterValues}
 use Rattle.pulsar_consumer.specs.DeadLetters.{Letter, faults, is_dead, letters}
+use Rattle.pulsar_consumer.specs.Items.{Item, Faulty, items_behind}
 
 -- a frame for a consumer: how many permits it costs, its items, its entries that go to another topic, and how often its message was given
 -- before
@@ -16,13 +17,13 @@ pub record Frame : Type 0 where
   pub letters : List Letter
   pub redeliveries : Option ℕ
 
--- a body brings its items, with the payload behind it
+-- a body brings its items, with the payload behind it: a message command alone says an id
 abbrev pub frame_with : Option PayloadValues → Option BodyValues → Frame
-frame_with p b = record { weight = weight_with p b; items = items_with p b; letters = []; redeliveries = redeliveries_in b }
+frame_with p b = record { weight = weight_with p b; items = items_behind (id_in b) p; letters = []; redeliveries = redeliveries_in b }
 
 -- the frame of a message
 abbrev pub frame_in : Reply → Frame
-frame_in r = record { weight = r.weight; items = r.items; letters = []; redeliveries = r.redeliveries }
+frame_in r = record { weight = r.weight; items = items_behind r.id r.content.payload; letters = []; redeliveries = r.redeliveries }
 
 -- of a dead letter the messages go to another topic
 abbrev pub sorted : (is_dead : Bool) → Frame → Frame

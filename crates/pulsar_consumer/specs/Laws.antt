@@ -4,15 +4,13 @@ use Rattle.std.specs.List.{flat_map, list_any, sum, sum_by}
 use Rattle.std.specs.List.Sorted.{IsStrictlySortedBy}
 use Rattle.std.specs.Map.{lookup}
 use Rattle.std.specs.Option.{is_some, option_map, option_or, option_to_list}
-use Rattle.pulsar_frame.specs.Items.{Item}
+use Rattle.pulsar_consumer.specs.Items.{Item}
 use Rattle.pulsar_wire.specs.Orders.{id_order}
 use Rattle.pulsar_consumer.specs.DeadLetters.{Letter, lost_letter}
 use Rattle.pulsar_consumer.specs.Frames.{Frame, failed}
 use Rattle.pulsar_consumer.specs.Redelivery.{Id, due_at, first_check, id_of, is_early, is_same_id, next_check}
 use Rattle.pulsar_consumer.specs.Topic.{Act, Lives, Hears, Loses, Fails, Ends, Polls, Asks, IsAt, TakesCopy, IsCopied, FailsCopy, Stops, Forgets, Checks, Live, Seen, Setup, acked, asked_again, batch_size, first_due, first_of, frame_for, half, is_ended, link_of, lives_on, over, polled, polled_from, queue_of, seen, to_copy}
 use Rattle.pulsar_incoming.specs.declared.polled.Ending.{Ending}
-use Rattle.pulsar_incoming.specs.declared.polled.Polled.{Polled}
-use Rattle.pulsar_incoming.specs.declared.polled.Polled.TheVariants as poll
 
 -- HISTORIES
 
@@ -124,18 +122,13 @@ abbrev pub is_pending_in : Setup → List Act → Bool
 is_pending_in s h = pending_in (is_stopped h) (outcomes s h) (arrivals s h)
 
 -- the items that its polls have given, in order
-abbrev pub item_in : Polled → List Item
-item_in (poll.Item item) = item ∷ []
-item_in poll.Empty = []
-item_in poll.End = []
-
 abbrev pub given_by : Act → Seen → List Item
 given_by (Lives link url) v = []
 given_by (Hears link f) v = []
 given_by (Loses link) v = []
 given_by (Fails f) v = []
 given_by (Ends why) v = []
-given_by (Polls clock) v = item_in (polled v)
+given_by (Polls clock) v = option_to_list (first_of v.engine.unread)
 given_by Asks v = []
 given_by (IsAt clock) v = []
 given_by TakesCopy v = []

@@ -1,3 +1,4 @@
+pub mod Items
 pub mod DeadLetters
 pub mod Redelivery
 pub mod Frames
@@ -7,6 +8,7 @@ pub mod Commands
 pub mod Plans
 pub mod IdOrder
 pub mod KeptIds
+pub mod KeptItem
 pub mod KeptFrame
 pub mod KeptLive
 pub mod KeptEngine

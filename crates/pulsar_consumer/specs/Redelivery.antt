@@ -6,7 +6,7 @@ use Rattle.pulsar_wire.specs.Orders.{id_order}
 use Rattle.pulsar_wire.specs.Row.{Values}
 use Rattle.pulsar_wire.specs.Rows.{message_id}
 use Rattle.pulsar_wire.specs.Sink.{capped}
-use Rattle.pulsar_frame.specs.Items.{Item, Given, Faulty}
+use Rattle.pulsar_consumer.specs.Items.{Item, Given, Faulty}
 
 -- the id of a message
 abbrev pub Id : Type 0

@@ -4,7 +4,7 @@ use Rattle.std.specs.Prelude.{ℕ, ◌+◌, ◌-◌, ◌/◌, nat_lt, Bool, true
 use Rattle.std.specs.Option.{is_some, option_map, option_or}
 use Rattle.url.specs.Parts.{Parts}
 use Rattle.pulsar_wire.specs.Sink.{capped}
-use Rattle.pulsar_frame.specs.Items.{Item, is_message}
+use Rattle.pulsar_consumer.specs.Items.{Item, handed, is_message}
 use Rattle.pulsar_exchange.specs.Request.{Subscribed}
 use Rattle.pulsar_messages.specs.Content.{ProducerMessageValues}
 use Rattle.pulsar_wire.specs.Failures.{Failure}
@@ -368,7 +368,7 @@ resubscribes link v = lives_on link v && not v.is_raw
 -- WHAT A POLL GIVES: the first unread item; else the end, where it has ended and no dead letter is pending
 
 abbrev pub polled_from : Option Item → Option Ending → Polled
-polled_from (Some item) why = poll.Item item
+polled_from (Some item) why = poll.Item (handed item)
 polled_from None (Some why) = poll.End
 polled_from None None = poll.Empty
 

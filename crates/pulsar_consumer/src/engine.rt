@@ -12,11 +12,11 @@ ghost use Rattle.pulsar_consumer.specs.Topic as meaning;
 
 use crate::dead_letter::copy_of;
 use crate::frame::Frame;
+use crate::frame_item::FrameItem;
 use crate::kept::KeptIds;
 use crate::letter::{Entry, Letter};
 use crate::live::Live;
 use pulsar_frame::items::Unread as Item;
-use pulsar_incoming::unread::Unread;
 use pulsar_messages::Message;
 use pulsar_wire::commands::ids::MessageIdData;
 use pulsar_wire::error::{Error, NoMemory};
@@ -36,8 +36,8 @@ pub struct ConsumerEngine {
     delay: Option<u64>,
     clock: u64,
     live: Option<Live>,
-    unread: VecDeque<Unread>,
-    rest: VecDeque<Unread>,
+    unread: VecDeque<FrameItem>,
+    rest: VecDeque<FrameItem>,
     letters: VecDeque<Letter>,
     copying: Option<MessageIdData>,
     waiting: VecDeque<Frame>,
@@ -172,7 +172,7 @@ impl ConsumerEngine {
     }
 
     /// The first unread item, which is given.
-    pub(crate) fn give(&mut self) -> Result<Option<Unread>, NoMemory>
+    pub(crate) fn give(&mut self) -> Result<Option<FrameItem>, NoMemory>
         ensures item { IfOk result (λ item. item ≡ meaning.first_of self.old.unread) }
         ensures after { OnOk result (self.new ≡ meaning.gives self.old) }
     {
@@ -393,7 +393,11 @@ impl ConsumerEngine {
     }
 
     /// What the frame that is begun has. Once the client is stopped its entries are given up.
-    fn open(&mut self, items: VecDeque<Unread>, letters: VecDeque<Letter>) -> Result<(), NoMemory>
+    fn open(
+        &mut self,
+        items: VecDeque<FrameItem>,
+        letters: VecDeque<Letter>,
+    ) -> Result<(), NoMemory>
         ensures { OnOk result (self.new ≡ meaning.opens items.items letters.items self.old) }
     {
         self.rest = items;
@@ -418,11 +422,11 @@ impl ConsumerEngine {
 }
 
 /// What is given where a copy could not be sent.
-fn lost_letter(alloc: Global) -> Result<Unread, NoMemory>
+fn lost_letter(alloc: Global) -> Result<FrameItem, NoMemory>
     ensures { IfOk result (λ item. item ≡ lost_letter) }
 {
     let text = String::from_str(alloc, "DLQ send error")?;
-    Unread::new(alloc, Item::Failure(Error::Custom(text)))
+    FrameItem::new(alloc, Item::Failure(Error::Custom(text)))
 }
 
 /// An entry is to be copied, or its copy is under way.
@@ -478,7 +482,7 @@ fn due_at(delay: Option<u64>, clock: u64) -> Option<u64>
 }
 
 /// Where no items are left, their memory is given back.
-fn let_items_go(alloc: Global, items: &mut VecDeque<Unread>)
+fn let_items_go(alloc: Global, items: &mut VecDeque<FrameItem>)
     ensures { items.new.items ≡ items.old.items }
 {
     if items.is_empty() {
@@ -506,7 +510,7 @@ fn let_frames_go(alloc: Global, frames: &mut VecDeque<Frame>)
 
 /// Each item of the frame that is begun is placed.
 #[tactic(auto, using(crate::proofs::Going::counts_none))]
-fn is_placed(rest: &VecDeque<Unread>) -> bool
+fn is_placed(rest: &VecDeque<FrameItem>) -> bool
     ensures { result ≡ meaning.no_items rest.now.items }
 {
     rest.is_empty()
@@ -515,8 +519,8 @@ fn is_placed(rest: &VecDeque<Unread>) -> bool
 /// Items are placed while fewer than this are unread, and are to be asked for again at this moment.
 #[tactic(auto, using(crate::proofs::Placing::placed_more, crate::proofs::Placing::left_more, crate::proofs::Placing::kept_more))]
 fn place(
-    unread: &mut VecDeque<Unread>,
-    rest: &mut VecDeque<Unread>,
+    unread: &mut VecDeque<FrameItem>,
+    rest: &mut VecDeque<FrameItem>,
     kept: &mut KeptIds,
     queue: usize,
     due: Option<u64>,
@@ -536,10 +540,10 @@ fn place(
 
 /// An item is placed, and is to be asked for again at this moment.
 fn place_one(
-    unread: &mut VecDeque<Unread>,
+    unread: &mut VecDeque<FrameItem>,
     kept: &mut KeptIds,
     due: Option<u64>,
-    item: Unread,
+    item: FrameItem,
 ) -> Result<(), NoMemory>
     ensures unread { OnOk result (unread.new.items ≡ unread.old.items ++ item ∷ []) }
     ensures kept { OnOk result (kept.new ≡ keep_item due item kept.old) }
@@ -552,7 +556,7 @@ fn place_one(
 }
 
 /// The id of an item is kept until this moment. An error has none.
-fn keep(kept: &mut KeptIds, due: u64, item: &Unread) -> Result<(), NoMemory>
+fn keep(kept: &mut KeptIds, due: u64, item: &FrameItem) -> Result<(), NoMemory>
     ensures { OnOk result (kept.new ≡ keep_item (Some due) item.now kept.old) }
 {
     match item.get() {

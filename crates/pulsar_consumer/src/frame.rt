@@ -5,15 +5,17 @@ ghost use Rattle.std.specs.Option.{option_map};
 ghost use Rattle.pulsar_wire.specs.Views.{body_values, message_id_values};
 ghost use Rattle.pulsar_frame.specs.Batch.{batch_items};
 ghost use Rattle.pulsar_frame.specs.Payload.{payload_values};
-ghost use Rattle.pulsar_frame.specs.Held.{item_of};
 ghost use Rattle.pulsar_frame.specs.Items as meant;
-ghost use Rattle.pulsar_frame.specs.Items.{given, is_compressed, items_of, opened, weight_behind};
+ghost use Rattle.pulsar_frame.specs.Items.{is_compressed, weight_behind};
+ghost use Rattle.pulsar_consumer.specs.Items.{given, items_of, opened};
+ghost use Rattle.pulsar_consumer.specs.KeptItem.{item_of};
 ghost use Rattle.pulsar_incoming.specs.Content.{dead_letter_values};
 ghost use Rattle.pulsar_consumer.specs.DeadLetters as dead;
 ghost use Rattle.pulsar_consumer.specs.Frames as meaning;
 ghost use Rattle.pulsar_consumer.specs.Frames.{frame_by, frame_in};
 
 use crate::dead_letter::is_dead;
+use crate::frame_item::FrameItem;
 use crate::letter::Letter;
 use pulsar_addresses::content::Refusal;
 use pulsar_exchange::content::Received;
@@ -21,7 +23,6 @@ use pulsar_frame::batch::iterator::BatchedMessageIterator;
 use pulsar_frame::items::Unread as Item;
 use pulsar_frame::payload::Payload;
 use pulsar_incoming::config::DeadLetterPolicy;
-use pulsar_incoming::unread::Unread;
 use pulsar_wire::commands::base::Body;
 use pulsar_wire::commands::consumer::delivery::CommandMessage;
 use pulsar_wire::commands::ids::MessageIdData;
@@ -34,7 +35,7 @@ use std::marker::Model;
 #[derive(Drop)]
 pub struct Frame {
     weight: u32,
-    items: VecDeque<Unread>,
+    items: VecDeque<FrameItem>,
     letters: VecDeque<Letter>,
     redeliveries: Option<u32>,
 }
@@ -128,7 +129,7 @@ impl Frame {
     }
 
     /// Its items in order, and its entries that go to another topic.
-    pub(crate) fn into_parts(self) -> (VecDeque<Unread>, VecDeque<Letter>)
+    pub(crate) fn into_parts(self) -> (VecDeque<FrameItem>, VecDeque<Letter>)
         ensures items { result.0.items ≡ self.items }
         ensures letters { result.1.items ≡ self.letters }
     {
@@ -190,7 +191,7 @@ fn frame_of(
 fn dead_frame(
     alloc: Global,
     weight: u32,
-    mut items: VecDeque<Unread>,
+    mut items: VecDeque<FrameItem>,
     redeliveries: Option<u32>,
 ) -> Result<Frame, NoMemory>
     requires { weight < 2 ^ 31 }
@@ -217,8 +218,8 @@ fn dead_frame(
 /// An item stands behind the errors, or behind the entries that are copied.
 fn sort(
     alloc: Global,
-    item: Unread,
-    faults: &mut VecDeque<Unread>,
+    item: FrameItem,
+    faults: &mut VecDeque<FrameItem>,
     letters: &mut VecDeque<Letter>,
 ) -> Result<(), NoMemory>
     ensures faults { OnOk result (faults.new.items ≡ faults.old.items ++ dead.faults (item ∷ [])) }
@@ -226,7 +227,7 @@ fn sort(
 {
     match item.into_inner() {
         Item::Message { id, payload } => letters.push_back(Letter::new(alloc, id, payload)?)?,
-        Item::Failure(error) => faults.push_back(Unread::new(alloc, Item::Failure(error))?)?,
+        Item::Failure(error) => faults.push_back(FrameItem::new(alloc, Item::Failure(error))?)?,
     }
     Ok(())
 }
@@ -255,17 +256,21 @@ fn weight(count: Option<i32>) -> u32
 }
 
 /// One item.
-fn one(alloc: Global, item: Item) -> Result<VecDeque<Unread>, NoMemory>
+fn one(alloc: Global, item: Item) -> Result<VecDeque<FrameItem>, NoMemory>
     ensures { IfOk result (λ items. items.items ≡ item_of item ∷ []) }
 {
     let mut items = VecDeque::new(alloc);
-    items.push_back(Unread::new(alloc, item)?)?;
+    items.push_back(FrameItem::new(alloc, item)?)?;
     Ok(items)
 }
 
 /// What a payload gives under its id.
 #[tactic(auto, unfolding(pulsar_wire::specs::Views::message_metadata_values))]
-fn items(alloc: Global, id: MessageIdData, payload: Payload) -> Result<VecDeque<Unread>, NoMemory>
+fn items(
+    alloc: Global,
+    id: MessageIdData,
+    payload: Payload,
+) -> Result<VecDeque<FrameItem>, NoMemory>
     ensures { IfOk result (λ items. items.items ≡ items_of (message_id_values id) (payload_values payload)) }
 {
     if is_compressed(payload.metadata.compression) {
@@ -288,7 +293,7 @@ fn is_compressed(compression: Option<i32>) -> bool
 }
 
 /// The messages of a batch in order, or one failure where it does not parse.
-fn open(alloc: Global, id: MessageIdData, payload: Payload) -> Result<VecDeque<Unread>, NoMemory>
+fn open(alloc: Global, id: MessageIdData, payload: Payload) -> Result<VecDeque<FrameItem>, NoMemory>
     ensures { IfOk result (λ items. items.items ≡ opened (batch_items (message_id_values id) (payload_values payload))) }
 {
     match BatchedMessageIterator::new(id, payload) {
@@ -301,12 +306,15 @@ fn open(alloc: Global, id: MessageIdData, payload: Payload) -> Result<VecDeque<U
     }
 }
 
-fn all_of(alloc: Global, mut messages: BatchedMessageIterator) -> Result<VecDeque<Unread>, NoMemory>
+fn all_of(
+    alloc: Global,
+    mut messages: BatchedMessageIterator,
+) -> Result<VecDeque<FrameItem>, NoMemory>
     ensures { IfOk result (λ items. items.items ≡ map given messages) }
 {
     let mut items = VecDeque::new(alloc);
     while let Some((id, payload)) = messages.next() {
-        items.push_back(Unread::new(alloc, Item::Message { id, payload })?)?;
+        items.push_back(FrameItem::new(alloc, Item::Message { id, payload })?)?;
     }
     Ok(items)
 }

@@ -6,6 +6,7 @@ pub mod consumer;
 pub mod dead_letter;
 pub mod engine;
 pub mod frame;
+pub mod frame_item;
 pub mod kept;
 pub mod kept_id;
 pub mod laws;

@@ -12,12 +12,12 @@ ghost use Rattle.pulsar_consumer.specs.Topic as meaning;
 use crate::building::command;
 use crate::engine::ConsumerEngine;
 use crate::frame::Frame;
+use crate::frame_item::FrameItem;
 use crate::letter::LetterCopy;
 use pulsar_addresses::content::{Refusal, Text};
 use pulsar_exchange::content::Subscribed;
 use pulsar_incoming::polled::{Ending, Polled};
 use pulsar_incoming::settings::Settings;
-use pulsar_incoming::unread::Unread;
 use pulsar_searches::making::Command;
 use pulsar_wire::commands::ids::MessageIdData;
 use pulsar_wire::error::NoMemory;
@@ -316,7 +316,7 @@ impl TopicConsumer {
         match self.engine.give()? {
             Some(item) => {
                 self.count(clock, &item);
-                Ok(Polled::Item(item))
+                Ok(Polled::Item(item.hand(self.alloc)?))
             }
             None => Ok(self.give_none()),
         }
@@ -437,7 +437,7 @@ impl TopicConsumer {
         }
     }
 
-    fn count(&mut self, clock: u64, item: &Unread)
+    fn count(&mut self, clock: u64, item: &FrameItem)
         ensures { self.new ≡ meaning.counts clock item.now self.old }
     {
         if item.is_message() {

@@ -1,5 +1,5 @@
 -- What every history keeps of moments: the one that was told last, and the one at which the next check is due. And whose outcomes count.
-use Rattle.std.proofs.Common.{◌≡◌, ◌∙◌, sym, ap, refl, ℕ, ◌==◌, Bool, true, false, cond, List, [], ◌∷◌, Option, Some, None}
+use Rattle.std.proofs.Common.{◌≡◌, ◌∙◌, sym, ap, refl, ℕ, ◌+◌, ◌==◌, Bool, true, false, cond, List, [], ◌∷◌, Option, Some, None}
 use Rattle.std.specs.Option.{is_some, option_or}
 use Rattle.pulsar_wire.specs.Sink.{capped}
 use Rattle.pulsar_consumer.specs.Items.{Item, is_message}

@@ -6,6 +6,7 @@ pub mod Due
 pub mod Following
 pub mod Going
 pub mod Granting
+pub mod Handing
 pub mod Having
 pub mod Held
 pub mod Histories

@@ -69,6 +69,7 @@ impl FrameItem {
     }
 
     /// It is handed out.
+    #[tactic(auto, using(crate::proofs::Handing::handed_is))]
     pub fn hand(self, alloc: Global) -> Result<Unread, NoMemory>
         ensures { IfOk result (λ u. u ≡ handed self) }
     {

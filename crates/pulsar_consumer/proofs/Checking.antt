@@ -6,7 +6,7 @@ use Rattle.pulsar_consumer.specs.Items.{Item, is_message}
 use Rattle.pulsar_consumer.specs.DeadLetters.{Letter}
 use Rattle.pulsar_consumer.specs.Frames.{Frame, failed}
 use Rattle.pulsar_consumer.specs.Redelivery.{Id, Kept as KeptList, due_before, first_check, forget_all, next_check}
-use Rattle.pulsar_consumer.specs.Topic.{Act, Lives, Hears, Loses, Fails, Ends, Polls, Asks, IsAt, TakesCopy, IsCopied, FailsCopy, Stops, Forgets, Checks, Engine, Seen, Setup, acked_by, advances, after, clocked, copied, copy_failed, counts_first, ends, finish, first_of, frame_for, gives, goes_on, heard, hears, is_ended, is_finished, lives_on, names_due, only_if, places, seen, stops, takes_copy, told}
+use Rattle.pulsar_consumer.specs.Topic.{Act, Lives, Hears, Loses, Fails, Ends, Polls, Asks, IsAt, TakesCopy, IsCopied, FailsCopy, Stops, Forgets, Checks, Engine, Seen, Setup, acked_by, advances, after, clocked, copied, copy_failed, counts_first, ends, finish, first_of, frame_for, gives, goes_on, heard, hears, is_ended, is_finished, lives_on, only_if, places, seen, stops, takes_copy, told}
 use Rattle.pulsar_consumer.specs.Laws.{ChecksComeInTime, MomentsAreTold, OutcomesAreOwn, check_by, check_of, moment}
 use Rattle.pulsar_incoming.specs.declared.polled.Ending.{Ending}
 use Rattle.pulsar_incoming.specs.declared.polled.Ending.TheVariants.{LinkLost, NotSubscribed}

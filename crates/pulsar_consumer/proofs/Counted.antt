@@ -11,7 +11,7 @@ use Rattle.pulsar_consumer.specs.Frames.{Frame, failed}
 use Rattle.pulsar_consumer.specs.Laws.{PermitsAreCounted, arrivals, asked_since, begun, weighed_before, weights}
 use Rattle.pulsar_consumer.specs.DeadLetters.{Letter, lost_letter}
 use Rattle.pulsar_consumer.specs.Redelivery.{due_before, forget, forget_all, forget_one}
-use Rattle.pulsar_consumer.specs.Topic.{Act, Lives, Hears, Loses, Fails, Ends, Polls, Asks, IsAt, TakesCopy, IsCopied, FailsCopy, Stops, Forgets, Checks, Engine, Live, Seen, Setup, acked_by, advances, asked, batch_size, begins, behind, clocked, copied, copy_failed, ends, finish, finishes, finishes_by, first_due, first_in, first_of, frame_for, gives, gives_from, gives_up, goes_on, half, heard as hears_message, hears, is_ended, is_finished, is_pending, lives_on, names_due, places, seen, stops, subscribed, takes_copy, takes_copy_from, told}
+use Rattle.pulsar_consumer.specs.Topic.{Act, Lives, Hears, Loses, Fails, Ends, Polls, Asks, IsAt, TakesCopy, IsCopied, FailsCopy, Stops, Forgets, Checks, Engine, Live, Seen, Setup, acked_by, advances, asked, batch_size, begins, behind, clocked, copied, copy_failed, ends, finish, finishes, finishes_by, first_due, first_in, first_of, frame_for, gives, gives_from, gives_up, goes_on, half, heard as hears_message, hears, is_ended, is_finished, is_pending, lives_on, places, seen, stops, subscribed, takes_copy, takes_copy_from, told}
 use Rattle.pulsar_incoming.specs.declared.polled.Ending.TheVariants.{LinkLost, NotSubscribed}
 use Rattle.pulsar_consumer.proofs.Granting.{grants}
 use Rattle.pulsar_consumer.proofs.Held.{next_of}

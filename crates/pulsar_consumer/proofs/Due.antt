@@ -1,13 +1,11 @@
 -- Ids that are kept, over every history: which they are, and those that a check names.
-use Rattle.std.proofs.Common.{◌≡◌, ◌∙◌, sym, ap, refl, subst, ℕ, suc, ◌+◌, ◌≤◌, ◌&&◌, ◌||◌, nat_lt, not, Bool, true, false, cond, filter, List, [], ◌∷◌, ◌++◌, length, map, take, drop, Option, Some, None, arith}
-use Rattle.std.proofs.lemmas.List.{append-nil, append_assoc, drop_at, length-append}
+use Rattle.std.proofs.Common.{◌≡◌, ◌∙◌, sym, ap, refl, subst, ℕ, ◌+◌, ◌≤◌, ◌&&◌, ◌||◌, not, Bool, true, false, cond, List, [], ◌∷◌, ◌++◌, Option, Some, None, arith}
 use Rattle.std.proofs.lemmas.Map.Entries.{lookup-filter-keys}
 use Rattle.std.specs.BTreeMap.{insert_entry}
-use Rattle.std.specs.Cmp.{IsTotalOrder, eq_by_cmp_equiv}
+use Rattle.std.specs.Cmp.{eq_by_cmp_equiv}
 use Rattle.std.specs.List.{AllByRecursion, list_any}
 use Rattle.std.specs.List.Sorted.{IsStrictlySortedBy}
 use Rattle.std.specs.Map.{keys_of, lookup}
-use Rattle.std.specs.Option.{is_some, option_map}
 use Rattle.std.specs.Ordering.{ordering_reverse}
 use Rattle.std.specs.declared.cmp.Ordering.{Ordering}
 use Rattle.std.specs.declared.cmp.Ordering.TheVariants.{Less, Equal, Greater}
@@ -15,7 +13,7 @@ use Rattle.pulsar_wire.specs.Orders.{id_order}
 use Rattle.pulsar_consumer.specs.Items.{Item}
 use Rattle.pulsar_consumer.specs.Laws.{has_id, is_one_of}
 use Rattle.pulsar_consumer.specs.IdOrder.{id_total}
-use Rattle.pulsar_consumer.specs.Redelivery.{Id, Kept, due_before, forget, forget_all, id_of, is_same_id, keep, keep_all, keep_if, keep_item}
+use Rattle.pulsar_consumer.specs.Redelivery.{Id, Kept, forget, forget_all, id_of, is_same_id, keep, keep_all, keep_if, keep_item}
 use Rattle.pulsar_consumer.proofs.Keeping.{exact_id, is_this, sorted_filter}
 
 -- WHAT IS KEPT OF AN ID

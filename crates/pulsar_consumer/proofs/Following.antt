@@ -1,8 +1,8 @@
 -- What an engine holds of its arrivals, and what the copies of dead letters come to.
-use Rattle.std.proofs.Common.{◌≡◌, ◌∙◌, sym, ap, refl, subst, ℕ, suc, ◌+◌, ◌-◌, ◌<◌, ◌≤◌, nat_lt, min, not, ◌&&◌, ◌||◌, Bool, true, false, cond, List, [], ◌∷◌, ◌++◌, length, take, drop, Option, Some, None, arith}
+use Rattle.std.proofs.Common.{◌≡◌, ◌∙◌, sym, ap, refl, subst, ℕ, suc, ◌+◌, ◌-◌, ◌<◌, ◌≤◌, nat_lt, ◌&&◌, ◌||◌, Bool, true, false, cond, List, [], ◌∷◌, ◌++◌, length, take, Option, Some, None, arith}
 use Rattle.std.proofs.lemmas.Bool.Decides.{nat_tests}
-use Rattle.std.proofs.lemmas.List.{append-nil, append_assoc, length-append, length-drop, length-take, take-append-le, take_all}
-use Rattle.std.specs.Option.{is_some, option_map}
+use Rattle.std.proofs.lemmas.List.{append-nil, append_assoc, length-append, length-drop, length-take}
+use Rattle.std.specs.Option.{is_some}
 use Rattle.pulsar_wire.specs.Row.{none_of}
 use Rattle.pulsar_wire.specs.Rows.{message_metadata}
 use Rattle.pulsar_consumer.specs.Items.{Item}
@@ -10,7 +10,7 @@ use Rattle.pulsar_consumer.specs.DeadLetters.{Letter, lost_letter}
 use Rattle.pulsar_consumer.specs.Frames.{Frame}
 use Rattle.pulsar_consumer.specs.Laws.{Fate, Pending, Settled, begun_behind, begun_in, behind_fate, fate, outcome_if, pending_behind, pending_in, ready_in}
 use Rattle.pulsar_consumer.specs.Redelivery.{Id, Kept, forget_one}
-use Rattle.pulsar_consumer.specs.Topic.{Engine, Live, acked_by, advances, copied, copy_failed, error_for, finish, first_of, gives, gives_from, gives_up, goes_on, hears, is_finished, is_pending, no_items, no_letters, places, stops, takes_copy, takes_copy_from}
+use Rattle.pulsar_consumer.specs.Topic.{Engine, Live, acked_by, advances, copied, copy_failed, error_for, finish, first_of, gives, gives_from, gives_up, goes_on, hears, is_finished, is_pending, places, stops, takes_copy, takes_copy_from}
 use Rattle.pulsar_consumer.proofs.Held.{IsFull, bare_of, finished, is_idle, next_of, nothing_open, one_of, places_full, split_again}
 
 -- the entries of the frame that is begun that are left, with the one whose copy is under way

@@ -1,12 +1,12 @@
 -- What an engine holds: as many items are placed as there is room for.
 use Rattle.std.proofs.Common.{◌≡◌, ◌∙◌, sym, ap, refl, ℕ, suc, ◌+◌, ◌-◌, ◌<◌, ◌≤◌, min, not, ◌&&◌, ◌||◌, Bool, true, false, cond, List, [], ◌∷◌, ◌++◌, length, take, drop, Option, Some, None, arith}
-use Rattle.std.proofs.lemmas.List.{append-nil, append_assoc, length-append, length-drop, length-take, take-append-drop}
+use Rattle.std.proofs.lemmas.List.{append_assoc, length-append, length-drop, length-take, take-append-drop}
 use Rattle.std.specs.Option.{is_some, option_map, option_to_list}
 use Rattle.pulsar_consumer.specs.Items.{Item}
 use Rattle.pulsar_consumer.specs.DeadLetters.{Letter, lost_letter}
 use Rattle.pulsar_consumer.specs.Frames.{Frame}
 use Rattle.pulsar_consumer.specs.Redelivery.{Id, forget_one}
-use Rattle.pulsar_consumer.specs.Topic.{Engine, acked_by, advances, begin, begins, copied, copy_failed, finish, first_of, gives, gives_from, gives_up, goes_on, hears, is_finished, is_pending, no_items, no_letters, opens, places, stops, takes_copy, takes_copy_from}
+use Rattle.pulsar_consumer.specs.Topic.{Engine, acked_by, advances, begin, begins, copied, copy_failed, finish, gives, gives_from, gives_up, goes_on, hears, is_finished, is_pending, no_items, no_letters, opens, places, stops, takes_copy, takes_copy_from}
 
 pub none_left : (xs : List Item) → no_items xs ≡ true → xs ≡ []
 none_left [] e = refl

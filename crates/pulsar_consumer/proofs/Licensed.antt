@@ -2,7 +2,7 @@
 use Rattle.std.proofs.Common.{◌≡◌, ◌==◌, refl, cond, Bool, true, false, List, [], ◌∷◌, ◌++◌, Option, Some, None, inl, inr}
 use Rattle.std.specs.Option.{is_some, option_to_list}
 use Rattle.pulsar_consumer.specs.Redelivery.{Id}
-use Rattle.pulsar_consumer.specs.Topic.{Act, Lives, Hears, Loses, Fails, Ends, Polls, Asks, IsAt, TakesCopy, IsCopied, FailsCopy, Stops, Forgets, Checks, Seen, Setup, acked_by, only_if, seen}
+use Rattle.pulsar_consumer.specs.Topic.{Act, Lives, Hears, Loses, Fails, Ends, Polls, Asks, IsAt, TakesCopy, IsCopied, FailsCopy, Stops, Forgets, Checks, Seen, acked_by, only_if, seen}
 use Rattle.pulsar_consumer.specs.Laws.{AreAmong, ReceiptsLicenseAcks, acks, acks_by, receipts, receipts_by, under_way}
 
 among_behind : (ys as' bs : List Id) → AreAmong as' bs → AreAmong as' (ys ++ bs)

@@ -1,25 +1,22 @@
 -- What every history keeps of the ids: those that are placed are kept until they are due.
-use Rattle.std.proofs.Common.{◌≡◌, ◌∙◌, sym, ap, refl, subst, ℕ, suc, ◌+◌, ◌≤◌, ◌==◌, ◌&&◌, ◌||◌, not, Bool, true, false, cond, filter, List, [], ◌∷◌, ◌++◌, length, map, take, drop, Option, Some, None, arith}
-use Rattle.std.proofs.lemmas.List.{append-nil, append_assoc, drop_at, length-append, take-append-le}
-use Rattle.std.specs.List.{AllByRecursion, list_any}
+use Rattle.std.proofs.Common.{◌≡◌, ◌∙◌, sym, ap, refl, subst, ℕ, suc, ◌+◌, ◌≤◌, ◌==◌, ◌&&◌, ◌||◌, not, Bool, true, false, cond, List, [], ◌∷◌, ◌++◌, length, take, Option, Some, None, arith}
+use Rattle.std.proofs.lemmas.List.{append-nil, append_assoc}
 use Rattle.std.specs.List.Sorted.{IsStrictlySortedBy}
-use Rattle.std.specs.Map.{keys_of, lookup}
+use Rattle.std.specs.Map.{lookup}
 use Rattle.std.specs.Option.{is_some, option_map, option_or}
 use Rattle.url.specs.Parts.{Parts}
-use Rattle.pulsar_wire.specs.Sink.{capped}
-use Rattle.pulsar_wire.specs.Orders.{id_order}
 use Rattle.pulsar_consumer.specs.Items.{Item}
 use Rattle.pulsar_consumer.specs.DeadLetters.{Letter, lost_letter}
 use Rattle.pulsar_consumer.specs.Frames.{Frame, failed}
-use Rattle.pulsar_consumer.specs.Redelivery.{Id, Kept, due_at, due_before, forget, forget_all, forget_one, is_due_before, is_early, is_same_id, keep_all, next_check}
-use Rattle.pulsar_consumer.specs.Topic.{Act, Lives, Hears, Loses, Fails, Ends, Polls, Asks, IsAt, TakesCopy, IsCopied, FailsCopy, Stops, Forgets, Checks, Engine, Live, Seen, Setup, acked, acked_by, advances, after, asked_again, clocked, copied, copy_failed, counts_first, ends, finish, first_of, frame_for, gives, gives_from, gives_up, goes_on, heard, hears, is_ended, is_finished, is_pending, link_of, lives_on, loses, names_due, only_if, over, placing, places, polled, seen, shut, stops, subscribed, takes_copy, takes_copy_from, told}
-use Rattle.pulsar_consumer.specs.Laws.{ChecksNameTheDue, KeptAreDue, due_now, due_of, given, given_by, is_acked, is_forgotten_by, is_one_of, left, placed, placed_by, queue, ready}
+use Rattle.pulsar_consumer.specs.Redelivery.{Id, Kept, due_at, due_before, forget, forget_all, forget_one, is_early, is_same_id, keep_all, next_check}
+use Rattle.pulsar_consumer.specs.Topic.{Act, Lives, Hears, Loses, Fails, Ends, Polls, Asks, IsAt, TakesCopy, IsCopied, FailsCopy, Stops, Forgets, Checks, Engine, Live, Seen, Setup, acked_by, advances, after, clocked, copied, copy_failed, counts_first, ends, finish, first_of, frame_for, gives, gives_from, gives_up, goes_on, heard, hears, is_ended, is_finished, is_pending, lives_on, only_if, placing, places, polled, seen, stops, takes_copy, takes_copy_from, told}
+use Rattle.pulsar_consumer.specs.Laws.{given, given_by, is_acked, is_forgotten_by, left, placed, queue}
 use Rattle.pulsar_incoming.specs.declared.polled.Ending.{Ending}
 use Rattle.pulsar_incoming.specs.declared.polled.Ending.TheVariants.{LinkLost, NotSubscribed}
-use Rattle.pulsar_consumer.proofs.Due.{AreOrdered, forget_all_ordered, forget_none, forget_ordered, found_left, found_left_all, found_placed, keep_more, kept_none, placed_ordered}
+use Rattle.pulsar_consumer.proofs.Due.{AreOrdered, forget_all_ordered, forget_none, forget_ordered, found_left, found_left_all, keep_more, kept_none, placed_ordered}
 use Rattle.pulsar_consumer.proofs.Held.{bare_of, next_of, one_of}
-use Rattle.pulsar_consumer.proofs.Histories.{Kept as Keeping, counted_same, kept as always, is_shut, lost, not_on, polls_at, queue_is_kept, polls_give_arrivals, refused, subscribed_again}
-use Rattle.pulsar_consumer.proofs.Keeping.{due_is, sorted_filter}
+use Rattle.pulsar_consumer.proofs.Histories.{Kept as Keeping, counted_same, kept as always, lost, polls_at, queue_is_kept, polls_give_arrivals, refused, subscribed_again}
+use Rattle.pulsar_consumer.proofs.Keeping.{due_is}
 
 -- AN ENGINE THAT GOES ON places some items, and keeps their ids
 

@@ -1,5 +1,5 @@
 -- Where no dead letters are asked for nothing is pending, and all items are given.
-use Rattle.std.proofs.Common.{◌≡◌, ◌∙◌, sym, ap, refl, subst, Bool, true, false, cond, List, [], ◌∷◌, ◌++◌, Option, None}
+use Rattle.std.proofs.Common.{◌≡◌, ◌∙◌, ap, refl, Bool, true, false, cond, List, [], ◌∷◌, ◌++◌, Option, None}
 use Rattle.std.specs.List.{AllByRecursion}
 use Rattle.pulsar_incoming.specs.Content.{DeadLetterValues}
 use Rattle.pulsar_consumer.specs.Frames.{Frame, failed, frame_by}

@@ -9,7 +9,7 @@ use Rattle.pulsar_consumer.specs.DeadLetters.{Letter, lost_letter}
 use Rattle.pulsar_consumer.specs.Frames.{Frame, failed}
 use Rattle.pulsar_consumer.specs.Redelivery.{Id, Kept, due_before, forget, forget_all, forget_one, next_check}
 use Rattle.pulsar_consumer.specs.Topic.{Act, Lives, Hears, Loses, Fails, Ends, Polls, Asks, IsAt, TakesCopy, IsCopied, FailsCopy, Stops, Forgets, Checks, Engine, Live, Seen, Setup, acked_by, advances, after, asked, clocked, copied, copy_failed, ends, finish, first_letter, first_of, frame_for, gives, gives_from, gives_up, goes_on, heard, hears, is_ended, is_finished, lives, lives_on, places, seen, shut, subscribed, takes_copy, takes_copy_from, to_copy}
-use Rattle.pulsar_consumer.specs.Laws.{CopiesFollowArrivals, Fate, Pending, Settled, arrivals, arrives_by, fate, is_stopped, outcome_by, outcome_if, outcomes, taken, taken_by, tried, tried_behind, tried_in}
+use Rattle.pulsar_consumer.specs.Laws.{CopiesFollowArrivals, arrivals, arrives_by, fate, is_stopped, outcome_by, outcome_if, outcomes, taken, taken_by, tried, tried_behind, tried_in}
 use Rattle.pulsar_incoming.specs.declared.polled.Ending.TheVariants.{LinkLost, NotSubscribed}
 use Rattle.pulsar_consumer.proofs.Following.{any_letter, holding, one_outcome, open_of}
 use Rattle.pulsar_consumer.proofs.Held.{bare_of, finished, is_idle, next_of}

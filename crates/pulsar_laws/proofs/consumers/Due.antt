@@ -23,7 +23,7 @@ use Rattle.pulsar_calls.specs.declared.act.Makes.TheVariants as makes
 use Rattle.pulsar_calls.specs.declared.act.Word.TheVariants as word
 use Rattle.pulsar_calls.specs.declared.content.Joining.{Joining}
 use Rattle.pulsar_consumer_table.specs.Consumers as consumer
-use Rattle.pulsar_consumer_table.specs.Consumers.{Consumers, Member, at_row, called_on, drew, ends_on, hears, hears_frame, holds, is_closed_by, member_after, names_in, next_free, numbering, opened_on, revived, word_if, word_of, word_of_frame}
+use Rattle.pulsar_consumer_table.specs.Consumers.{Arrives, ClientStops, CloseAsked, Consumers, Deed, FlowTaken, IsPolled, IsSought, LinkEnds, Member, NotRevived, Revived, at_row, called_on, drew, ends_on, hears, hears_frame, holds, is_closed_by, member_after, names_in, next_free, numbering, opened_on, revived, word_if, word_of, word_of_frame}
 use Rattle.pulsar_consumer_table.specs.declared.numbers.Numbering.{Numbering}
 use Rattle.pulsar_consumer_table.specs.declared.numbers.Numbering.TheVariants.{Has, InUse, Spent}
 use Rattle.pulsar_consumer_table.specs.Notices.{again_at, due_at, due_to, heard_at, word_notice, word_to}
@@ -33,10 +33,10 @@ use Rattle.pulsar_acts.specs.View.{consumers_left, consumers_listed, listed_as, 
 use Rattle.pulsar_links.specs.LinkRules.{answered_on}
 use Rattle.pulsar_laws.proofs.Cases.{none_some, some_is}
 use Rattle.pulsar_laws.proofs.Lists.{in_right, into_flat}
-use Rattle.pulsar_laws.proofs.consumers.Lone.{applied, arrival_done, joins_here, none_after}
+use Rattle.pulsar_laws.proofs.consumers.Lone.{applied, applied_append, deeds_did, did_so, joins_here, none_after}
 use Rattle.pulsar_laws.proofs.calls.Same.{same_self}
-use Rattle.pulsar_laws.proofs.consumers.Members.{either_number, lost_gone, polled_number, row_made}
-use Rattle.pulsar_laws.specs.ConsumerLaws.{does_to, loss_does, subscription_does}
+use Rattle.pulsar_laws.proofs.consumers.Members.{CameFrom, either_number, lost_gone, polled_number, row_made}
+use Rattle.pulsar_laws.specs.ConsumerLaws.{deed_does, deeds_do, does_to}
 
 -- THE TICKETS of all consumers are known
 
@@ -226,21 +226,19 @@ is_waker (Does who (OfConsumer (Revive l))) = true
 is_waker _ = false
 
 pub falls_due : (v : View) (t : ℕ) (m : Member) (a : Act) → is_waker a ≡ false → is_due (applied (does_to v t m a) m.seen) ≡ true → is_due m.seen ≡ true
-falls_due v t m (Comes (ToLink l Reads)) w h = absurd cc
-falls_due v t m (Comes (Polls u)) w h = absurd cc
-falls_due v t m (Does who (OfConsumer (Revive l))) w h = absurd cc
-falls_due v t m (Comes (ToLink l (Ends end))) w h = by (closing end v.now (v.links.live l)) h
+falls_due v t m a w h = did_so Falls (λ s k. k) (λ xs ys s q p k. q (p (ap is_due (sym (applied_append xs ys s)) ∙ k))) v t a one m h
   where
-    by : (c : Option Fault) → is_due (applied (loss_does l c) m.seen) ≡ true → is_due m.seen ≡ true
-    by None k = k
-    by (Some cause) k = falls_loses l m.seen k
-falls_due v t m (Does who (Ask l request)) w h =
-    falls_either (is_asked (answer_at v.now request (v.links.live l)) && is_closed_by (closed_consumer request) l m) (Over Closed ∷ []) m.seen
-    (λ k. absurd cc) h
-falls_due v t m (Does who (OfConsumer TakeFlow)) w h = falls_either (t == ticket_of who) (Asks ∷ []) m.seen (falls_asks m.seen) h
-falls_due v t m (Does who (OfConsumer (FailConsumer f))) w h = falls_either (t == ticket_of who) (Fails f ∷ []) m.seen (falls_fails f m.seen) h
-falls_due v t m (Does who StopAll) w h = absurd cc
-falls_due v t m a w h = h
+    one : (d : Deed) → CameFrom v t a d → (n : Member) → Falls (deed_does d n) n.seen
+    one (Arrives l x) c n k = let f : true ≡ false = sym (ap is_waker c.0) ∙ w in absurd cc
+    one (LinkEnds l None) c n k = k
+    one (LinkEnds l (Some cause)) c n k = falls_loses l n.seen k
+    one (CloseAsked closed l b) c n k = falls_either (b && is_closed_by closed l n) (Over Closed ∷ []) n.seen (λ j. absurd cc) k
+    one (IsPolled clock) c n k = let f : true ≡ false = sym (ap is_waker c.0) ∙ w in absurd cc
+    one (IsSought who) c n k = k
+    one FlowTaken c n k = falls_asks n.seen k
+    one (Revived l url) c n k = let f : true ≡ false = sym (ap is_waker c.1) ∙ w in absurd cc
+    one (NotRevived f) c n k = falls_fails f n.seen k
+    one ClientStops c n k = absurd cc
 
 -- WHERE ONE FALLS DUE its plan is told so
 
@@ -333,47 +331,43 @@ module _ (o : Options) (log : List Entry) (t : ℕ) (m : Member) (there : (view 
         inl (inr (inr (inl (opened_in (word_notice t m word.Due) (front ++ heard_on v l) (in_right (word_notice t m word.Due) front (heard_on v l) all))))))
   ]
 
-  polls_due : (u : ℕ) → is_due (applied (cond (t == u) (Polled v.now ∷ []) []) m.seen) ≡ true → Rises (Comes (Polls u))
+  polls_due : (u : ℕ) → is_due (applied (deeds_do (cond (t == u) (IsPolled v.now ∷ []) []) m) m.seen) ≡ true → Rises (Comes (Polls u))
   polls_due u h = elim (cases_Bool (t == u)) [
-    | inr e ↦ inr (sym (ap (λ b. is_due (applied (cond b (Polled v.now ∷ []) []) m.seen)) e) ∙ h)
+    | inr e ↦ inr (sym (ap (λ b. is_due (applied (deeds_do (cond b (IsPolled v.now ∷ []) []) m) m.seen)) e) ∙ h)
     | inl e ↦
         (let n : Member = member_after (Polled v.now) m in
-        let d : is_due n.seen ≡ true = sym (ap (λ b. is_due (applied (cond b (Polled v.now ∷ []) []) m.seen)) e) ∙ h in
+        let d : is_due n.seen ≡ true = sym (ap (λ b. is_due (applied (deeds_do (cond b (IsPolled v.now ∷ []) []) m) m.seen)) e) ∙ h in
         let i : In (due_to_plan m.seen.number t) (map Told (due_at t (option_map (member_after (Polled v.now)) (v.consumers.rows t)))) =
         subst (λ row. In (due_to_plan m.seen.number t) (map Told (due_at t (option_map (member_after (Polled v.now)) row)))) (sym there)
         (renamed n (due_at t (Some n)) (polled_number v.now m.seen) (due_there t n d)) in
         inl (subst (λ x. Arises rules o (due_to_plan m.seen.number t) (Then (Comes (Polls x))) log) (eqb-true t u e) (inr (inl i))))
   ]
 
-  pub revived_due : (who : Who) (l : ℕ) → (t == ticket_of who) ≡ true → is_due (applied (subscription_does l (url_at (v.links.live l))) m.seen) ≡ true →
+  pub revived_due : (who : Who) (l : ℕ) → (t == ticket_of who) ≡ true → is_due (applied (deeds_do (Revived l (url_at (v.links.live l)) ∷ []) m) m.seen) ≡ true →
       Arises rules o (due_to_plan m.seen.number t) (Then (Does who (OfConsumer (Revive l)))) log
   revived_due who l e h =
       let url : Option Parts = url_at (v.links.live l) in
       let n : Member = revived l url m in
       let i : In (due_to_plan m.seen.number t) (map Told (due_at t (Some n))) =
-      renamed n (due_at t (Some n)) (seen_number url) (due_there t n (ap is_due (seen_so url) ∙ h)) in
+      renamed n (due_at t (Some n)) (seen_number url) (due_there t n (ap is_due (deeds_did (Revived l url ∷ []) m) ∙ h)) in
       let j : In (due_to_plan m.seen.number t) (map Told (again_at (v.consumers.rows t) ++ due_at t (option_map (revived l url) (v.consumers.rows t)))) =
       due_append m.seen.number t (again_at (v.consumers.rows t)) (due_at t (option_map (revived l url) (v.consumers.rows t)))
       (subst (λ row. In (due_to_plan m.seen.number t) (map Told (due_at t (option_map (revived l url) row)))) (sym there) i) in
       inr (inl (subst (λ x. In (due_to_plan m.seen.number t) (map Told (again_at (v.consumers.rows x) ++ due_at x (option_map (revived l url) (v.consumers.rows x)))))
       (eqb-true t (ticket_of who) e) j))
     where
-      seen_so : (url : Option Parts) → (revived l url m).seen ≡ applied (subscription_does l url) m.seen
-      seen_so None = refl
-      seen_so (Some u) = refl
-
       seen_number : (url : Option Parts) → (revived l url m).seen.number ≡ m.seen.number
-      seen_number url = ap (λ (s : Seen). s.number) (seen_so url) ∙ applied_number (subscription_does l url) m.seen
+      seen_number url = ap (λ (s : Seen). s.number) (deeds_did (Revived l url ∷ []) m) ∙ applied_number (deeds_do (Revived l url ∷ []) m) m.seen
 
-  revive_due : (who : Who) (l : ℕ) → is_due (applied (cond (t == ticket_of who) (subscription_does l (url_at (v.links.live l))) []) m.seen) ≡ true →
+  revive_due : (who : Who) (l : ℕ) → is_due (applied (deeds_do (cond (t == ticket_of who) (Revived l (url_at (v.links.live l)) ∷ []) []) m) m.seen) ≡ true →
       Rises (Does who (OfConsumer (Revive l)))
   revive_due who l h = elim (cases_Bool (t == ticket_of who)) [
-    | inr e ↦ inr (sym (ap (λ b. is_due (applied (cond b (subscription_does l (url_at (v.links.live l))) []) m.seen)) e) ∙ h)
-    | inl e ↦ inl (revived_due who l e (sym (ap (λ b. is_due (applied (cond b (subscription_does l (url_at (v.links.live l))) []) m.seen)) e) ∙ h))
+    | inr e ↦ inr (sym (ap (λ b. is_due (applied (deeds_do (cond b (Revived l (url_at (v.links.live l)) ∷ []) []) m) m.seen)) e) ∙ h)
+    | inl e ↦ inl (revived_due who l e (sym (ap (λ b. is_due (applied (deeds_do (cond b (Revived l (url_at (v.links.live l)) ∷ []) []) m) m.seen)) e) ∙ h))
   ]
 
   pub rises : (a : Act) → is_waker a ≡ true → is_due (applied (does_to v t m a) m.seen) ≡ true → Rises a
-  rises (Comes (ToLink l Reads)) w h = reads_due l (ap is_due (arrival_done l (arrival_at (v.links.live l)) m) ∙ h)
+  rises (Comes (ToLink l Reads)) w h = reads_due l (ap is_due (deeds_did (Arrives l (arrival_at (v.links.live l)) ∷ []) m) ∙ h)
   rises (Comes (Polls u)) w h = polls_due u h
   rises (Does who (OfConsumer (Revive l))) w h = revive_due who l h
   rises a w h = absurd cc

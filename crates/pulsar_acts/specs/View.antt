@@ -45,7 +45,7 @@ use Rattle.pulsar_outgoing.specs.Storage.{limits_of}
 use Rattle.pulsar_calls.specs.declared.content.BuiltProducer.{BuiltProducer}
 use Rattle.pulsar_producer_table.specs.Asks.{Around, Given, around_in, given}
 use Rattle.pulsar_producer_table.specs.declared.table.Topic.{Topic}
-use Rattle.pulsar_producer_table.specs.Producers.{Producers, called_on, freed, holding, is_bare, joined, link_at, none, numbered, numbers_at, shut_by, timeout_at, topic_after, topic_in}
+use Rattle.pulsar_producer_table.specs.Producers.{Producers, called_on, freed, holding, is_bare, link_at, listed, none, numbered, numbers_at, shut_by, timeout_at, topic_after, topic_in}
 use Rattle.pulsar_producer.specs.Topic as topic
 use Rattle.pulsar_consumer_table.specs.Asks as of_consumer
 use Rattle.pulsar_consumer_table.specs.Asks.{link_asked, ticket_asked}
@@ -407,17 +407,18 @@ member_made live (Consumer made) = Some (member_on live made.link (setup_of made
 member_made live (RawConsumer l made) = Some (member_on live l (of_raw made))
 member_made live (Producer made) = None
 
-abbrev pub joins_as : Who → Member → Consumers → Consumers
-joins_as (who.Call t) m cs = consumer.joined t m cs
-joins_as (who.Consumer n t) m cs = cs
-joins_as (who.Producer n) m cs = cs
+-- and that is listed
+abbrev pub listed_as : Who → Consumers → Consumers
+listed_as (who.Call t) cs = consumer.listed t cs
+listed_as (who.Consumer n t) cs = cs
+listed_as (who.Producer n) cs = cs
 
-abbrev pub joins_some : Who → Option Member → Consumers → Consumers
-joins_some w None cs = cs
-joins_some w (Some m) cs = joins_as w m cs
-
-abbrev pub consumers_made : (ℕ → Option Seat) → Who → Makes → Consumers → Consumers
-consumers_made live w m cs = joins_some w (member_made live m) cs
+abbrev pub consumers_listed : Who → Makes → Consumers → Consumers
+consumers_listed w Nothing cs = cs
+consumers_listed w Client cs = cs
+consumers_listed w (Consumer made) cs = listed_as w cs
+consumers_listed w (RawConsumer l made) cs = listed_as w cs
+consumers_listed w (Producer made) cs = cs
 
 -- and a call that has ended holds no number
 abbrev pub consumers_left : Who → Consumers → Consumers
@@ -466,7 +467,7 @@ abbrev pub consumers_else : View → Act → Consumers
 consumers_else v (Comes (Calls asked advice)) =
     if lacks_tickets v.calls.drawn (shares asked) then v.consumers else consumer.called_on (may_call v.calls) asked v.consumers
 consumers_else v (Does w (TakeNumber wanted)) = consumer.numbered (ticket_of w) wanted v.consumers
-consumers_else v (Answers w verdict) = consumers_left w (consumers_made v.links.live w verdict.makes v.consumers)
+consumers_else v (Answers w verdict) = consumers_left w (consumers_listed w verdict.makes v.consumers)
 consumers_else v _ = v.consumers
 
 abbrev pub consumers_after : View → Act → Consumers
@@ -483,12 +484,12 @@ abbrev pub room_of : View → (number : ℕ) → Option Bool
 room_of v n = room_on v.links.live (link_at (v.producers.topics n))
 
 -- the producer that a verdict makes has the ticket of its call
-abbrev pub producers_made : Chosen → Who → Makes → Producers → Producers
-producers_made o who Nothing ps = ps
-producers_made o who Client ps = ps
-producers_made o who (Consumer made) ps = ps
-producers_made o who (RawConsumer link made) ps = ps
-producers_made o who (Producer made) ps = joined (rank who).1 made o.seed o.first_number ps
+abbrev pub producers_listed : Chosen → Who → Makes → Producers → Producers
+producers_listed o who Nothing ps = ps
+producers_listed o who Client ps = ps
+producers_listed o who (Consumer made) ps = ps
+producers_listed o who (RawConsumer link made) ps = ps
+producers_listed o who (Producer made) ps = listed (rank who).1 made o.seed ps
 
 -- and a call that has ended makes none any more
 abbrev pub producers_left : Who → Producers → Producers
@@ -550,7 +551,7 @@ others_after v (Comes (Calls asked advice)) =
     if lacks_tickets v.calls.drawn (shares asked) then v.producers else called_on (may_call v.calls) asked v.producers
 others_after v (Does who Number) = numbered v.producers
 others_after v (Does who (Hold l n)) = holding (ticket_of who) l n v.producers
-others_after v (Answers who verdict) = producers_left who (producers_made v.chosen who verdict.makes v.producers)
+others_after v (Answers who verdict) = producers_left who (producers_listed v.chosen who verdict.makes v.producers)
 others_after v _ = v.producers
 
 abbrev pub producers_after : View → Act → Producers

@@ -7,7 +7,7 @@ use Rattle.pulsar_calls.specs.Content as content
 use Rattle.pulsar_calls.specs.Content.{Asked}
 use Rattle.pulsar_consumer_table.specs.declared.numbers.Numbering.{Numbering}
 use Rattle.pulsar_consumer_table.specs.declared.numbers.Numbering.TheVariants.{Has, InUse, Spent}
-use Rattle.pulsar_consumer_table.specs.Consumers.{Consumers, Deed, Member, called_on, changed, done_to, drew, holds, joined, member_by, names_in, next_free, numbered, numbering, opened_on}
+use Rattle.pulsar_consumer_table.specs.Consumers.{Consumers, Deed, Member, called_on, changed, done_to, drew, holds, joined, listed, member_by, names_in, next_free, numbered, numbering, opened_on}
 
 -- WHAT IS DONE TO ONE
 
@@ -34,8 +34,8 @@ row_joins true m row = refl
 row_joins false m row = refl
 
 pub joined_is : (t : ℕ) (m : Member) (cs : Consumers) →
-    joined t m cs ≡ record (joined t m cs) { rows = λ u. row_after member_by (cond (u == t) (Some m) None) false [] (cs.rows u) }
-joined_is t m cs i = record (joined t m cs) { rows = λ u. row_joins (u == t) m (cs.rows u) i }
+    joined t m cs ≡ record (listed t cs) { rows = λ u. row_after member_by (cond (u == t) (Some m) None) false [] (cs.rows u) }
+joined_is t m cs i = record (listed t cs) { rows = λ u. row_joins (u == t) m (cs.rows u) i }
 
 -- NUMBERS are taken and drawn, and calls are made: that leaves each as it is
 

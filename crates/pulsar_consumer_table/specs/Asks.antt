@@ -14,8 +14,8 @@ use Rattle.pulsar_calls.specs.declared.act.Word.TheVariants as word
 use Rattle.pulsar_calls.specs.Who.{ticket_of}
 use Rattle.pulsar_consumer_table.specs.Consumers.{Consumers, Deed, FlowTaken, IsSought, Member, NotRevived, Revived, flow_at, is_ended_at, recalled, sought}
 use Rattle.pulsar_consumer_table.specs.Notices.{again_at, revived_at}
-use Rattle.pulsar_consumer_table.specs.declared.row.Sought.{Sought}
-use Rattle.pulsar_consumer_table.specs.declared.row.Sought.TheVariants.{Found, Gone, Later}
+use Rattle.pulsar_consumer_table.specs.declared.row.LinkAnswer.{LinkAnswer}
+use Rattle.pulsar_consumer_table.specs.declared.row.LinkAnswer.TheVariants.{Found, Gone, Later}
 
 -- whose consumer it is: the plan of one asks of its own
 abbrev pub ticket_asked : Who → ConsumerAsk → ℕ
@@ -48,7 +48,7 @@ abbrev pub says_word : Word → Option Outcome
 says_word w = Some (outcome.Word w)
 
 -- the link, which is waited for while there is none
-abbrev pub sought_said : Sought → Option Outcome
+abbrev pub sought_said : LinkAnswer → Option Outcome
 sought_said (Found l) = Some (outcome.GotLink l)
 sought_said Gone = says_word word.Closed
 sought_said Later = None

@@ -32,8 +32,8 @@ use Rattle.pulsar_calls.specs.declared.act.Word.{Word}
 use Rattle.pulsar_calls.specs.declared.act.Word.TheVariants as word
 use Rattle.pulsar_consumer_table.specs.declared.numbers.Numbering.{Numbering}
 use Rattle.pulsar_consumer_table.specs.declared.numbers.Numbering.TheVariants.{Has, InUse, Spent}
-use Rattle.pulsar_consumer_table.specs.declared.row.Sought.{Sought}
-use Rattle.pulsar_consumer_table.specs.declared.row.Sought.TheVariants.{Found, Gone, Later}
+use Rattle.pulsar_consumer_table.specs.declared.row.LinkAnswer.{LinkAnswer}
+use Rattle.pulsar_consumer_table.specs.declared.row.LinkAnswer.TheVariants.{Found, Gone, Later}
 use Rattle.pulsar_calls.specs.Content as content
 use Rattle.pulsar_calls.specs.Content.{Asked, Shown, Hands, Faults, FindsNothing, FindsEnd}
 
@@ -169,16 +169,16 @@ is_heard cs l = some_row (lives_at l) cs
 
 -- THOSE WHO WANT ITS LINK: they get that of its live subscription, or wait; there is none once it has ended
 
-abbrev pub sought_for : (is_ended : Bool) → (link : Option ℕ) → Sought
+abbrev pub sought_for : (is_ended : Bool) → (link : Option ℕ) → LinkAnswer
 sought_for is_ended (Some l) = Found l
 sought_for true None = Gone
 sought_for false None = Later
 
-abbrev pub sought : Option Member → Sought
+abbrev pub sought : Option Member → LinkAnswer
 sought None = Gone
 sought (Some m) = sought_for (is_ended m.seen) (link_of m.seen)
 
-abbrev pub waits_so : Sought → Who → Member → Member
+abbrev pub waits_so : LinkAnswer → Who → Member → Member
 waits_so (Found l) w m = m
 waits_so Gone w m = m
 waits_so Later w m = record m { seekers = m.seekers ++ w ∷ [] }
@@ -348,8 +348,12 @@ names_in (Some number) cs = record cs { named = insert_key nat_cmp cs.named numb
 abbrev pub member_of : Setup → (link : ℕ) → Option Parts → Member
 member_of s l url = subscribed_on l url (record { seen = fresh s; seekers = [] })
 
+-- its ticket is that of its call
+abbrev pub listed : (ticket : ℕ) → Consumers → Consumers
+listed t cs = record cs { tickets = insert_key nat_cmp cs.tickets t }
+
 abbrev pub joined : (ticket : ℕ) → Member → Consumers → Consumers
-joined t m cs = record cs { rows = λ u. if u == t then Some m else cs.rows u; tickets = insert_key nat_cmp cs.tickets t }
+joined t m cs = record (listed t cs) { rows = λ u. if u == t then Some m else cs.rows u }
 
 -- one of them is changed, and each
 abbrev pub changed : (ticket : ℕ) → (Member → Member) → Consumers → Consumers

@@ -7,7 +7,7 @@ ghost use Rattle.pulsar_consumer_table.specs.Consumers.{FlowTaken, IsSought, Not
 ghost use Rattle.pulsar_consumer_table.specs.KeptConsumers.{consumers_in};
 ghost use Rattle.pulsar_consumer_table.specs.Notices.{again_at, revived_at};
 
-use crate::row::Sought;
+use crate::row::LinkAnswer;
 use crate::table::Consumers;
 use pulsar_addresses::content::Refusal as Failure;
 use pulsar_calls::act::{ConsumerAsk, Notice, Outcome, Who, Word};
@@ -57,9 +57,9 @@ impl Consumers {
             ≡ done_to ticket (IsSought who ∷ []) (consumers_in self.old.rows self.old.numbers)) }
     {
         match self.seek(ticket, who)? {
-            Sought::Found(link) => Ok(says(self.alloc, Outcome::GotLink(link))),
-            Sought::Gone => Ok(says(self.alloc, Outcome::Word(Word::Closed))),
-            Sought::Later => Ok(waits(self.alloc)),
+            LinkAnswer::Found(link) => Ok(says(self.alloc, Outcome::GotLink(link))),
+            LinkAnswer::Gone => Ok(says(self.alloc, Outcome::Word(Word::Closed))),
+            LinkAnswer::Later => Ok(waits(self.alloc)),
         }
     }
 

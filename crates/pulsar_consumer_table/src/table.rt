@@ -21,7 +21,7 @@ use crate::hearing::{
 };
 use crate::listing::{Listing, listed};
 use crate::numbers::{Numbering, Numbers};
-use crate::row::{ConsumerRow, Sought};
+use crate::row::{ConsumerRow, LinkAnswer};
 use pulsar_addresses::content::Refusal as Failure;
 use pulsar_calls::act::{Arrival, CallRefusal, Notice, Who};
 use pulsar_calls::effect::Effect;
@@ -271,7 +271,7 @@ impl Consumers {
     }
 
     /// What one is told who wants the link of a consumer. One that is told nothing waits.
-    pub(crate) fn seek(&mut self, ticket: u64, who: Who) -> Result<Sought, NoMemory>
+    pub(crate) fn seek(&mut self, ticket: u64, who: Who) -> Result<LinkAnswer, NoMemory>
         ensures sought { IfOk result (λ s. s ≡ sought ((consumers_in self.old.rows self.old.numbers).rows ticket)) }
         ensures after { OnOk result (consumers_in self.new.rows self.new.numbers
             ≡ changed ticket (meaning.seeks who) (consumers_in self.old.rows self.old.numbers)) }

@@ -22,6 +22,7 @@ pub mod TurnActs
 pub mod TurnRun
 pub mod Awaiting
 pub mod OneAtATime
+pub mod Others
 pub mod Owed
 pub mod Since
 pub mod Spotting

@@ -27,6 +27,7 @@ use Rattle.pulsar_outgoing.specs.declared.orders.Errand.{Errand}
 use Rattle.pulsar_outgoing.specs.declared.orders.ProducerOrder.{ProducerOrder}
 use Rattle.pulsar_calls.specs.declared.act.Act.TheVariants.{Answers, Comes, Starts, Told, Does}
 use Rattle.pulsar_calls.specs.declared.act.Action.{Action}
+use Rattle.pulsar_calls.specs.declared.act.Action.TheVariants as action
 use Rattle.pulsar_calls.specs.declared.act.Action.TheVariants.{OfTopic, Ask, Get, Shut, TellAll, Wait}
 use Rattle.pulsar_calls.specs.declared.act.Alarm.TheVariants.{Wake}
 use Rattle.pulsar_calls.specs.declared.act.TopicAsk.TheVariants.{Store, TakeBatch}
@@ -38,7 +39,7 @@ use Rattle.pulsar_calls.specs.declared.act.Procedure.TheVariants as procedure
 use Rattle.pulsar_calls.specs.declared.act.Share.{Share}
 use Rattle.pulsar_calls.specs.declared.act.Verdict.{Verdict}
 use Rattle.pulsar_calls.specs.declared.act.Who.{Who}
-use Rattle.pulsar_calls.specs.declared.act.Who.TheVariants.{Call, Producer}
+use Rattle.pulsar_calls.specs.declared.act.Who.TheVariants.{Call, Consumer, Producer}
 use Rattle.pulsar_plans.specs.declared.plan.Plan.{Plan}
 use Rattle.pulsar_plans.specs.declared.plan.Plan.TheVariants as plan
 use Rattle.pulsar_producer_table.specs.declared.table.Topic.{Topic}
@@ -87,12 +88,21 @@ WaitsForNothing who v =
     ((l place : ℕ) (seat : Seat) → v.links.live l ≡ Some seat → seat.askers place ≡ Some who → ⊥)
     × ((key : List ℕ) → In who (v.addresses.base key).waiting → ⊥) × (moment_of (Wake who) v.alarms ≡ None)
 
--- what comes from others, or with time
+-- what comes from others, or with time; what topic producers and consumers are asked comes from the client itself
 abbrev pub asks_others : Action → Bool
 asks_others (Get p) = true
 asks_others (Ask l request) = true
 asks_others (Wait delay) = true
-asks_others _ = false
+asks_others (OfTopic m ask) = false
+asks_others action.Number = false
+asks_others (action.Hold l m) = false
+asks_others (Shut t) = false
+asks_others (action.TakeNumber wanted) = false
+asks_others (action.OfConsumer ask) = false
+asks_others (action.Tell notice) = false
+asks_others (TellAll notices) = false
+asks_others action.StopAll = false
+asks_others action.Rest = false
 
 -- A topic producer waits for one thing at a time: as it asks for something it waits for nothing else.
 abbrev pub OneThingAtATime : Type 0
@@ -168,10 +178,23 @@ MembersAreTold = (o : Options) (log : List Entry) (n : ℕ) (ns : List Notice) �
 
 -- what a topic producer is told of what it does itself, or of the place of its frame
 abbrev pub is_granted : Outcome → Bool
-is_granted (outcome.Granted n) = true
+is_granted (outcome.GotLink l) = false
+is_granted outcome.NotFound = false
+is_granted (outcome.Failed kind) = false
+is_granted outcome.Canceled = false
 is_granted outcome.Queued = true
 is_granted outcome.InLine = true
-is_granted _ = false
+is_granted (outcome.Refused cause) = false
+is_granted (outcome.Replied r) = false
+is_granted outcome.TimedOut = false
+is_granted outcome.Disconnected = false
+is_granted outcome.Woken = false
+is_granted (outcome.Granted n) = true
+is_granted (outcome.Parted ticket f) = false
+is_granted (outcome.Settled f) = false
+is_granted (outcome.Word w) = false
+is_granted outcome.Cut = false
+is_granted outcome.Stopped = false
 
 -- A batch whose frame was queued waits for what becomes of that: nothing that its topic producer is granted settles it, so that the next one is
 -- taken.
@@ -224,7 +247,8 @@ times_under t (Some items) = times_in t items
 -- how often it is queued as a message of a batch, at all topic producers together
 abbrev pub batched_at : Options → (ticket : ℕ) → List Entry → Who → Outcome → ℕ
 batched_at o t log (Producer n) u = if is_queued u && asks_batch ((view o log).stand (Producer n)) then times_under t (under_way o n log) else 0
-batched_at o t log _ u = 0
+batched_at o t log (Call ticket) u = 0
+batched_at o t log (Consumer number ticket) u = 0
 
 abbrev pub batched_times : Options → (ticket : ℕ) → List Entry → ℕ
 batched_times o t [] = 0

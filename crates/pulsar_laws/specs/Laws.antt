@@ -37,7 +37,7 @@ use Rattle.pulsar_calls.specs.declared.act.Alarm.{Alarm}
 use Rattle.pulsar_calls.specs.declared.act.Alarm.TheVariants.{Retry, Wake, Batch, KeepAlive, CheckIdle}
 use Rattle.pulsar_calls.specs.declared.act.Arrival.TheVariants.{Readied}
 use Rattle.pulsar_calls.specs.declared.act.End.{End}
-use Rattle.pulsar_calls.specs.declared.act.End.TheVariants.{Overdue, Stops}
+use Rattle.pulsar_calls.specs.declared.act.End.TheVariants.{Broken, Idles, Lost, Overdue, Stops, Unopened}
 use Rattle.pulsar_calls.specs.declared.act.LinkAct.{LinkAct}
 use Rattle.pulsar_calls.specs.declared.act.LinkAct.TheVariants.{Reads, Drains, Ends}
 use Rattle.pulsar_calls.specs.declared.act.Makes.{Makes}
@@ -74,7 +74,7 @@ use Rattle.pulsar_calls.specs.Steps.{Step}
 use Rattle.pulsar_consumer_table.specs.Consumers as consumer
 use Rattle.pulsar_consumer_table.specs.Consumers.{Member}
 use Rattle.pulsar_consumer_table.specs.declared.numbers.Numbering.TheVariants.{Has, InUse, Spent}
-use Rattle.pulsar_consumer_table.specs.declared.row.Sought.TheVariants.{Gone}
+use Rattle.pulsar_consumer_table.specs.declared.row.LinkAnswer.TheVariants.{Gone}
 use Rattle.pulsar_consumer.specs.Plans.{in_use, not_found}
 use Rattle.pulsar_incoming.specs.declared.orders.ConsumerOrder.{ConsumerOrder}
 use Rattle.pulsar_consumer.specs.Topic as reader
@@ -274,12 +274,23 @@ has_come now w (Some r) = nat_le r.deadline now && not (r.creates && is_listed w
 -- It is late where its link ends by the deadline of a tick, and its frame was queued before that tick.
 abbrev pub is_late : End → (now : ℕ) → Seen → (place : ℕ) → Bool
 is_late (Overdue queued) now v place = nat_lt place queued && has_come now v.waits (request_at place v.waits.waiting)
-is_late _ now v place = false
+is_late (Unopened kind) now v place = false
+is_late Lost now v place = false
+is_late (Broken cause) now v place = false
+is_late Idles now v place = false
+is_late Stops now v place = false
 
 -- what one is told whose request ends with its link: the client was stopped, it timed out where it is late, and else it is lost
+abbrev pub lost_as : (is_late : Bool) → Outcome
+lost_as is_late = if is_late then outcome.TimedOut else outcome.Disconnected
+
 abbrev pub ended_as : End → (is_late : Bool) → Outcome
 ended_as Stops is_late = outcome.Cut
-ended_as end is_late = if is_late then outcome.TimedOut else outcome.Disconnected
+ended_as (Overdue queued) is_late = lost_as is_late
+ended_as (Unopened kind) is_late = lost_as is_late
+ended_as Lost is_late = lost_as is_late
+ended_as (Broken cause) is_late = lost_as is_late
+ended_as Idles is_late = lost_as is_late
 
 -- a request that this one asked for ends with its link, and this is told
 abbrev pub RequestEnds : Options → Who → Outcome → Entry → List Entry → Type 0

@@ -44,8 +44,8 @@ use Rattle.pulsar_consumer_table.specs.Asks.{flow_said, recalled_said, revived_s
 use Rattle.pulsar_acts.specs.Reading.{closed_at, heard_on, made_due, numbering_said, tells_word}
 use Rattle.pulsar_consumer_table.specs.declared.numbers.Numbering.{Numbering}
 use Rattle.pulsar_consumer_table.specs.declared.numbers.Numbering.TheVariants.{Has, InUse, Spent}
-use Rattle.pulsar_consumer_table.specs.declared.row.Sought.{Sought}
-use Rattle.pulsar_consumer_table.specs.declared.row.Sought.TheVariants.{Found, Gone, Later}
+use Rattle.pulsar_consumer_table.specs.declared.row.LinkAnswer.{LinkAnswer}
+use Rattle.pulsar_consumer_table.specs.declared.row.LinkAnswer.TheVariants.{Found, Gone, Later}
 use Rattle.pulsar_laws.proofs.consumers.Members.{in_rows, polled_number, revived_number, subscribed_number}
 use Rattle.pulsar_calls.specs.declared.act.Word.TheVariants as word
 use Rattle.pulsar_calls.specs.declared.act.Makes.TheVariants as makes
@@ -257,7 +257,7 @@ module _ (o : Options) (who : Who) (u : Outcome) (older : List Entry) where
   found_link None l e = absurd cc
   found_link (Some m) l e = found_for (reader.is_ended m.seen) (reader.link_of m.seen) l e
 
-  sought_caused : (w : Who) (t : ℕ) (x : Sought) → consumer.sought (v.consumers.rows t) ≡ x → In (Told it) (says_to w (sought_said x)) →
+  sought_caused : (w : Who) (t : ℕ) (x : LinkAnswer) → consumer.sought (v.consumers.rows t) ≡ x → In (Told it) (says_to w (sought_said x)) →
       Cause o who u (Then (Does w (OfConsumer (FindConsumer t)))) older
   sought_caused w t (Found l) e h =
       let k = told_is w (outcome.GotLink l) h in

@@ -8,7 +8,7 @@ use Rattle.std.specs.List.{filter_map, flat_map}
 use Rattle.std.specs.Option.{option_map, is_some}
 use Rattle.pulsar_laws.proofs.ActWords.{Act, Action, Alarm, Answers, Ask, Asked, Batch, below, Bytes, Call, CallRefusal, Calls, CheckIdle, Comes, Dials, Does, Drains, Ends, FindConsumer, Get, Heard, is_same, KeepAlive, lacks_tickets, LinkAct, Makes, next_advice, Nothing, Notice, numbers_from, OfTopic, Opens, opens, Outcome, Part, Pings, Polls, Procedure, Reads, Retry, Rings, shares, Starts, StopAll, Stops, TakeBatch, Tell, TellAll, Told, ToLink, Wait, Wake, Who, OfConsumer}
 use Rattle.pulsar_laws.proofs.PlanWords.{Batching, fails, Plan, verdict, Ways}
-use Rattle.pulsar_laws.proofs.RunWords.{after, agenda, Agenda, arranged, asks_raw, asks_topics, at_once, Begins, begun, begun_live, begun_same, builds_with, called, causes, checks, Chosen, closes, consumers_after, consumers_made, Each, each_append, each_either, each_flat, each_map, Entry, first, first_case, first_of, flushes, follows_some, from_base, gathers, In, is_live, IsRun, joins, left_with, link_got, live_begun, lost_on, may_call, none_now, notice, Options, over_each, parts_of, procedure_for, produces, rest, rest_of, rules, searches, sends, shares_unless, starts, stays_some, stopped_on, tells, Then, Tickets, told_some, turned_by, unless_refused, view, View, ways_of, why_no_sends}
+use Rattle.pulsar_laws.proofs.RunWords.{after, agenda, Agenda, arranged, asks_raw, asks_topics, at_once, Begins, begun, begun_live, begun_same, builds_with, called, causes, checks, Chosen, closes, consumers_after, Each, each_append, each_either, each_flat, each_map, Entry, first, first_case, first_of, flushes, follows_some, from_base, gathers, In, is_live, IsRun, joins, left_with, link_got, live_begun, lost_on, may_call, none_now, notice, Options, over_each, parts_of, procedure_for, produces, rest, rest_of, rules, searches, sends, shares_unless, starts, stays_some, stopped_on, tells, Then, Tickets, told_some, turned_by, unless_refused, view, View, ways_of, why_no_sends}
 use Rattle.pulsar_laws.proofs.LinkWords.{address_key, Addresses, arrival_at, Base, closing, Exhausted, got_at, Nobody, over_links, Pause, Pauses, Place, Reply, rings, Runs, Seat, Series, Serves, stop_act, tells_asker, took_some}
 use Rattle.pulsar_session.specs.Link.{ends}
 use Rattle.pulsar_calls.specs.declared.act.Makes.TheVariants.{Client, Consumer, Producer, RawConsumer}
@@ -20,7 +20,7 @@ use Rattle.pulsar_links.specs.Links.{line_places}
 use Rattle.pulsar_acts.specs.Rules.{failed_on, stopped_with, waiters_of, stopped_one}
 use Rattle.pulsar_links.specs.LinkRules.{dropped, ended_on, failed_at, failed_over, lost, on_link, stopped_at}
 use Rattle.pulsar_producer_table.specs.Notices.{stopped_all, stopped_call}
-use Rattle.pulsar_acts.specs.View.{alarms_after, alarms_built, alarms_on, alarms_over, builds, calls_after, live_after, pause_after, pause_of, pause_on, pause_rung, producers_after, stand_after, topic_of, building_of}
+use Rattle.pulsar_acts.specs.View.{alarms_after, alarms_built, alarms_on, alarms_over, builds, calls_after, live_after, member_made, pause_after, pause_of, pause_on, pause_rung, producers_after, stand_after, topic_of, building_of}
 use Rattle.pulsar_links.specs.Seats.{Links, pause_put}
 use Rattle.pulsar_producer_table.specs.declared.table.Topic.{Topic}
 use Rattle.pulsar_outgoing.specs.Storage.{Item}
@@ -43,7 +43,7 @@ use Rattle.pulsar_laws.proofs.plans.LastWords.{AreLast, batch_fine, batch_some, 
 use Rattle.pulsar_consumer_table.specs.Notices.{heard_at, lost_at}
 use Rattle.pulsar_acts.specs.Reading.{acknowledges, leaves, made_due, subscribes}
 use Rattle.pulsar_consumer_table.specs.Consumers.{Consumers, IsPolled, Member, hears, loses_by, member_after, member_by, over_rows}
-use Rattle.pulsar_laws.proofs.consumers.Members.{Gone, gone_map, heard_gone, loss_gone, made_at, no_due, no_loss, poll_gone, there_each}
+use Rattle.pulsar_laws.proofs.consumers.Members.{Gone, gone_map, heard_gone, loss_gone, no_due, no_loss, poll_gone, row_made, there_each}
 use Rattle.pulsar_laws.proofs.plans.Wording.{IsStoppedWord, is_stopped_word, rows_each, stopped_words}
 use Rattle.pulsar_consumer_table.specs.Consumers as consumer
 use Rattle.pulsar_consumer.specs.Topic as reader
@@ -311,9 +311,9 @@ made_none : (o : Chosen) (who : Who) (m : Makes) (n : ℕ) → makes_nothing m �
 made_none o who Nothing n h = refl
 made_none o who m n h = absurd cc
 
-none_made : (live : ℕ → Option Seat) (who : Who) (m : Makes) (cs : Consumers) → makes_nothing m ≡ true → consumers_made live who m cs ≡ cs
-none_made live who Nothing cs h = refl
-none_made live who m cs h = absurd cc
+none_made : (live : ℕ → Option Seat) (m : Makes) → makes_nothing m ≡ true → member_made live m ≡ None
+none_made live Nothing h = refl
+none_made live m h = absurd cc
 
 none_due_made : (live : ℕ → Option Seat) (who : Who) (m : Makes) → makes_nothing m ≡ true → made_due live who m ≡ []
 none_due_made live who Nothing h = refl
@@ -451,9 +451,7 @@ module _ (o : Options) (log : List Entry) (run : IsRun o log) (k : Over o log) w
       (rw (none_due_made v.links.live who verdict.makes is) tt) tt (λ l. refl)
       (ap (λ b. alarms_built v.now b v.alarms) (none_built (not v.calls.is_built) verdict.makes is) ∙ k.alarms) k.fine
       (λ m. ap (λ r. next_batch_at (row_after topic_after r false [] (v.producers.topics m))) (made_none v.chosen who verdict.makes m is) ∙ k.bare m)
-      (λ t. subst Gone
-      (sym (made_at v who verdict t
-      ∙ ap (λ cs. cs.rows t) (none_made v.links.live who verdict.makes v.consumers is))) (k.gone t))
+      (λ t. subst Gone (sym (ap (λ r. row_made r who t (v.consumers.rows t)) (none_made v.links.live verdict.makes is))) (k.gone t))
       (λ l e. absurd cc)
   last_on (Starts who (procedure.Refuse r)) fits is =
       goes_over (Starts who (procedure.Refuse r)) fits refl (refused_ends who r) (inl refl, tt) tt tt (λ l. refl) k.alarms (λ w. refused_fine who w r) k.bare

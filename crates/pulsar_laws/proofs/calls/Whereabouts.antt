@@ -31,8 +31,8 @@ use Rattle.pulsar_consumer.specs.Topic as reader
 use Rattle.pulsar_incoming.specs.declared.polled.Ending.TheVariants.{Closed, TopicEnded}
 use Rattle.pulsar_consumer_table.specs.Consumers as consumer
 use Rattle.pulsar_consumer_table.specs.Consumers.{Arrives, ClientStops, CloseAsked, Deed, FlowTaken, IsPolled, IsSought, LinkEnds, Member, NotRevived, Revived, member_by}
-use Rattle.pulsar_consumer_table.specs.declared.row.Sought.{Sought}
-use Rattle.pulsar_consumer_table.specs.declared.row.Sought.TheVariants.{Found, Gone, Later}
+use Rattle.pulsar_consumer_table.specs.declared.row.LinkAnswer.{LinkAnswer}
+use Rattle.pulsar_consumer_table.specs.declared.row.LinkAnswer.TheVariants.{Found, Gone, Later}
 use Rattle.pulsar_laws.proofs.consumers.Members.{CameFrom, after_holds}
 
 -- what brings one somewhere
@@ -286,7 +286,7 @@ module _ (me : Who) where
   loses_seeks l None m h = h
   loses_seeks l (Some cause) m h = h
 
-  finds_seeks : (x : Sought) (w : Who) (m : Member) → (me ≡ w → ⊥) → Away m.seekers → Away (consumer.waits_so x w m).seekers
+  finds_seeks : (x : LinkAnswer) (w : Who) (m : Member) → (me ≡ w → ⊥) → Away m.seekers → Away (consumer.waits_so x w m).seekers
   finds_seeks (Found l) w m other h = h
   finds_seeks Gone w m other h = h
   finds_seeks Later w m other h = away_end w m.seekers other h

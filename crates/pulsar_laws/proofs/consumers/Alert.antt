@@ -5,7 +5,7 @@ use Rattle.std.specs.List.{sum}
 use Rattle.std.specs.Option.{is_some, option_map}
 use Rattle.pulsar_laws.proofs.ActWords.{Act, Action, Answers, Ask, Call, Consumer, Does, is_same, Makes, Outcome, Procedure, Producer, Rest, Revive, Starts, ticket_of, Told, Verdict, Who, Word, OfConsumer}
 use Rattle.pulsar_laws.proofs.PlanWords.{begins, fails, Gives, overrides, Plan, PlanTransition, Serving, Stays, Subscribing, told, Ways}
-use Rattle.pulsar_laws.proofs.RunWords.{agenda, Agenda, Answered, Begins, begun_same, chosen_same, consumers_after, consumers_made, EndsOnce, Entry, first, follows, follows_some, IsRun, left_with, member_on, notice, Options, setup_of, stays, stays_some, Then, told_some, view, View, ways_of}
+use Rattle.pulsar_laws.proofs.RunWords.{agenda, Agenda, Answered, Begins, begun_same, chosen_same, consumers_after, EndsOnce, Entry, first, follows, follows_some, IsRun, left_with, member_on, notice, Options, setup_of, stays, stays_some, Then, told_some, view, View, ways_of}
 use Rattle.pulsar_laws.proofs.LinkWords.{answer_at, Exhausted, told_at, url_at, Words}
 use Rattle.pulsar_exchange.specs.declared.content.Subscribed.{Subscribed}
 use Rattle.pulsar_consumer.proofs.Histories.{raw_asks_for_nothing}
@@ -40,7 +40,8 @@ use Rattle.pulsar_laws.proofs.consumers.Flows.{first_at, start_serves}
 use Rattle.pulsar_laws.proofs.consumers.Halted.{halted_gone}
 use Rattle.pulsar_laws.proofs.consumers.Lone.{IsKept, IsMade, IsNone, RowFrom, applied, begun_rows, consumers_alone_lem, none_after, row_from}
 use Rattle.pulsar_laws.proofs.consumers.Losses.{ended_run, lost_run}
-use Rattle.pulsar_laws.proofs.consumers.Members.{made_at, subscribed_number}
+use Rattle.pulsar_laws.proofs.consumers.Members.{row_made, subscribed_number}
+use Rattle.pulsar_acts.specs.View.{member_made}
 use Rattle.pulsar_laws.proofs.consumers.Placed.{takes_run, told_flow}
 use Rattle.pulsar_laws.proofs.consumers.Reached.{makes_of, plain_makes, reached_run}
 use Rattle.pulsar_laws.proofs.consumers.Rested.{is_resting, revived_run, told_revived}
@@ -164,13 +165,13 @@ module _ (o : Options) (log : List Entry) (t : ℕ) where
   made_starts : (who : Who) (verdict : Verdict) (m : Member) → IsRun o (Then (Answers who verdict) ∷ log) → v.consumers.rows t ≡ None →
       (consumers_after v (Answers who verdict)).rows t ≡ Some m → m.seen.is_raw ≡ false → Starting o (Then (Answers who verdict) ∷ log) m.seen.number t
   made_starts who verdict m run none is plain =
-      by verdict.makes refl (sym (made_at v who verdict t) ∙ is)
+      by verdict.makes refl is
     where
       old : {A : Type 0} → v.consumers.rows t ≡ Some m → A
       old e = absurd (none_some (sym none ∙ e))
 
       joined_by : (who : Who) (j : Joining) → IsRun o (Then (Answers who verdict) ∷ log) → verdict.makes ≡ makes.Consumer j →
-          (consumers_made v.links.live who (makes.Consumer j) v.consumers).rows t ≡ Some m → Starting o (Then (Answers who verdict) ∷ log) m.seen.number t
+          row_made (Some (member_on v.links.live j.link (setup_of j))) who t (v.consumers.rows t) ≡ Some m → Starting o (Then (Answers who verdict) ∷ log) m.seen.number t
       joined_by (Call u) j run made e = elim (cases_Bool (t == u)) [
         | inl d ↦
             (let same : Some (member_on v.links.live j.link (setup_of j)) ≡ Some m = rw d at e in
@@ -189,7 +190,7 @@ module _ (o : Options) (log : List Entry) (t : ℕ) where
       raw_is l s e =
           let f : true ≡ false = sym (raw_of l (url_at (v.links.live l)) (reader.of_raw s)) ∙ ap (λ (x : Member). x.seen.is_raw) e ∙ plain in cc
 
-      raw_by : (who : Who) (l : ℕ) (s : Subscribed) → (consumers_made v.links.live who (makes.RawConsumer l s) v.consumers).rows t ≡ Some m → ⊥
+      raw_by : (who : Who) (l : ℕ) (s : Subscribed) → row_made (Some (member_on v.links.live l (reader.of_raw s))) who t (v.consumers.rows t) ≡ Some m → ⊥
       raw_by (Call u) l s e = elim (cases_Bool (t == u)) [
         | inl d ↦ (let same : Some (member_on v.links.live l (reader.of_raw s)) ≡ Some m = rw d at e in raw_is l s (some_is same))
         | inr d ↦ old (rw d at e)
@@ -197,7 +198,7 @@ module _ (o : Options) (log : List Entry) (t : ℕ) where
       raw_by (Consumer k u) l s e = old e
       raw_by (Producer k) l s e = old e
 
-      by : (x : Makes) → verdict.makes ≡ x → (consumers_made v.links.live who x v.consumers).rows t ≡ Some m →
+      by : (x : Makes) → verdict.makes ≡ x → row_made (member_made v.links.live x) who t (v.consumers.rows t) ≡ Some m →
           Starting o (Then (Answers who verdict) ∷ log) m.seen.number t
       by (makes.Consumer j) made e = joined_by who j run made e
       by (makes.RawConsumer l s) made e = absurd (raw_by who l s e)

@@ -13,12 +13,13 @@ use Rattle.pulsar_incoming.specs.declared.polled.Ending.TheVariants.{TopicEnded}
 use Rattle.pulsar_calls.specs.declared.act.Arrival.TheVariants as arrivals
 use Rattle.pulsar_calls.specs.declared.act.Outcome.TheVariants as outcome
 use Rattle.pulsar_calls.specs.declared.act.Word.TheVariants as word
-use Rattle.pulsar_consumer_table.specs.Consumers.{Member, is_closed_by}
+use Rattle.pulsar_consumer_table.specs.Consumers.{Arrives, CloseAsked, Deed, LinkEnds, Member, Revived, is_closed_by}
 use Rattle.pulsar_laws.proofs.Cases.{none_some, some_is}
 use Rattle.pulsar_laws.proofs.calls.Ticketed.{consumer_ticket}
-use Rattle.pulsar_laws.specs.ConsumerLaws.{Flow, arrival_does, does_to, done_since, done_to, flows_after, flows_since, frame_does, loss_does, made_with, permits_of, subscription_does}
+use Rattle.pulsar_laws.specs.ConsumerLaws.{Flow, arrival_does, deed_does, deeds_do, does_to, done_since, done_to, flows_after, flows_since, frame_does, loss_does, made_with, permits_of, subscription_does}
 use Rattle.pulsar_laws.proofs.producers.Drawing.{Every, here}
-use Rattle.pulsar_laws.proofs.consumers.Lone.{IsKept, IsMade, IsNone, RowFrom, begun_rows, consumers_alone_lem, row_from}
+use Rattle.pulsar_laws.proofs.consumers.Lone.{IsKept, IsMade, IsNone, RowFrom, begun_rows, consumers_alone_lem, did_so, is_revival, row_from}
+use Rattle.pulsar_laws.proofs.consumers.Members.{CameFrom}
 use Rattle.pulsar_laws.proofs.consumers.Placed.{IsPlaced, asked_there, is_placed}
 use Rattle.pulsar_laws.proofs.consumers.Queueing.{flows_run, fresh_below, fresh_none}
 use Rattle.pulsar_laws.proofs.consumers.Riding.{LinkFrom, link_from}
@@ -62,23 +63,36 @@ loss_new : (l : ℕ) (cause : Option Fault) → makes_new (loss_does l cause) �
 loss_new l None = refl
 loss_new l (Some cause) = refl
 
+none_new : (xs ys : List Done) → makes_new xs ≡ false → makes_new ys ≡ false → makes_new (xs ++ ys) ≡ false
+none_new [] ys p q = q
+none_new (Lives l url ∷ xs) ys p q = absurd cc
+none_new (Hears l f ∷ xs) ys p q = none_new xs ys p q
+none_new (Loses l ∷ xs) ys p q = none_new xs ys p q
+none_new (Fails f ∷ xs) ys p q = none_new xs ys p q
+none_new (Over why ∷ xs) ys p q = none_new xs ys p q
+none_new (Polled clock ∷ xs) ys p q = none_new xs ys p q
+none_new (Asks ∷ xs) ys p q = none_new xs ys p q
+
+other_new : (v : View) (t : ℕ) (a : Act) → is_revival a ≡ false → (m : Member) → makes_new (does_to v t m a) ≡ false
+other_new v t a h = did_so (λ xs s. makes_new xs ≡ false) (λ s. refl) (λ xs ys s q p. none_new xs ys p q) v t a one
+  where
+    one : (d : Deed) → CameFrom v t a d → (m : Member) → makes_new (deed_does d m) ≡ false
+    one (Arrives l x) c m = arrival_new l x m.seen
+    one (LinkEnds l cause) c m = loss_new l cause
+    one (CloseAsked closed l b) c m = either_new (b && is_closed_by closed l m) _ _ refl refl
+    one (Revived l url) c m = let f : true ≡ false = sym (ap is_revival c.1) ∙ h in absurd cc
+    one _ c m = refl
+
 -- an act makes none, or begins the flows anew
 does_new : (v : View) (t : ℕ) (m : Member) (a : Act) (fs : List Flow) → (makes_new (does_to v t m a) ≡ false) ⊎ (flows_after v t a fs ≡ [])
-does_new v t m (Comes (ToLink l Reads)) fs = inl (arrival_new l (arrival_at (v.links.live l)) m.seen)
-does_new v t m (Comes (ToLink l (Ends end))) fs = inl (loss_new l (closing end v.now (v.links.live l)))
-does_new v t m (Comes (Polls u)) fs = inl (either_new (t == u) _ _ refl refl)
-does_new v t m (Does who (Ask l request)) fs =
-    inl (either_new (is_asked (answer_at v.now request (v.links.live l)) && is_closed_by (closed_consumer request) l m) _ _ refl refl)
-does_new v t m (Does who (OfConsumer TakeFlow)) fs = inl (either_new (t == ticket_of who) _ _ refl refl)
 does_new v t m (Does who (OfConsumer (Revive l))) fs = by (t == ticket_of who) (v.links.live l)
   where
-    by : (b : Bool) (row : Option Seat) → (makes_new (cond b (subscription_does l (url_at row)) []) ≡ false) ⊎ (cond (b && is_some row) [] fs ≡ [])
+    by : (b : Bool) (row : Option Seat) →
+        (makes_new (deeds_do (cond b (Revived l (url_at row) ∷ []) []) m) ≡ false) ⊎ (cond (b && is_some row) [] fs ≡ [])
     by true None = inl refl
     by true (Some seat) = inr refl
     by false row = inl refl
-does_new v t m (Does who (OfConsumer (FailConsumer f))) fs = inl (either_new (t == ticket_of who) _ _ refl refl)
-does_new v t m (Does who StopAll) fs = inl refl
-does_new v t m a fs = inl refl
+does_new v t m a fs = inl (other_new v t a refl m)
 
 -- ALONG A LOG
 
@@ -178,9 +192,7 @@ module _ (once : EndsOnce) (o : Options) (log : List Entry) (t : ℕ) (k : Every
   ]
     where
       ask_new : (m : Member) (n u j m' p : ℕ) → makes_new (does_to v t m (Does (Consumer n u) (Ask j (words.SendFlow m' p)))) ≡ false
-      ask_new m n u j m' p =
-          either_new (is_asked (answer_at v.now (words.SendFlow m' p) (v.links.live j)) && is_closed_by (closed_consumer (words.SendFlow m' p)) j m) _ _ refl
-          refl
+      ask_new m n u j m' p = other_new v t (Does (Consumer n u) (Ask j (words.SendFlow m' p))) refl m
   kept_covered (Does who (OfConsumer (Revive j))) l s m run from is made = elim (cases_Bool (t == ticket_of who && is_some (v.links.live j))) [
     | inl d ↦ none_covered (flows_after v t (Does who (OfConsumer (Revive j))) fs) _ (ap (λ b. cond b [] fs) d)
     | inr d ↦ plain_covered (Does who (OfConsumer (Revive j))) l s m run from is made (ap (λ b. cond b [] fs) d)

@@ -2,7 +2,7 @@
 use Rattle.std.proofs.Common.{◌≡◌, ◌≤◌, ℕ, ◌+◌, ◌∙◌, sym, ap, subst, List, [], ◌∷◌, ◌++◌, refl, arith, Bool, true, false, ◌&&◌, cond, Option, Some, None, inl, inr, ◌==◌}
 use Rattle.std.proofs.lemmas.Bool.{and_parts, cases_Bool}
 use Rattle.pulsar_laws.proofs.ActWords.{Act, Answers, Arrival, Ask, Call, Comes, Consumer, Does, Ends, FailConsumer, FindConsumer, Heard, is_same, Makes, OfConsumer, Polls, Producer, Reads, RecallConsumer, Revive, StopAll, TakeFlow, ticket_of, ToLink, Verdict, Who}
-use Rattle.pulsar_laws.proofs.RunWords.{Begins, begun, begun_live, consumers_after, consumers_made, counted, EndsOnce, Entry, is_live, IsRun, member_on, Options, setup_of, Then, view, View}
+use Rattle.pulsar_laws.proofs.RunWords.{Begins, begun, begun_live, consumers_after, counted, Each, EndsOnce, Entry, is_live, IsRun, member_on, Options, setup_of, Then, view, View}
 use Rattle.pulsar_laws.proofs.LinkWords.{answer_at, arrival_at, closed_consumer, closing, Fault, is_asked, is_body, Reply, url_at}
 use Rattle.url.specs.Parts.{Parts}
 use Rattle.pulsar_messages.specs.Claims.{is_spent}
@@ -12,17 +12,17 @@ use Rattle.pulsar_incoming.specs.declared.polled.Ending.TheVariants.{Closed, Top
 use Rattle.pulsar_calls.specs.declared.act.Arrival.TheVariants as arrivals
 use Rattle.pulsar_calls.specs.declared.act.Makes.TheVariants as makes
 use Rattle.pulsar_consumer_table.specs.Consumers as consumer
-use Rattle.pulsar_consumer_table.specs.Consumers.{Consumers, Deed, FlowTaken, IsPolled, IsSought, Member, NotRevived, Revived, hears, hears_frame, loses_by, member_after, member_by, subscribed_on, waits_so}
-use Rattle.pulsar_consumer_table.specs.declared.row.Sought.{Sought}
-use Rattle.pulsar_consumer_table.specs.declared.row.Sought.TheVariants.{Found, Gone, Later}
-use Rattle.pulsar_acts.specs.View.{joins_as, member_acts, member_born, member_made, member_of}
+use Rattle.pulsar_consumer_table.specs.Consumers.{Consumers, Arrives, ClientStops, CloseAsked, Deed, FlowTaken, IsPolled, IsSought, LinkEnds, Member, NotRevived, Revived, hears, hears_frame, loses_by, member_after, member_by, subscribed_on, waits_so}
+use Rattle.pulsar_consumer_table.specs.declared.row.LinkAnswer.{LinkAnswer}
+use Rattle.pulsar_consumer_table.specs.declared.row.LinkAnswer.TheVariants.{Found, Gone, Later}
+use Rattle.pulsar_acts.specs.View.{member_acts, member_born, member_made, member_of}
 use Rattle.pulsar_run.specs.Things.{along, row_after as row_of, row_by}
 use Rattle.pulsar_run.proofs.Things.{row_stays}
 use Rattle.pulsar_laws.proofs.Cases.{none_some}
 use Rattle.pulsar_laws.proofs.calls.Ticketed.{consumer_ticket}
-use Rattle.pulsar_laws.specs.ConsumerLaws.{ConsumersAlone, arrival_does, does_to, done_since, done_to, frame_does, loss_does, made_as, made_with, making_does, subscription_does}
+use Rattle.pulsar_laws.specs.ConsumerLaws.{ConsumersAlone, arrival_does, deed_does, deeds_do, does_to, done_since, done_to, frame_does, loss_does, made_as, made_with, making_does, subscription_does}
 use Rattle.pulsar_laws.specs.Laws.{end_of}
-use Rattle.pulsar_laws.proofs.consumers.Members.{made_at}
+use Rattle.pulsar_laws.proofs.consumers.Members.{CameFrom, came_from, row_made}
 
 -- WHAT ACTS MAKE OF WHAT IS SEEN
 
@@ -66,10 +66,49 @@ subscription_done : (l : ℕ) (url : Option Parts) (m : Member) → IsDone (subs
 subscription_done l None m = refl
 subscription_done l (Some url) m = refl
 
-waits_done : (x : Sought) (w : Who) (m : Member) → (waits_so x w m).seen ≡ m.seen
+waits_done : (x : LinkAnswer) (w : Who) (m : Member) → (waits_so x w m).seen ≡ m.seen
 waits_done (Found l) w m = refl
 waits_done Gone w m = refl
 waits_done Later w m = refl
+
+pub applied_append : (xs ys : List Done) (s : Seen) → applied (xs ++ ys) s ≡ applied xs (applied ys s)
+applied_append [] ys s = refl
+applied_append (x ∷ xs) ys s = ap (after x) (applied_append xs ys s)
+
+deed_did : (d : Deed) (m : Member) → IsDone (member_by d m) (deed_does d m) m.seen
+deed_did (Arrives l a) m = arrival_done l a m
+deed_did (LinkEnds l cause) m = loss_done l cause m
+deed_did (CloseAsked closed l b) m =
+    either_done (b && consumer.is_closed_by closed l m) (member_after (Over Closed) m) m (Over Closed ∷ []) [] m.seen refl refl
+deed_did (IsPolled clock) m = refl
+deed_did (IsSought who) m = waits_done (consumer.sought (Some m)) who m
+deed_did FlowTaken m = refl
+deed_did (Revived l url) m = subscription_done l url m
+deed_did (NotRevived f) m = refl
+deed_did ClientStops m = refl
+
+pub deeds_did : (ds : List Deed) (m : Member) → IsDone (along member_by ds m) (deeds_do ds m) m.seen
+deeds_did [] m = refl
+deeds_did (d ∷ ds) m =
+    let n : Member = along member_by ds m in
+    deed_did d n ∙ ap (applied (deed_does d n)) (deeds_did ds m) ∙ sym (applied_append (deed_does d n) (deeds_do ds m) m.seen)
+
+-- so what is so of what each deed of an act does is so of all that the act does
+pub did_so : (Q : List Done → Seen → Type 0) → ((s : Seen) → Q [] s) →
+    ((xs ys : List Done) (s : Seen) → Q ys s → Q xs (applied ys s) → Q (xs ++ ys) s) → (v : View) (t : ℕ) (a : Act) →
+    ((d : Deed) → CameFrom v t a d → (m : Member) → Q (deed_does d m) m.seen) → (m : Member) → Q (does_to v t m a) m.seen
+did_so Q none more v t a one m = all (member_acts v t a) (came_from v t a)
+  where
+    all : (ds : List Deed) → Each (CameFrom v t a) ds → Q (deeds_do ds m) m.seen
+    all [] c = none m.seen
+    all (d ∷ ds) c =
+        let n : Member = along member_by ds m in
+        more (deed_does d n) (deeds_do ds m) m.seen (all ds c.1) (subst (Q (deed_does d n)) (deeds_did ds m) (one d c.0 n))
+
+-- an act by which one is subscribed again
+abbrev pub is_revival : Act → Bool
+is_revival (Does who (OfConsumer (Revive l))) = true
+is_revival _ = false
 
 -- WHAT BECOMES OF A ROW
 
@@ -100,43 +139,13 @@ pub record RowAfter (v : View) (a : Act) (t : ℕ) (m : Member) : Type 0 where
   pub is_it : (consumers_after v a).rows t ≡ Some row
   pub seen : row.seen ≡ applied (does_to v t m a) m.seen
 
-module _ (v : View) (t : ℕ) (m : Member) where
-  -- by a deed of one of them, or none
-  abbrev IsDoneBy : Bool → List Deed → List Done → Type 0
-  IsDoneBy b es xs = IsDone (along member_by (cond b es []) m) (cond b xs []) m.seen
-
-  either_by : (b : Bool) (es : List Deed) (xs : List Done) → IsDone (along member_by es m) xs m.seen → IsDoneBy b es xs
-  either_by true es xs d = d
-  either_by false es xs d = refl
-
-  still_by : (b : Bool) (es : List Deed) → (along member_by es m).seen ≡ m.seen → (along member_by (cond b es []) m).seen ≡ m.seen
-  still_by true es d = d
-  still_by false es d = refl
-
-  did : (a : Act) → IsDone (along member_by (member_acts v t a) m) (does_to v t m a) m.seen
-  did (Comes (ToLink l Reads)) = arrival_done l (arrival_at (v.links.live l)) m
-  did (Comes (ToLink l (Ends end))) = loss_done l (closing end v.now (v.links.live l)) m
-  did (Comes (Polls u)) = either_by (t == u) (IsPolled v.now ∷ []) (Polled v.now ∷ []) refl
-  did (Does w (Ask l request)) =
-      let asked : Bool = is_asked (answer_at v.now request (v.links.live l)) in
-      either_done (asked && consumer.is_closed_by (closed_consumer request) l m) (member_after (Over Closed) m) m (Over Closed ∷ []) [] m.seen refl refl
-  did (Does w (OfConsumer (FindConsumer u))) = still_by (t == u) (IsSought w ∷ []) (waits_done (consumer.sought (Some m)) w m)
-  did (Does w (OfConsumer TakeFlow)) = either_by (t == ticket_of w) (FlowTaken ∷ []) (Asks ∷ []) refl
-  did (Does w (OfConsumer RecallConsumer)) = still_by (t == ticket_of w) [] refl
-  did (Does w (OfConsumer (Revive l))) =
-      let url : Option Parts = url_at (v.links.live l) in
-      either_by (t == ticket_of w) (Revived l url ∷ []) (subscription_does l url) (subscription_done l url m)
-  did (Does w (OfConsumer (FailConsumer f))) = either_by (t == ticket_of w) (NotRevived f ∷ []) (Fails f ∷ []) refl
-  did (Does w StopAll) = refl
-  did a = refl
-
-  pub row_after : v.consumers.rows t ≡ Some m → (a : Act) → IsOther t a → RowAfter v a t m
-  row_after h a other =
-      record {
-        row = along member_by (member_acts v t a) m;
-        is_it = by_acts v t a (Some m) other h ∙ row_stays member_by (member_acts v t a) m;
-        seen = did a;
-      }
+pub row_after : (v : View) (t : ℕ) (m : Member) → v.consumers.rows t ≡ Some m → (a : Act) → IsOther t a → RowAfter v a t m
+row_after v t m h a other =
+    record {
+      row = along member_by (member_acts v t a) m;
+      is_it = by_acts v t a (Some m) other h ∙ row_stays member_by (member_acts v t a) m;
+      seen = deeds_did (member_acts v t a) m;
+    }
 
 -- NO CONSUMER OF A CALL THAT HAS NOT ENDED
 
@@ -189,10 +198,10 @@ pub data RowFrom (o : Options) (log : List Entry) (a : Act) (t : ℕ) : Type 0 w
   IsKept : (m : Member) → (view o log).consumers.rows t ≡ Some m → RowAfter (view o log) a t m → made_with t (Then a ∷ log) ≡ made_with t log →
       done_to o t (Then a ∷ log) ≡ does_to (view o log) t m a ++ done_to o t log → RowFrom o log a t
 
-pub joins_here : (who : Who) (m : Member) (cs : Consumers) (t : ℕ) → is_same (Call t) who ≡ true → (joins_as who m cs).rows t ≡ Some m
-joins_here (Call u) m cs t h = let e : (t == u) ≡ true = (and_parts (t == u) (t == u) h).0 in rw e refl
-joins_here (Consumer n u) m cs t h = absurd cc
-joins_here (Producer n) m cs t h = absurd cc
+pub joins_here : (who : Who) (m : Member) (row : Option Member) (t : ℕ) → is_same (Call t) who ≡ true → row_made (Some m) who t row ≡ Some m
+joins_here (Call u) m row t h = let e : (t == u) ≡ true = (and_parts (t == u) (t == u) h).0 in rw e refl
+joins_here (Consumer n u) m row t h = absurd cc
+joins_here (Producer n) m row t h = absurd cc
 
 module _ (o : Options) (log : List Entry) (t : ℕ) where
   abbrev v : View
@@ -204,10 +213,8 @@ module _ (o : Options) (log : List Entry) (t : ℕ) where
   made_row who verdict m f none e = made_by m f
     where
       rows_are : (m : Makes) → verdict.makes ≡ m →
-          (view o (Then (Answers who verdict) ∷ log)).consumers.rows t ≡ (consumers_made v.links.live who m v.consumers).rows t
-      rows_are m f =
-          made_at v who verdict t
-          ∙ ap (λ x. (consumers_made v.links.live who x v.consumers).rows t) f
+          (view o (Then (Answers who verdict) ∷ log)).consumers.rows t ≡ row_made (member_made v.links.live m) who t (v.consumers.rows t)
+      rows_are m f = ap (λ x. row_made (member_made v.links.live x) who t (v.consumers.rows t)) f
 
       did : (m : Makes) → verdict.makes ≡ m → done_to o t (Then (Answers who verdict) ∷ log) ≡ making_does v.links.live m
       did m f =
@@ -221,11 +228,11 @@ module _ (o : Options) (log : List Entry) (t : ℕ) where
       made_by : (m : Makes) → verdict.makes ≡ m → RowFrom o log (Answers who verdict) t
       made_by (makes.Consumer j) f =
           IsMade (setup_of j) j.link none
-          (rows_are (makes.Consumer j) f ∙ joins_here who (member_on v.links.live j.link (setup_of j)) v.consumers t e)
+          (rows_are (makes.Consumer j) f ∙ joins_here who (member_on v.links.live j.link (setup_of j)) (v.consumers.rows t) t e)
           (how (makes.Consumer j) f) (did (makes.Consumer j) f)
       made_by (makes.RawConsumer l made) f =
           IsMade (of_raw made) l none
-          (rows_are (makes.RawConsumer l made) f ∙ joins_here who (member_on v.links.live l (of_raw made)) v.consumers t e)
+          (rows_are (makes.RawConsumer l made) f ∙ joins_here who (member_on v.links.live l (of_raw made)) (v.consumers.rows t) t e)
           (how (makes.RawConsumer l made) f) (did (makes.RawConsumer l made) f)
       made_by makes.Nothing f = IsNone none (rows_are makes.Nothing f ∙ none)
       made_by makes.Client f = IsNone none (rows_are makes.Client f ∙ none)

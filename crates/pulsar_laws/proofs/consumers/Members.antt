@@ -4,7 +4,7 @@ use Rattle.std.proofs.lemmas.Bool.{cases_Bool, eqb-true}
 use Rattle.std.specs.List.{flat_map}
 use Rattle.std.specs.Option.{option_map, option_to_list, is_some}
 use Rattle.pulsar_laws.proofs.ActWords.{Act, Answers, Arrival, Ask, Call, Comes, Consumer, ConsumerAsk, Does, End, Ends, FailConsumer, FindConsumer, Notice, OfConsumer, Polls, Producer, Reads, RecallConsumer, Revive, StopAll, TakeFlow, ticket_of, ToLink, Verdict, Who}
-use Rattle.pulsar_laws.proofs.RunWords.{begun_same, consumers_after, consumers_made, Each, each_append, each_flat, each_when, In, rules, View}
+use Rattle.pulsar_laws.proofs.RunWords.{begun_same, consumers_after, Each, each_append, each_flat, each_when, In, rules, View}
 use Rattle.pulsar_laws.proofs.LinkWords.{answer_at, arrival_at, closed_consumer, closing, Fault, is_asked, is_body, Reply, url_at, Words}
 use Rattle.pulsar_consumer.specs.Topic as reader
 use Rattle.pulsar_consumer.specs.Topic.{Hears, Loses, Live, Seen, first_of, gives, is_due, is_on, lives_on, first_due, counts_first, ends as reader_ends, loses as reader_loses, Ends as Over}
@@ -21,27 +21,16 @@ use Rattle.pulsar_consumer_table.specs.Consumers.{Arrives, ClientStops, CloseAsk
 use Rattle.pulsar_consumer_table.specs.Notices.{due_at, due_to, lost_at, word_to}
 use Rattle.pulsar_consumer_table.specs.Asks.{ticket_asked}
 use Rattle.pulsar_acts.specs.Things.{members}
-use Rattle.pulsar_acts.specs.View.{consumer_asked, consumers_left, member_acts, member_born, member_made, member_of}
+use Rattle.pulsar_acts.specs.View.{consumer_asked, member_acts, member_born, member_made, member_of}
 use Rattle.pulsar_run.specs.Things.{Keeps, along, row_after, row_by}
-use Rattle.pulsar_acts.proofs.Granting.{held_is}
 use Rattle.url.specs.Parts.{Parts}
 use Rattle.pulsar_wire.specs.Sink.{capped}
 use Rattle.pulsar_laws.proofs.Lists.{in_append}
 use Rattle.pulsar_laws.proofs.Cases.{cond_so}
 
--- A VERDICT leaves all rows, where it makes none
-
-left_rows : (who : Who) (cs : Consumers) → (consumers_left who cs).rows ≡ cs.rows
-left_rows (Call t) cs = refl
-left_rows (Consumer n t) cs = refl
-left_rows (Producer n) cs = refl
-
--- where a verdict makes one
-pub made_at : (v : View) (who : Who) (verdict : Verdict) (t : ℕ) →
-    (consumers_after v (Answers who verdict)).rows t ≡ (consumers_made v.links.live who verdict.makes v.consumers).rows t
-made_at v who verdict t =
-    sym (ap (λ cs. cs.rows t) (held_is v.links.live who verdict.makes v.consumers))
-    ∙ ap (λ f. f t) (left_rows who (consumers_made v.links.live who verdict.makes v.consumers))
+-- what a verdict makes of a row
+abbrev pub row_made : Option Member → Who → (ticket : ℕ) → Option Member → Option Member
+row_made made who t row = row_after member_by (member_of made who t) false [] row
 
 -- WHAT BECOMES OF ONE: it is what is seen of the acts, as `Things` of pulsar_run says
 

@@ -33,9 +33,10 @@ use Rattle.pulsar_consumer.specs.Laws.{given, given_by as given_in, item_in, lef
 use Rattle.pulsar_incoming.specs.declared.polled.Ending.TheVariants.{Closed, TopicEnded}
 use Rattle.pulsar_incoming.specs.declared.polled.Polled.{Polled as Answer}
 use Rattle.pulsar_consumer.proofs.Histories.{polls_give_arrivals, polls_give_the_next}
-use Rattle.pulsar_consumer_table.specs.Consumers.{Member, is_closed_by, polled, polled_so}
-use Rattle.pulsar_laws.specs.ConsumerLaws.{PollsAreAnswered, PollsFollow, arrival_does, does_to, done_to, frame_does, given_by, items_given, loss_does, made_with, subscription_does}
-use Rattle.pulsar_laws.proofs.consumers.Lone.{IsKept, IsMade, IsNone, RowFrom, StandsSo, begun_rows, consumers_alone_lem, row_from}
+use Rattle.pulsar_consumer_table.specs.Consumers.{Arrives, ClientStops, CloseAsked, Deed, FlowTaken, IsPolled, IsSought, LinkEnds, Member, NotRevived, Revived, is_closed_by, polled, polled_so}
+use Rattle.pulsar_laws.specs.ConsumerLaws.{PollsAreAnswered, PollsFollow, arrival_does, deed_does, does_to, done_to, frame_does, given_by, items_given, loss_does, made_with, subscription_does}
+use Rattle.pulsar_laws.proofs.consumers.Lone.{IsKept, IsMade, IsNone, RowFrom, StandsSo, begun_rows, consumers_alone_lem, did_so, row_from}
+use Rattle.pulsar_laws.proofs.consumers.Members.{CameFrom}
 use Rattle.pulsar_consumer.specs.Topic as reader
 use Rattle.pulsar_incoming.specs.declared.polled.Polled.TheVariants as poll
 
@@ -234,17 +235,18 @@ is_poll (Comes (Polls t)) = true
 is_poll _ = false
 
 does_mute : (v : View) (t : ℕ) (m : Member) (a : Act) → is_poll a ≡ false → Each IsMute (does_to v t m a)
-does_mute v t m (Comes (Polls u)) h = absurd cc
-does_mute v t m (Comes (ToLink l Reads)) h = arrival_mute l (arrival_at (v.links.live l)) m.seen
-does_mute v t m (Comes (ToLink l (Ends end))) h = loss_mute l (closing end v.now (v.links.live l))
-does_mute v t m (Does who (Ask l request)) h =
-    each_either IsMute (is_asked (answer_at v.now request (v.links.live l)) && is_closed_by (closed_consumer request) l m) (Over Closed ∷ []) [] (tt, tt) tt
-does_mute v t m (Does who (OfConsumer TakeFlow)) h = each_either IsMute (t == ticket_of who) (Asks ∷ []) [] (tt, tt) tt
-does_mute v t m (Does who (OfConsumer (Revive l))) h =
-    each_either IsMute (t == ticket_of who) (subscription_does l (url_at (v.links.live l))) [] (subscription_mute l (url_at (v.links.live l))) tt
-does_mute v t m (Does who (OfConsumer (FailConsumer f))) h = each_either IsMute (t == ticket_of who) (Fails f ∷ []) [] (tt, tt) tt
-does_mute v t m (Does who StopAll) h = (tt, tt)
-does_mute v t m a h = tt
+does_mute v t m a h = did_so (λ xs s. Each IsMute xs) (λ s. tt) (λ xs ys s q p. each_append IsMute xs ys p q) v t a one m
+  where
+    one : (d : Deed) → CameFrom v t a d → (n : Member) → Each IsMute (deed_does d n)
+    one (Arrives l x) c n = arrival_mute l x n.seen
+    one (LinkEnds l cause) c n = loss_mute l cause
+    one (CloseAsked closed l b) c n = each_either IsMute (b && is_closed_by closed l n) (Over Closed ∷ []) [] (tt, tt) tt
+    one (IsPolled clock) c n = let f : true ≡ false = sym (ap is_poll c.0) ∙ h in absurd cc
+    one (IsSought who) c n = tt
+    one FlowTaken c n = (tt, tt)
+    one (Revived l url) c n = subscription_mute l url
+    one (NotRevived f) c n = (tt, tt)
+    one ClientStops c n = (tt, tt)
 
 -- an effect of a poll gives what the poll gives
 poll_item : (t : ℕ) (topic : List ℕ) (x : Answer) → given_by t (polled_so t topic x) ≡ item_in x

@@ -1,5 +1,5 @@
 -- The link of a live subscription has not ended, and it is ready where the consumer was built.
-use Rattle.std.proofs.Common.{◌≡◌, ◌⊎◌, inl, inr, ◌∙◌, sym, ap, subst, ℕ, ◌+◌, ◌==◌, List, [], ◌∷◌, ◌++◌, refl, Bool, true, false, ◌&&◌, cond, Option, Some, None, eq-eqb, nat_lt}
+use Rattle.std.proofs.Common.{◌≡◌, ◌⊎◌, inl, inr, ◌∙◌, sym, ap, subst, ℕ, ◌+◌, ◌==◌, List, [], ◌∷◌, ◌++◌, refl, Bool, true, false, ◌&&◌, cond, Option, Some, None, append-nil, eq-eqb, nat_lt}
 use Rattle.std.proofs.lemmas.Bool.{cases_Bool, eqb-true}
 use Rattle.std.specs.Option.{is_some, option_map}
 use Rattle.pulsar_laws.proofs.ActWords.{Act, Answers, Arrival, Ask, Bytes, Call, Comes, Dials, Does, Drains, End, Ends, FailConsumer, Get, Heard, is_same, LinkAct, Makes, Opens, Pings, Polls, Reads, Revive, StopAll, TakeFlow, ticket_of, ToLink, Who, OfConsumer}
@@ -19,12 +19,13 @@ use Rattle.pulsar_consumer.proofs.Histories.{counted_same}
 use Rattle.pulsar_calls.specs.declared.act.Arrival.TheVariants as arrivals
 use Rattle.pulsar_calls.specs.declared.act.Makes.TheVariants as makes
 use Rattle.pulsar_calls.specs.declared.content.Joining.{Joining}
-use Rattle.pulsar_consumer_table.specs.Consumers.{Member, is_closed_by, subscribed_on}
+use Rattle.pulsar_consumer_table.specs.Consumers.{Arrives, ClientStops, CloseAsked, Deed, FlowTaken, IsPolled, IsSought, LinkEnds, Member, NotRevived, Revived, is_closed_by, subscribed_on}
 use Rattle.pulsar_laws.proofs.Cases.{none_some, some_is}
 use Rattle.pulsar_laws.proofs.calls.Ticketed.{consumer_ticket}
-use Rattle.pulsar_laws.specs.ConsumerLaws.{arrival_does, does_to, done_since, done_to, frame_does, loss_does, made_as, made_with, making_does, subscription_does}
+use Rattle.pulsar_laws.specs.ConsumerLaws.{arrival_does, deed_does, deeds_do, does_to, done_since, done_to, frame_does, loss_does, made_as, made_with, making_does, subscription_does}
 use Rattle.pulsar_laws.proofs.consumers.Ended.{after_made}
-use Rattle.pulsar_laws.proofs.consumers.Lone.{IsKept, IsMade, IsNone, RowFrom, applied, begun_rows, none_after, row_from}
+use Rattle.pulsar_laws.proofs.consumers.Lone.{IsKept, IsMade, IsNone, RowFrom, applied, applied_append, begun_rows, did_so, is_revival, none_after, row_from}
+use Rattle.pulsar_laws.proofs.consumers.Members.{CameFrom}
 use Rattle.pulsar_laws.proofs.links.Ready.{IsAt, IsReady, WasReady, more_ready}
 use Rattle.pulsar_laws.proofs.consumers.Reached.{makes_ready, revives_ready}
 
@@ -140,6 +141,24 @@ tame_arrival l (arrivals.Bad cause) s = tame_none s
 tame_loss : (l : ℕ) (cause : Option Fault) (s : Seen) → Tame (loss_does l cause) s
 tame_loss l None s = tame_none s
 tame_loss l (Some cause) s = tame_loses l s
+
+tame_append : (xs ys : List Done) (s : Seen) → Tame ys s → Tame xs (applied ys s) → Tame (xs ++ ys) s
+tame_append xs ys s q p k h = q k (p k (ap link_of (sym (applied_append xs ys s)) ∙ h))
+
+tame_other : (v : View) (t : ℕ) (a : Act) → is_revival a ≡ false → (m : Member) → Tame (does_to v t m a) m.seen
+tame_other v t a h = did_so Tame tame_none tame_append v t a one
+  where
+    one : (d : Deed) → CameFrom v t a d → (m : Member) → Tame (deed_does d m) m.seen
+    one (Arrives l x) c m = tame_arrival l x m.seen
+    one (LinkEnds l cause) c m = tame_loss l cause m.seen
+    one (CloseAsked closed l b) c m =
+        tame_either (b && is_closed_by closed l m) (Over Closed ∷ []) [] m.seen (tame_over Closed m.seen) (tame_none m.seen)
+    one (IsPolled clock) c m = tame_polled clock m.seen
+    one (IsSought who) c m = tame_none m.seen
+    one FlowTaken c m = tame_asks m.seen
+    one (Revived l url) c m = let f : true ≡ false = sym (ap is_revival c.1) ∙ h in absurd cc
+    one (NotRevived f) c m = tame_fails f m.seen
+    one ClientStops c m = tame_over Stopped m.seen
 
 -- a subscription is made on a link that has not ended
 lives_link : (l : ℕ) (url : Parts) (s : Seen) (k : ℕ) → link_of (applied (Lives l url ∷ []) s) ≡ Some k → (link_of s ≡ Some k) ⊎ (k ≡ l)
@@ -354,41 +373,35 @@ module _ (o : Options) (log : List Entry) (t : ℕ) where
   Revives a = (who : Who) × (l : ℕ) × (a ≡ Does who (OfConsumer (Revive l))) × ((t == ticket_of who && is_some ((view o log).links.live l)) ≡ true)
 
   tame_by : (a : Act) (m : Member) → Tame (does_to (view o log) t m a) m.seen ⊎ Revives a
-  tame_by (Comes (ToLink l Reads)) m = inl (tame_arrival l (arrival_at ((view o log).links.live l)) m.seen)
-  tame_by (Comes (ToLink l (Ends end))) m = inl (tame_loss l (closing end (view o log).now ((view o log).links.live l)) m.seen)
-  tame_by (Comes (Polls u)) m =
-      inl (tame_either (t == u) (Polled (view o log).now ∷ []) [] m.seen (tame_polled (view o log).now m.seen) (tame_none m.seen))
-  tame_by (Does who (Ask l request)) m =
-      inl
-      (tame_either (is_asked (answer_at (view o log).now request ((view o log).links.live l)) && is_closed_by (closed_consumer request) l m)
-      (Over Closed ∷ []) []
-      m.seen (tame_over Closed m.seen) (tame_none m.seen))
-  tame_by (Does who (OfConsumer TakeFlow)) m = inl (tame_either (t == ticket_of who) (Asks ∷ []) [] m.seen (tame_asks m.seen) (tame_none m.seen))
   tame_by (Does who (OfConsumer (Revive l))) m = elim (cases_Bool (t == ticket_of who)) [
     | inl e ↦ on_row ((view o log).links.live l) refl e
     | inr e ↦
-        inl (subst (λ b. Tame (cond b (subscription_does l (url_at ((view o log).links.live l))) []) m.seen) (sym e) (tame_none m.seen))
+        inl (subst (λ b. Tame (deeds_do (cond b (Revived l (url_at ((view o log).links.live l)) ∷ []) []) m) m.seen) (sym e) (tame_none m.seen))
   ]
     where
+      none : (b : Bool) → Tame (deeds_do (cond b (Revived l None ∷ []) []) m) m.seen
+      none true = tame_none m.seen
+      none false = tame_none m.seen
+
       on_row : (row : Option Seat) → (view o log).links.live l ≡ row → (t == ticket_of who) ≡ true →
-          Tame (cond (t == ticket_of who) (subscription_does l (url_at ((view o log).links.live l))) []) m.seen ⊎ Revives (Does who (OfConsumer (Revive l)))
+          Tame (deeds_do (cond (t == ticket_of who) (Revived l (url_at ((view o log).links.live l)) ∷ []) []) m) m.seen ⊎ Revives (Does who (OfConsumer (Revive l)))
       on_row None f e =
-          inl (subst (λ r. Tame (cond (t == ticket_of who) (subscription_does l (url_at r)) []) m.seen) (sym f)
-          (tame_either (t == ticket_of who) [] [] m.seen (tame_none m.seen) (tame_none m.seen)))
+          inl (subst (λ r. Tame (deeds_do (cond (t == ticket_of who) (Revived l (url_at r) ∷ []) []) m) m.seen) (sym f) (none (t == ticket_of who)))
       on_row (Some seat) f e = inr (who, l, refl, (λ i. e i && is_some (f i)))
-  tame_by (Does who (OfConsumer (FailConsumer f))) m = inl (tame_either (t == ticket_of who) (Fails f ∷ []) [] m.seen (tame_fails f m.seen) (tame_none m.seen))
-  tame_by (Does who StopAll) m = inl (tame_over Stopped m.seen)
-  tame_by a m = inl (tame_none m.seen)
+  tame_by a m = inl (tame_other (view o log) t a refl m)
 
   kept_by : (a : Act) (m n : Member) → IsRun o (Then a ∷ log) → Rides o log m → n.seen ≡ applied (does_to (view o log) t m a) m.seen → Rides o (Then a ∷ log) n
   kept_by (Comes (ToLink l (Ends end))) m n run was is =
-      ended_rides o log (Comes (ToLink l (Ends end))) t m n was is l end (closing end (view o log).now ((view o log).links.live l)) refl refl refl
+      ended_rides o log (Comes (ToLink l (Ends end))) t m n was is l end (closing end (view o log).now ((view o log).links.live l)) refl refl
+      (append-nil (loss_does l (closing end (view o log).now ((view o log).links.live l))))
   kept_by (Does who (OfConsumer (Revive l))) m n run was is =
       again_rides o log (Does who (OfConsumer (Revive l))) t m n was is l (revives_ready o log who l run) (λ end k at. absurd cc) (λ k h. by (t == ticket_of who) k h)
     where
-      by : (b : Bool) (k : ℕ) → link_of (applied (cond b (subscription_does l (url_at ((view o log).links.live l))) []) m.seen) ≡ Some k →
+      by : (b : Bool) (k : ℕ) → link_of (applied (deeds_do (cond b (Revived l (url_at ((view o log).links.live l)) ∷ []) []) m) m.seen) ≡ Some k →
           (link_of m.seen ≡ Some k) ⊎ ((k ≡ l) × IsLive (view o log) l)
-      by true k h = subscription_link l ((view o log).links.live l) m.seen k h
+      by true k h =
+          subscription_link l ((view o log).links.live l) m.seen k
+          (subst (λ xs. link_of (applied xs m.seen) ≡ Some k) (append-nil (subscription_does l (url_at ((view o log).links.live l)))) h)
       by false k h = inl h
   kept_by a m n run was is = elim (tame_by a m) [
     | inl tame ↦ tame_rides o log a t m n was is tame (λ k end at. absurd cc)

@@ -8,13 +8,14 @@ use Rattle.pulsar_consumer.specs.Topic.{Act as Done, Lives, Hears, Loses, Fails,
 use Rattle.pulsar_calls.specs.declared.act.Arrival.TheVariants as arrivals
 use Rattle.pulsar_calls.specs.declared.act.Outcome.TheVariants as outcome
 use Rattle.pulsar_calls.specs.declared.act.Word.TheVariants as word
-use Rattle.pulsar_consumer_table.specs.Consumers.{Member, flow_at, flow_on, is_closed_by}
+use Rattle.pulsar_consumer_table.specs.Consumers.{Arrives, CloseAsked, Deed, FlowTaken, LinkEnds, Member, Revived, flow_at, flow_on, is_closed_by}
 use Rattle.pulsar_laws.proofs.Cases.{none_some, some_is}
 use Rattle.pulsar_laws.proofs.calls.Ticketed.{consumer_ticket}
-use Rattle.pulsar_laws.specs.ConsumerLaws.{Flow, FlowsAreCounted, arrival_does, does_to, done_to, flows_after, flows_since, frame_does, loss_does, made_with, permits_of, subscription_does}
+use Rattle.pulsar_laws.specs.ConsumerLaws.{Flow, FlowsAreCounted, arrival_does, deed_does, deeds_do, does_to, done_to, flows_after, flows_since, frame_does, loss_does, made_with, permits_of, subscription_does}
 use Rattle.pulsar_laws.proofs.producers.Drawing.{Every, here}
 use Rattle.pulsar_laws.proofs.consumers.Flows.{flows_are_asked_lem}
-use Rattle.pulsar_laws.proofs.consumers.Lone.{applied, IsKept, IsMade, IsNone, RowFrom, begun_rows, consumers_alone_lem, row_from}
+use Rattle.pulsar_laws.proofs.consumers.Lone.{applied, did_so, IsKept, IsMade, IsNone, RowFrom, begun_rows, consumers_alone_lem, row_from}
+use Rattle.pulsar_laws.proofs.consumers.Members.{CameFrom}
 use Rattle.pulsar_laws.proofs.consumers.Placed.{IsPlaced, is_placed}
 use Rattle.pulsar_laws.proofs.plans.Served.{flow_takers}
 use Rattle.pulsar_laws.proofs.consumers.Riding.{LinkFrom, link_from}
@@ -62,6 +63,33 @@ arrival_takes l _ s = refl
 loss_takes : (l : ℕ) (cause : Option Fault) → takes_in (loss_does l cause) ≡ false
 loss_takes l None = refl
 loss_takes l (Some cause) = refl
+
+none_takes : (xs ys : List Done) → takes_in xs ≡ false → takes_in ys ≡ false → takes_in (xs ++ ys) ≡ false
+none_takes [] ys p q = q
+none_takes (Lives l url ∷ xs) ys p q = absurd cc
+none_takes (Asks ∷ xs) ys p q = absurd cc
+none_takes (Hears l f ∷ xs) ys p q = none_takes xs ys p q
+none_takes (Loses l ∷ xs) ys p q = none_takes xs ys p q
+none_takes (Fails f ∷ xs) ys p q = none_takes xs ys p q
+none_takes (Over why ∷ xs) ys p q = none_takes xs ys p q
+none_takes (Polled clock ∷ xs) ys p q = none_takes xs ys p q
+
+-- acts by which a flow is taken, or the first of a new subscription is due
+abbrev is_taker : Act → Bool
+is_taker (Does who (OfConsumer TakeFlow)) = true
+is_taker (Does who (OfConsumer (Revive l))) = true
+is_taker _ = false
+
+other_takes : (v : View) (t : ℕ) (a : Act) → is_taker a ≡ false → (m : Member) → takes_in (does_to v t m a) ≡ false
+other_takes v t a h = did_so (λ xs s. takes_in xs ≡ false) (λ s. refl) (λ xs ys s q p. none_takes xs ys p q) v t a one
+  where
+    one : (d : Deed) → CameFrom v t a d → (m : Member) → takes_in (deed_does d m) ≡ false
+    one (Arrives l x) c m = arrival_takes l x m.seen
+    one (LinkEnds l cause) c m = loss_takes l cause
+    one (CloseAsked closed l b) c m = either_takes (b && is_closed_by closed l m) (Over Closed ∷ []) [] refl refl
+    one FlowTaken c m = let f : true ≡ false = sym (ap is_taker c.1) ∙ h in absurd cc
+    one (Revived l url) c m = let f : true ≡ false = sym (ap is_taker c.1) ∙ h in absurd cc
+    one _ c m = refl
 
 -- it was taken last, or it is told of it last
 abbrev Pending : Options → List Entry → (ticket : ℕ) → Type 0
@@ -199,7 +227,7 @@ module _ (once : EndsOnce) (o : Options) (log : List Entry) (t : ℕ) (k : Every
           ap (λ y. first_due (seen y (done_to o t log)).engine.live) (sym same) ∙ ap (λ y. first_due y.engine.live) (sym c.2)
           ∙ flow_none m (ap flow_at (sym is) ∙ none) in
           let a : asked_since s (does_to v t m (Does w (OfConsumer TakeFlow)) ++ done_to o t log) ≡ asked_since s (done_to o t log) + 0 =
-          ap (λ b. asked_since s (cond b (Asks ∷ []) [] ++ done_to o t log)) d ∙ ap (λ y. asked_since s (done_to o t log) + unwrap_or y 0) due in
+          ap (λ b. asked_since s (deeds_do (cond b (FlowTaken ∷ []) []) m ++ done_to o t log)) d ∙ ap (λ y. asked_since s (done_to o t log) + unwrap_or y 0) due in
           omega (arith, le, a)
 
       by : (n u : ℕ) → w ≡ Consumer n u → t ≡ u → (row : Option (ℕ × ℕ)) → flow_at (v.consumers.rows t) ≡ row → Goal (Does w (OfConsumer TakeFlow)) s m
@@ -246,7 +274,7 @@ module _ (once : EndsOnce) (o : Options) (log : List Entry) (t : ℕ) (k : Every
       url = seat.address.url
 
       does : does_to v t m (Does who (OfConsumer (Revive j))) ≡ Lives j url ∷ []
-      does = (λ i. cond (d i) (subscription_does j (url_at (e i))) [])
+      does = (λ i. deeds_do (cond (d i) (Revived j (url_at (e i)) ∷ []) []) m)
 
       by : (b : Bool) → is_ended m.seen ≡ b → asked_since s (does_to v t m (Does who (OfConsumer (Revive j))) ++ done_to o t log) ≡ 0
       by true ended =
@@ -266,24 +294,25 @@ module _ (once : EndsOnce) (o : Options) (log : List Entry) (t : ℕ) (k : Every
           let e : is_ended (seen s (done_to o t log)) ≡ false = ap (λ y. is_ended (seen y (done_to o t log))) (sym same) ∙ ap is_ended (sym c.2) ∙ ended in
           ap (λ xs. asked_since s (xs ++ done_to o t log)) does ∙ ap (λ b. cond b (asked_since s (done_to o t log)) 0) e
 
-  revives_takes : (j : ℕ) (b : Bool) (row : Option Seat) → (b && is_some row) ≡ false → takes_in (cond b (subscription_does j (url_at row)) []) ≡ false
-  revives_takes j true None h = refl
-  revives_takes j true (Some seat) h = absurd cc
-  revives_takes j false row h = refl
+  revives_takes : (m : Member) (j : ℕ) (b : Bool) (row : Option Seat) → (b && is_some row) ≡ false →
+      takes_in (deeds_do (cond b (Revived j (url_at row) ∷ []) []) m) ≡ false
+  revives_takes m j true None h = refl
+  revives_takes m j true (Some seat) h = absurd cc
+  revives_takes m j false row h = refl
 
   kept_settled : (a : Act) (l : ℕ) (s : Setup) (m n : Member) → IsRun o (Then a ∷ log) → LinkFrom o log a t l → v.consumers.rows t ≡ Some m →
       made_with t log ≡ Some s → n.seen ≡ applied (does_to v t m a) m.seen → link_of n.seen ≡ Some l → Goal a s m
   kept_settled (Comes (ToLink j Reads)) l s m n run from is made seen_so on =
-      quiet_settled (Comes (ToLink j Reads)) l s m from is made (λ w i e f. absurd cc) (arrival_takes j (arrival_at (v.links.live j)) m.seen) refl
+      quiet_settled (Comes (ToLink j Reads)) l s m from is made (λ w i e f. absurd cc) (other_takes v t (Comes (ToLink j Reads)) refl m) refl
       (never (Comes (ToLink j Reads)) run refl)
   kept_settled (Comes (ToLink j (Ends end))) l s m n run from is made seen_so on =
-      quiet_settled (Comes (ToLink j (Ends end))) l s m from is made (λ w i e f. absurd cc) (loss_takes j (closing end v.now (v.links.live j))) refl
+      quiet_settled (Comes (ToLink j (Ends end))) l s m from is made (λ w i e f. absurd cc) (other_takes v t (Comes (ToLink j (Ends end))) refl m) refl
       (never (Comes (ToLink j (Ends end))) run refl)
   kept_settled (Comes (Polls u)) l s m n run from is made seen_so on =
-      quiet_settled (Comes (Polls u)) l s m from is made (λ w i e f. absurd cc) (either_takes (t == u) (Polled v.now ∷ []) [] refl refl) refl
+      quiet_settled (Comes (Polls u)) l s m from is made (λ w i e f. absurd cc) (other_takes v t (Comes (Polls u)) refl m) refl
       (never (Comes (Polls u)) run refl)
   kept_settled (Told x) l s m n run from is made seen_so on =
-      quiet_settled (Told x) l s m from is made (λ w i e f. absurd cc) refl refl (told_next x run)
+      quiet_settled (Told x) l s m from is made (λ w i e f. absurd cc) (other_takes v t (Told x) refl m) refl (told_next x run)
   kept_settled (Does (Consumer c u) (Ask j (words.SendFlow m' p))) l s m n run from is made seen_so on = elim (cases_Bool (t == u)) [
     | inl d ↦
         (let a : Act = Does (Consumer c u) (Ask j (words.SendFlow m' p)) in
@@ -302,17 +331,15 @@ module _ (once : EndsOnce) (o : Options) (log : List Entry) (t : ℕ) (k : Every
   ]
     where
       ask_takes : (m : Member) (c u j m' p : ℕ) → takes_in (does_to v t m (Does (Consumer c u) (Ask j (words.SendFlow m' p)))) ≡ false
-      ask_takes m c u j m' p =
-          either_takes (is_asked (answer_at v.now (words.SendFlow m' p) (v.links.live j)) && is_closed_by (closed_consumer (words.SendFlow m' p)) j m)
-          (Over Closed ∷ []) [] refl refl
+      ask_takes m c u j m' p = other_takes v t (Does (Consumer c u) (Ask j (words.SendFlow m' p))) refl m
   kept_settled (Does who (Ask j request)) l s m n run from is made seen_so on =
       quiet_settled (Does who (Ask j request)) l s m from is made (λ w i e f. absurd cc)
-      (either_takes (is_asked (answer_at v.now request (v.links.live j)) && is_closed_by (closed_consumer request) j m) (Over Closed ∷ []) [] refl refl) refl
+      (other_takes v t (Does who (Ask j request)) refl m) refl
       (never (Does who (Ask j request)) run refl)
   kept_settled (Does who (OfConsumer TakeFlow)) l s m n run from is made seen_so on = elim (cases_Bool (t == ticket_of who)) [
     | inl d ↦ took_settled who l s m run from is made d
     | inr d ↦
-        quiet_settled (Does who (OfConsumer TakeFlow)) l s m from is made (λ w i e f. absurd cc) (ap (λ b. takes_in (cond b (Asks ∷ []) [])) d) refl
+        quiet_settled (Does who (OfConsumer TakeFlow)) l s m from is made (λ w i e f. absurd cc) (ap (λ b. takes_in (deeds_do (cond b (FlowTaken ∷ []) []) m)) d) refl
         (never (Does who (OfConsumer TakeFlow)) run refl)
   ]
   kept_settled (Does who (OfConsumer (Revive j))) l s m n run from is made seen_so on = elim (cases_Bool (t == ticket_of who && is_some (v.links.live j))) [
@@ -326,18 +353,18 @@ module _ (once : EndsOnce) (o : Options) (log : List Entry) (t : ℕ) (k : Every
         (let x : who ≡ w = revivers e in
         let y : j ≡ i = some_is (ap revived_on e) in
         let g : true ≡ false = sym f ∙ sym (λ q. t == ticket_of (x q) && is_some (v.links.live (y q))) ∙ d in absurd cc))
-        (revives_takes j (t == ticket_of who) (v.links.live j) d) (ap (λ b. cond b [] fs) d) (never (Does who (OfConsumer (Revive j))) run refl)
+        (revives_takes m j (t == ticket_of who) (v.links.live j) d) (ap (λ b. cond b [] fs) d) (never (Does who (OfConsumer (Revive j))) run refl)
   ]
     where
       revivers : {w : Who} {i : ℕ} → Does who (OfConsumer (Revive j)) ≡ Does w (OfConsumer (Revive i)) → who ≡ w
       revivers {w} {i} e = cc
   kept_settled (Does who (OfConsumer (FailConsumer f))) l s m n run from is made seen_so on =
-      quiet_settled (Does who (OfConsumer (FailConsumer f))) l s m from is made (λ w i e g. absurd cc) (either_takes (t == ticket_of who) (Fails f ∷ []) [] refl refl) refl
+      quiet_settled (Does who (OfConsumer (FailConsumer f))) l s m from is made (λ w i e g. absurd cc) (other_takes v t (Does who (OfConsumer (FailConsumer f))) refl m) refl
       (never (Does who (OfConsumer (FailConsumer f))) run refl)
   kept_settled (Does who StopAll) l s m n run from is made seen_so on =
-      quiet_settled (Does who StopAll) l s m from is made (λ w i e f. absurd cc) refl refl (never (Does who StopAll) run refl)
+      quiet_settled (Does who StopAll) l s m from is made (λ w i e f. absurd cc) (other_takes v t (Does who StopAll) refl m) refl (never (Does who StopAll) run refl)
   kept_settled a l s m n run from is made seen_so on =
-      quiet_settled a l s m from is made (λ w i e f. absurd cc) refl refl (never a run refl)
+      quiet_settled a l s m from is made (λ w i e f. absurd cc) (other_takes v t a refl m) refl (never a run refl)
 
   row_settled : (a : Act) → IsRun o (Then a ∷ log) → (n : Member) (l : ℕ) (s : Setup) → (view o (Then a ∷ log)).consumers.rows t ≡ Some n →
       link_of n.seen ≡ Some l → made_with t (Then a ∷ log) ≡ Some s → LinkFrom o log a t l → RowFrom o log a t →

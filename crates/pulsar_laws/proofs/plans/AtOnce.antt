@@ -16,8 +16,8 @@ use Rattle.pulsar_acts.specs.Rules.{gets_from, number_said, says_to}
 use Rattle.pulsar_consumer_table.specs.Asks.{recalled_said, sought_said}
 use Rattle.pulsar_acts.specs.Reading.{numbering_said}
 use Rattle.pulsar_consumer_table.specs.Consumers as consumer
-use Rattle.pulsar_consumer_table.specs.declared.row.Sought.{Sought}
-use Rattle.pulsar_consumer_table.specs.declared.row.Sought.TheVariants.{Found, Gone, Later}
+use Rattle.pulsar_consumer_table.specs.declared.row.LinkAnswer.{LinkAnswer}
+use Rattle.pulsar_consumer_table.specs.declared.row.LinkAnswer.TheVariants.{Found, Gone, Later}
 use Rattle.pulsar_consumer_table.specs.declared.numbers.Numbering.{Numbering}
 use Rattle.pulsar_consumer_table.specs.declared.numbers.Numbering.TheVariants.{Has, InUse, Spent}
 use Rattle.pulsar_client.proofs.Raising.{IsRaised}
@@ -115,7 +115,7 @@ module _ (v : View) (who : Who) where
   numbering_once wanted InUse = says tt refl
   numbering_once wanted Spent = says tt refl
 
-  sought_once : (t : ℕ) (x : Sought) → AtOnce v who (OfConsumer (FindConsumer t)) (says_to who (sought_said x))
+  sought_once : (t : ℕ) (x : LinkAnswer) → AtOnce v who (OfConsumer (FindConsumer t)) (says_to who (sought_said x))
   sought_once t (Found l) = says tt refl
   sought_once t Gone = says tt refl
   sought_once t Later = nothing

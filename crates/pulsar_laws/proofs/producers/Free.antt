@@ -1,5 +1,5 @@
 -- The number of a new topic producer is free.
-use Rattle.std.proofs.Common.{◌≡◌, inl, inr, ◌∙◌, sym, ap, subst, ℕ, ◌+◌, ◌-◌, ◌^◌, ◌<◌, ◌≤◌, ◌==◌, arith, List, [], ◌∷◌, refl, true, false, ◌&&◌, ◌||◌, nat_lt, cond, Option, Some, None}
+use Rattle.std.proofs.Common.{◌≡◌, inl, inr, ◌∙◌, sym, ap, subst, ℕ, ◌+◌, ◌-◌, ◌^◌, ◌<◌, ◌≤◌, ◌==◌, arith, List, [], ◌∷◌, ◌++◌, refl, map, true, false, ◌&&◌, ◌||◌, nat_lt, cond, Option, Some, None}
 use Rattle.std.proofs.lemmas.Bool.{cases_Bool, eqb-true}
 use Rattle.std.proofs.lemmas.Bool.Decides.{nat_tests}
 use Rattle.std.specs.BTreeSet.{insert_key}
@@ -8,12 +8,11 @@ use Rattle.std.specs.Option.{is_some}
 use Rattle.std.specs.Ordering.{nat_cmp}
 use Rattle.pulsar_laws.proofs.ActWords.{Act, Answers, Asked, Calls, Comes, Does, Makes, Number, Told, Who, lacks_tickets, shares}
 use Rattle.pulsar_laws.proofs.PlanWords.{Built}
-use Rattle.pulsar_laws.proofs.RunWords.{Begins, begun_same, Entry, In, IsRun, may_call, notice, Options, producers_made, Then, View, view}
+use Rattle.pulsar_laws.proofs.RunWords.{Begins, begun_same, Entry, In, IsRun, may_call, notice, Options, producers_listed, Then, View, view}
 use Rattle.pulsar_messages.specs.Content.{ProducerMessageValues}
 use Rattle.pulsar_messages.specs.Claims.{is_spent}
 use Rattle.pulsar_exchange.specs.Request.{named_producer}
 use Rattle.pulsar_producer.specs.Producer as producer
-use Rattle.pulsar_outgoing.specs.Storage.{limits_of}
 use Rattle.pulsar_outgoing.specs.declared.storage.Limits.{Limits}
 use Rattle.pulsar_outgoing.specs.declared.news.News.TheVariants as news
 use Rattle.pulsar_calls.specs.declared.act.Makes.TheVariants.{Producer}
@@ -21,7 +20,7 @@ use Rattle.pulsar_calls.specs.declared.act.Who.TheVariants as by
 use Rattle.pulsar_acts.specs.View.{producers_left}
 use Rattle.pulsar_calls.specs.declared.act.Outcome.TheVariants as outcome
 use Rattle.pulsar_calls.specs.Content as content
-use Rattle.pulsar_producer_table.specs.Producers.{Producers, all_routed, called_on, free_from, made_of, names_in, next_free, numbered, opened_on, routed, sent_on, why_not, with_built, with_topic, with_topics}
+use Rattle.pulsar_producer_table.specs.Producers.{Producers, all_routed, called_on, free_from, made_of, names_in, next_free, numbered, opened_on, routed, sent_on, why_not, with_built}
 use Rattle.pulsar_laws.proofs.Cases.{cond_so}
 use Rattle.pulsar_laws.specs.ProducerLaws.{NumbersAreFree}
 use Rattle.pulsar_acts.specs.View as seen
@@ -139,20 +138,15 @@ opened_low (content.Raw l words) ps h =
     elim (named_producer words) as (λ r. IsLow (names_in r ps)) [ None ↦ h | Some n ↦ (rising_insert ps.named n h.0, h.1) ]
 opened_low _ ps h = h
 
-joined_kept : (owner f : ℕ) (limits : Limits) (bs : List Built) (ps : Producers) → Kept ps (with_topics owner f limits bs ps)
-joined_kept owner f limits [] ps = (refl, refl)
-joined_kept owner f limits (b ∷ bs) ps = joined_kept owner f limits bs (with_topic owner f limits b ps)
-
 built_kept : (t : ℕ) (r : Option producer.Seen) (ps : Producers) → Kept ps (with_built t r ps)
 built_kept t None ps = (refl, refl)
 built_kept t (Some p) ps = (refl, refl)
 
-made_low : (v : View) (who : Who) (m : Makes) → IsLow v.producers → IsLow (producers_made v.chosen who m v.producers)
+made_low : (v : View) (who : Who) (m : Makes) → IsLow v.producers → IsLow (producers_listed v.chosen who m v.producers)
 made_low v who (Producer b) h =
-    let f : ℕ = v.chosen.first_number in
-    let ps : Producers = with_topics (rank who).1 f (limits_of b.settings) b.parts v.producers in
-    kept_low ps (with_built (rank who).1 (made_of v.chosen.seed (rank who).1 b) ps) (built_kept (rank who).1 (made_of v.chosen.seed (rank who).1 b) ps)
-    (kept_low v.producers ps (joined_kept (rank who).1 f (limits_of b.settings) b.parts v.producers) h)
+    let t : ℕ = (rank who).1 in
+    let ps : Producers = record v.producers { numbers = v.producers.numbers ++ map (λ q. q.number) b.parts } in
+    kept_low v.producers (with_built t (made_of v.chosen.seed t b) ps) (built_kept t (made_of v.chosen.seed t b) ps) h
 made_low v who _ h = h
 
 left_low : (who : Who) (ps : Producers) → IsLow ps → IsLow (producers_left who ps)
@@ -175,7 +169,7 @@ after_low v (Comes (Calls asked advice)) h =
     cond_so IsLow (lacks_tickets v.calls.drawn (shares asked)) v.producers (called_on (may_call v.calls) asked v.producers) h
     (cond_so IsLow (may_call v.calls) (opened_on asked v.producers) v.producers (opened_low asked v.producers h) h)
 after_low v (Does who Number) h = numbered_low v.producers h
-after_low v (Answers who verdict) h = left_low who (producers_made v.chosen who verdict.makes v.producers) (made_low v who verdict.makes h)
+after_low v (Answers who verdict) h = left_low who (producers_listed v.chosen who verdict.makes v.producers) (made_low v who verdict.makes h)
 after_low v _ h = h
 
 pub low_run : (o : Options) (log : List Entry) → o.chosen.first_number < 2 ^ 64 → IsLow (view o log).producers

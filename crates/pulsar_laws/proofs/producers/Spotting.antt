@@ -63,6 +63,10 @@ abbrev pub out : Spot → ℕ
 out Nowhere = 0
 out _ = 1
 
+pub out_most : (s : Spot) → out s ≤ 1
+out_most Nowhere = omega arith
+out_most _ = omega arith
+
 abbrev pub at_place : Spot → ℕ → ℕ → Type 0
 at_place (OnLink l p) j q = (j ≡ l) × (q ≡ p)
 at_place _ j q = ⊥

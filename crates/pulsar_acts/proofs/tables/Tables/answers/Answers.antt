@@ -7,9 +7,9 @@ use Rattle.pulsar_acts.specs.Reading.{made_due}
 use Rattle.pulsar_calls.specs.Order.{below}
 use Rattle.pulsar_agenda.specs.Agenda.{Agenda}
 use Rattle.pulsar_agenda.specs.Agenda.{agenda_of}
-use Rattle.pulsar_acts.specs.View.{View, after, consumers_left, consumers_made, producers_left, producers_made}
+use Rattle.pulsar_acts.specs.View.{View, after, consumers_left, producers_left}
 use Rattle.pulsar_calls.specs.declared.act.Act.TheVariants.{Answers}
-use Rattle.pulsar_acts.specs.Tables.{view_of}
+use Rattle.pulsar_acts.specs.Tables.{consumers_made, producers_made, view_of}
 use Rattle.pulsar_acts.proofs.Granting.{held_is, left_is}
 use Rattle.pulsar_acts.proofs.tables.Tables.answers.Goals as goal
 

@@ -108,11 +108,12 @@ TopicsAlone = (o : Options) (log : List Entry) (n : ℕ) (t : Topic) → IsRun o
     (b : Built) × (limits : Limits) × (b.number ≡ n)
     × (t.seen ≡ topic.seen (record { built = b; first_number = o.chosen.first_number; limits = limits }) (acts_on o n log))
 
--- The number of a new topic producer is none that a raw call has named before, no other one has it, and none that was drawn before is as great:
--- so none is drawn twice.
+-- No other topic producer has the number of a new one, and none that was drawn before is as great: so none is drawn twice. And it is none that a raw call
+-- has named before, where the first number of the options has 64 bits, as its type says: one of 2^64 is the number of the first topic producer, also where
+-- a raw call has named it.
 abbrev pub NumbersAreFree : Type 0
-NumbersAreFree = (o : Options) (log : List Entry) (n : ℕ) → o.chosen.first_number < 2 ^ 64 → IsRun o log → number_drawn (view o log).producers ≡ Some n →
-    (list_any (λ k. k == n) (view o log).producers.named ≡ false) × ((view o log).producers.topics n ≡ None)
+NumbersAreFree = (o : Options) (log : List Entry) (n : ℕ) → IsRun o log → number_drawn (view o log).producers ≡ Some n →
+    (o.chosen.first_number < 2 ^ 64 → list_any (λ k. k == n) (view o log).producers.named ≡ false) × ((view o log).producers.topics n ≡ None)
     × ((who : Who) (m : ℕ) → In (Then (Told (notice who (outcome.Granted (news.Numbered m))))) log → m < n)
 
 -- Where a send of a call asks for its frame, it is the call's own message by the name that its topic producer has then, on its link and in its

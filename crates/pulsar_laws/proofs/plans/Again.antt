@@ -37,7 +37,7 @@ use Rattle.pulsar_laws.proofs.Cases.{cond_so, cond_when}
 use Rattle.pulsar_laws.proofs.plans.Follow.{plans_follow_lem}
 use Rattle.pulsar_laws.proofs.plans.Waiting.{ways_are_chosen_lem}
 use Rattle.pulsar_laws.specs.Laws.{Deed, course, deeds, outcomes, ways_in}
-use Rattle.pulsar_laws.specs.RetryLaws.{AgainOrNot, CountsAgain, HasRetried, IsAllowed, LooksAgain, MakesAgain, MayRetry, QuestionsAreBounded, is_wait, one_if, rests_along, rests_making, to_32, turn_along, waits_in}
+use Rattle.pulsar_laws.specs.RetryLaws.{AgainOrNot, CountsAgain, HasRetried, IsAllowed, IsNotReady, LooksAgain, MakesAgain, MayRetry, QuestionsAreBounded, is_wait, one_if, rests_along, rests_making, to_32, turn_along, waits_in}
 use Rattle.pulsar_searches.specs.declared.transition.Transition.TheVariants.{Stays, Gives}
 
 -- ALONG WHAT A MACHINE IS TOLD
@@ -66,11 +66,11 @@ kept test told I step (Stays r b) (o ∷ os) k m i e s a h =
     kept test told I step (told r o) os n m (step r o n i) (e ∙ rests_on (test r b) k left) s a h
 
 -- so many retries, counted to the end of 32 bits
-abbrev IsNow : (n k : ℕ) → Type 0
+abbrev pub IsNow : (n k : ℕ) → Type 0
 IsNow n k = n ≡ to_32 k
 
 -- it rests, so often so far, and had counted one less
-abbrev IsBefore : (n k : ℕ) → Type 0
+abbrev pub IsBefore : (n k : ℕ) → Type 0
 IsBefore n k = (j : ℕ) × (k ≡ j + 1) × (n ≡ to_32 j)
 
 rested : (n k : ℕ) → IsNow n k → IsBefore n (k + 1)
@@ -80,12 +80,12 @@ rested n k h = (k, refl, h)
 more_to : (most n j k : ℕ) → k ≡ j + 1 → n ≡ min j most → min (n + 1) most ≡ min k most
 more_to most n j k e h = omega (arith, e, h)
 
-now_on : (n k : ℕ) → IsBefore n k → IsNow (one_more n) k
+pub now_on : (n k : ℕ) → IsBefore n k → IsNow (one_more n) k
 now_on n k (j, e, h) = more_to (2 ^ 32 - 1) n j k e h
 
 -- WHAT THE OPTIONS ALLOW
 
-may_retry : (most : Option ℕ) (n k : ℕ) → IsNow n k → allow_retry most n ≡ true → MayRetry most k
+pub may_retry : (most : Option ℕ) (n k : ℕ) → IsNow n k → allow_retry most n ≡ true → MayRetry most k
 may_retry None n k e h = tt
 may_retry (Some most) n k e h = let lt : n < most = grind (arith, nat_tests) in subst (λ x. x < most) e lt
 
@@ -166,15 +166,19 @@ count_denied : (w : Ways) (n : ℕ) (r : Content) → is_body 22 r.body ≡ true
 unfolding count_in
 count_denied w n r b f c = rw (b, f, c) refl
 
-pub counts_again_lem : CountsAgain
-counts_again_lem w t os again n l a r h (b, f, c) =
-    either_so w n _ (count.Resting n l) (query r.error r.text) (count_told w t (count.Asked again n l) (news.Replied r)) (count_so w t os again n l a h)
+pub counts_either : (w : Ways) (t : List ℕ) (again : Bool) (n l k : ℕ) (r : Content) → IsNow n k → IsNotReady 22 1 r →
+    AgainOrNot w k (count.Resting n l) (query r.error r.text) (count_told w t (count.Asked again n l) (news.Replied r))
+counts_either w t again n l k r i (b, f, c) =
+    either_so w n k (count.Resting n l) (query r.error r.text) (count_told w t (count.Asked again n l) (news.Replied r)) i
     (ap (search.count_heard w n l) (count_denied w n r b f c) ∙ heard (allow_retry w.max_retries n) (query r.error r.text))
   where
     heard : (x : Bool) (g : Failure) →
         search.count_heard w n l (cond x Later (Denies g)) ≡ cond x (Stays (count.Resting n l) (Wait w.retry_delay)) (Gives (Err g))
     heard true g = refl
     heard false g = refl
+
+pub counts_again_lem : CountsAgain
+counts_again_lem w t os again n l a r h d = counts_either w t again n l _ r (count_so w t os again n l a h) d
 
 -- THE BROKER OF A TOPIC
 
@@ -226,9 +230,10 @@ look_denied : (w : Ways) (proxy : Bool) (n : ℕ) (r : Content) → is_body 24 r
 unfolding place_heard
 look_denied w proxy n r b f c = rw (b, f, c) refl
 
-pub looks_again_lem : LooksAgain
-looks_again_lem w t os s l a r h (b, f, c) =
-    either_so w s.retries _ (look.Resting s l) (query r.error r.text) (look_told w t (look.Asked s l) (news.Replied r)) (look_so w t os s l a h)
+pub looks_either : (w : Ways) (t : List ℕ) (s : Question) (l k : ℕ) (r : Content) → IsNow s.retries k → IsNotReady 24 2 r →
+    AgainOrNot w k (look.Resting s l) (query r.error r.text) (look_told w t (look.Asked s l) (news.Replied r))
+looks_either w t s l k r i (b, f, c) =
+    either_so w s.retries k (look.Resting s l) (query r.error r.text) (look_told w t (look.Asked s l) (news.Replied r)) i
     (ap (search.look_heard w s l) (look_denied w s.last.proxy s.retries r b f c) ∙ heard (allow_retry w.max_retries s.retries) (query r.error r.text))
   where
     heard : (x : Bool) (g : Failure) →
@@ -236,10 +241,13 @@ looks_again_lem w t os s l a r h (b, f, c) =
     heard true g = refl
     heard false g = refl
 
+pub looks_again_lem : LooksAgain
+looks_again_lem w t os s l a r h d = looks_either w t s l _ r (look_so w t os s l a h) d
+
 -- A COMMAND
 
 -- a plan within it goes on, or it begins anew
-abbrev retried : Ways → ℕ → SearchTransition Retrying (Result Place Failure) → SearchTransition Making (Result Served Failure)
+abbrev pub retried : Ways → ℕ → SearchTransition Retrying (Result Place Failure) → SearchTransition Making (Result Served Failure)
 retried w n x = search.and_then x (λ r. make.Retrying r n) (made_gets (one_more n))
 
 module _ (w : Ways) (c : Command) where
@@ -281,19 +289,25 @@ module _ (w : Ways) (c : Command) where
 abbrev again_so : Ways → ℕ → Fault → Bool → SearchTransition Making (Result Served Failure)
 again_so w n f b = retried w n (cond b (Stays retry.Resting (Wait w.retry_delay)) (search.fails (OfConnection f)))
 
-pub makes_again_lem : MakesAgain
-makes_again_lem w c place os n l a o f h v = (
-  λ r. either_so w n _ (make.Retrying retry.Resting n) (OfConnection f) (made_told w c (make.Asked n l) o) (make_so w c place os n l a h)
-      (failed ∙ ap (λ b. again_so w n f (b && allow_retry w.max_retries n)) r ∙ begun (allow_retry w.max_retries n)),
-  λ r. failed ∙ ap (λ b. again_so w n f (b && allow_retry w.max_retries n)) r,
-)
-  where
-    failed : made_told w c (make.Asked n l) o ≡ again_so w n f (is_retryable f && allow_retry w.max_retries n)
-    failed = ap (search.made_answered w n l) v
+module _ (w : Ways) (c : Command) (n l : ℕ) (o : News) (f : Fault) (v : search.verdict c.answer o ≡ Err f) where
+  failed : made_told w c (make.Asked n l) o ≡ again_so w n f (is_retryable f && allow_retry w.max_retries n)
+  failed = ap (search.made_answered w n l) v
 
-    begun : (x : Bool) → again_so w n f x ≡ cond x (Stays (make.Retrying retry.Resting n) (Wait w.retry_delay)) (Gives (Err (OfConnection f)))
-    begun true = refl
-    begun false = refl
+  pub makes_either : (k : ℕ) → IsNow n k → is_retryable f ≡ true →
+      AgainOrNot w k (make.Retrying retry.Resting n) (OfConnection f) (made_told w c (make.Asked n l) o)
+  makes_either k i r =
+      either_so w n k (make.Retrying retry.Resting n) (OfConnection f) (made_told w c (make.Asked n l) o) i
+      (failed ∙ ap (λ b. again_so w n f (b && allow_retry w.max_retries n)) r ∙ begun (allow_retry w.max_retries n))
+    where
+      begun : (x : Bool) → again_so w n f x ≡ cond x (Stays (make.Retrying retry.Resting n) (Wait w.retry_delay)) (Gives (Err (OfConnection f)))
+      begun true = refl
+      begun false = refl
+
+  pub makes_no_more : is_retryable f ≡ false → made_told w c (make.Asked n l) o ≡ Gives (Err (OfConnection f))
+  makes_no_more r = failed ∙ ap (λ b. again_so w n f (b && allow_retry w.max_retries n)) r
+
+pub makes_again_lem : MakesAgain
+makes_again_lem w c place os n l a o f h v = (λ r. makes_either w c n l o f v _ (make_so w c place os n l a h) r, λ r. makes_no_more w c n l o f v r)
 
 -- IN A RUN each wait of a question is one that the options allow
 

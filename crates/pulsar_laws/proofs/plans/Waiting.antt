@@ -274,7 +274,7 @@ module _ (o : Options) where
       (λ log b u q a r s k e w is. k w ((subst (StaysSo (WaysSo (ways_at b))) e (told_ways b u)).keeps w is))
       log q run h w is
 
-  delay_by : (w : Ways) → given ≡ Some w → (w.retry_delay ≡ o.chosen.operation.retry_delay) × (w.max_retries ≡ o.chosen.operation.max_retries)
+  pub delay_by : (w : Ways) → given ≡ Some w → (w.retry_delay ≡ o.chosen.operation.retry_delay) × (w.max_retries ≡ o.chosen.operation.max_retries)
   delay_by w h = by o.chosen.base h
     where
       by : (base : Option Place) → option_map (ways_from o.chosen.operation) base ≡ Some w →

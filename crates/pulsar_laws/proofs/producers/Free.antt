@@ -21,7 +21,7 @@ use Rattle.pulsar_acts.specs.View.{producers_left}
 use Rattle.pulsar_calls.specs.declared.act.Outcome.TheVariants as outcome
 use Rattle.pulsar_calls.specs.Content as content
 use Rattle.pulsar_producer_table.specs.Producers.{Producers, all_routed, called_on, free_from, made_of, names_in, next_free, numbered, opened_on, routed, sent_on, why_not, with_built}
-use Rattle.pulsar_laws.proofs.Cases.{cond_so}
+use Rattle.pulsar_laws.proofs.Cases.{cond_so, cond_when}
 use Rattle.pulsar_laws.specs.ProducerLaws.{NumbersAreFree}
 use Rattle.pulsar_acts.specs.View as seen
 use Rattle.pulsar_calls.specs.Who.{rank}
@@ -64,16 +64,18 @@ free_above n (x ∷ xs) h =
     let d : (x == n) ≡ false = grind (arith, nat_tests) in
     ap (λ b. cond (b && nat_lt n (2 ^ 64 - 1)) (free_from xs (n + 1)) (free_from xs n)) d ∙ free_above n xs h.1
 
-free_low : (xs : List ℕ) (n : ℕ) → n < 2 ^ 64 → (n ≤ free_from xs n) × (free_from xs n < 2 ^ 64)
-free_low [] n lt = (omega arith, lt)
-free_low (x ∷ xs) n lt = elim (cases_Bool ((x == n) && nat_lt n (2 ^ 64 - 1))) [
-  | inl e ↦
-      (let l : n + 1 < 2 ^ 64 = grind (arith, nat_tests) in
-      let k = free_low xs (n + 1) l in
-      let a : n + 1 ≤ free_from xs (n + 1) = k.0 in
-      rw e (omega (arith, a), k.1))
-  | inr e ↦ rw e (free_low xs n lt)
-]
+-- none below is free
+free_least : (xs : List ℕ) (n : ℕ) → n ≤ free_from xs n
+free_least [] n = omega arith
+free_least (x ∷ xs) n =
+    let a : n + 1 ≤ free_from xs (n + 1) = free_least xs (n + 1) in
+    cond_so (λ m. n ≤ m) ((x == n) && nat_lt n (2 ^ 64 - 1)) (free_from xs (n + 1)) (free_from xs n) (omega (arith, a)) (free_least xs n)
+
+free_low : (xs : List ℕ) (n : ℕ) → n < 2 ^ 64 → free_from xs n < 2 ^ 64
+free_low [] n lt = lt
+free_low (x ∷ xs) n lt =
+    cond_when (λ m. m < 2 ^ 64) ((x == n) && nat_lt n (2 ^ 64 - 1)) (free_from xs (n + 1)) (free_from xs n)
+    (λ e. free_low xs (n + 1) (grind (arith, nat_tests))) (λ e. free_low xs n lt)
 
 is_free : (xs : List ℕ) (n : ℕ) → n < 2 ^ 64 → Rising xs → is_spent (free_from xs n) ≡ false → list_any (λ x. x == free_from xs n) xs ≡ false
 is_free [] n lt r s = refl
@@ -81,7 +83,7 @@ is_free (x ∷ xs) n lt r s = elim (cases_Bool ((x == n) && nat_lt n (2 ^ 64 - 1
   | inl e ↦
       (let same : free_from (x ∷ xs) n ≡ free_from xs (n + 1) = ap (λ b. cond b (free_from xs (n + 1)) (free_from xs n)) e in
       let l : n + 1 < 2 ^ 64 = grind (arith, nat_tests) in
-      let a : n + 1 ≤ free_from xs (n + 1) = (free_low xs (n + 1) l).0 in
+      let a : n + 1 ≤ free_from xs (n + 1) = free_least xs (n + 1) in
       let q : (x == free_from xs (n + 1)) ≡ false = grind (arith, nat_tests) in
       let t : is_spent (free_from xs (n + 1)) ≡ false = subst (λ m. is_spent m ≡ false) same s in
       subst (λ m. list_any (λ y. y == m) (x ∷ xs) ≡ false) (sym same)
@@ -109,7 +111,7 @@ is_free (x ∷ xs) n lt r s = elim (cases_Bool ((x == n) && nat_lt n (2 ^ 64 - 1
             let no : true ≡ false = sym g ∙ f in
             absurd cc)
         | inr q ↦
-            (let a : n ≤ free_from xs n = (free_low xs n lt).0 in grind (arith, nat_tests))
+            (let a : n ≤ free_from xs n = free_least xs n in grind (arith, nat_tests))
       ]
     ]
 
@@ -162,7 +164,7 @@ numbered_low ps h = (
 )
   where
     low : next_free ps < 2 ^ 64
-    low = (free_low ps.named ps.next h.1).1
+    low = free_low ps.named ps.next h.1
 
 after_low : (v : View) (a : Act) → IsLow v.producers → IsLow (seen.after a v).producers
 after_low v (Comes (Calls asked advice)) h =
@@ -199,16 +201,16 @@ no_row None none = refl
 no_row (Some x) none = absurd (none x refl)
 
 pub numbers_are_free_lem : NumbersAreFree
-numbers_are_free_lem o log n lt run h =
+numbers_are_free_lem o log n run h =
     let ps : Producers = (view o log).producers in
-    let low : IsLow ps = low_run o log lt in
     elim (cases_Bool (is_spent (next_free ps))) [
       | inl s ↦ (let f : None ≡ Some n = rw s at h in absurd cc)
       | inr s ↦
           (let f : Some (next_free ps) ≡ Some n = rw s at h in
           let same : next_free ps ≡ n = cc in
-          let at_least : ps.next ≤ next_free ps = (free_low ps.named ps.next low.1).0 in (
-            subst (λ m. list_any (λ k. k == m) ps.named ≡ false) same (is_free ps.named ps.next low.1 low.0 s),
+          let at_least : ps.next ≤ next_free ps = free_least ps.named ps.next in (
+            λ lt. (let low : IsLow ps = low_run o log lt in
+            subst (λ m. list_any (λ k. k == m) ps.named ≡ false) same (is_free ps.named ps.next low.1 low.0 s)),
             no_row (ps.topics n) (λ row e.
                 let k = here (Drawn o) log (drawn_run o log run) in
                 let b : n < ps.next = k.below n _ (k.topics n row e).0 in

@@ -106,7 +106,7 @@ fn stays(
     ensures { IfOk result (λ turn. turn ≡ sends_stay ways errand share sending deed) }
 {
     match share {
-        Some(share) if sending.get().is_sent() => Ok(Transition::Stays(
+        Some(share) if sending.is_sent() => Ok(Transition::Stays(
             Plan::Reporting { ways, errand },
             tell(share, parted(share, None)),
         )),

@@ -3,7 +3,7 @@ use Rattle.std.specs.Prelude.{ℕ, ◌+◌, ◌==◌, bytes_eq, nat_le, ◌&&◌
 use Rattle.std.specs.List.{list_any}
 use Rattle.std.specs.Option.{is_some, option_map}
 use Rattle.pulsar_addresses.specs.Address.{Place, address_key, behind, is_reachable}
-use Rattle.pulsar_addresses.specs.Backoff.{backoff, connection_id, jitter}
+use Rattle.pulsar_addresses.specs.Backoff.{connection_id}
 use Rattle.pulsar_addresses.specs.declared.options.OperationRetryOptions.{OperationRetryOptions}
 use Rattle.pulsar_searches.specs.declared.turn.Ways.{Ways}
 use Rattle.url.specs.Parts.{Parts}
@@ -11,6 +11,7 @@ use Rattle.pulsar_session.specs.declared.states.Stage.{Stage}
 use Rattle.pulsar_session.specs.declared.states.Stage.TheVariants.{Dialing, Handshaking, Ready, Over}
 use Rattle.pulsar_session.specs.Link as session
 use Rattle.pulsar_session.specs.Link.{Setup, is_open}
+use Rattle.pulsar_session.specs.Series as rule
 use Rattle.pulsar_exchange.specs.Request.{closed_consumer}
 use Rattle.pulsar_calls.specs.declared.act.Act.{Act}
 use Rattle.pulsar_calls.specs.declared.act.Act.TheVariants.{Comes, Starts, Told, Does, Answers, Dials}
@@ -271,7 +272,7 @@ turned v _ = None
 
 -- the delay of the attempt that is to follow that of a link, behind so many retries
 abbrev pub delay_with : Chosen → (link retries : ℕ) → ℕ
-delay_with o l retries = backoff o.connection.min_backoff o.connection.max_backoff retries (jitter o.seed l)
+delay_with o l retries = rule.delay o.connection o.seed l retries
 
 abbrev pub delay_of : Chosen → (link : ℕ) → Pause → ℕ
 delay_of o l p = delay_with o l p.retries

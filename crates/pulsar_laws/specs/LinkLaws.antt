@@ -20,6 +20,7 @@ use Rattle.pulsar_run.specs.Order.{arranged}
 use Rattle.pulsar_calls.specs.Steps.{Step}
 use Rattle.pulsar_acts.specs.Run.{Entry, Begins, Then, Good, IsRun, Rests, steps, view}
 use Rattle.pulsar_machine.specs.Options.{Options}
+use Rattle.pulsar_acts.specs.View.{link_gone}
 use Rattle.pulsar_laws.specs.Laws.{AreActs, call_at, is_late}
 
 -- REQUESTS ARE SETTLED ONCE
@@ -79,17 +80,11 @@ DueLinksEnd = (o : Options) (newer older : List Entry) (now l : ℕ) (seat : Sea
 
 -- WHERE A LINK HAS ENDED
 
--- what comes to a link ends it: an end comes that closes its connection
-abbrev pub is_end : LinkAct → (now : ℕ) → Option Seat → Bool
-is_end (Ends end) now row = is_some (closing end now row)
-is_end _ now row = false
-
--- an end of a link stands in the log
+-- an end of a link stands in the log: one that closes its connection
 abbrev pub end_in : Options → (link : ℕ) → List Entry → Bool
 end_in o l [] = false
-end_in o l (Then (Comes (ToLink k x)) ∷ log) =
-    if l == k then is_end x (view o log).now ((view o log).links.live l) || end_in o l log else end_in o l log
-end_in o l (_ ∷ log) = end_in o l log
+end_in o l (Begins e ∷ log) = end_in o l log
+end_in o l (Then a ∷ log) = link_gone (view o log) l a || end_in o l log
 
 -- What a client says of a link, that it has ended, is so exactly there.
 abbrev pub EndedIs : Type 0

@@ -20,7 +20,7 @@ use Rattle.pulsar_links.specs.Links.{line_places}
 use Rattle.pulsar_acts.specs.Rules.{failed_on, stopped_with, waiters_of, stopped_one}
 use Rattle.pulsar_links.specs.LinkRules.{dropped, ended_on, failed_at, failed_over, lost, on_link, stopped_at}
 use Rattle.pulsar_producer_table.specs.Notices.{stopped_all, stopped_call}
-use Rattle.pulsar_acts.specs.View.{alarms_after, alarms_built, alarms_on, alarms_over, builds, calls_after, live_after, pause_after, pause_of, pause_on, pause_rung, producers_after, stand_after, topic_of, building_of}
+use Rattle.pulsar_acts.specs.View.{alarms_after, alarms_built, alarms_on, alarms_over, builds, calls_after, pause_after, pause_of, pause_on, pause_rung, producers_after, stand_after, topic_of, building_of}
 use Rattle.pulsar_links.specs.Seats.{Links, pause_put}
 use Rattle.pulsar_producer_table.specs.declared.table.Topic.{Topic}
 use Rattle.pulsar_outgoing.specs.Storage.{Item}

@@ -24,7 +24,7 @@ use Rattle.pulsar_consumer_table.specs.Consumers as consumer
 use Rattle.pulsar_acts.specs.Effects.{effects}
 use Rattle.pulsar_acts.specs.Rules.{breaks_at, reads_on}
 use Rattle.pulsar_acts.specs.Run.{Rests, steps}
-use Rattle.pulsar_acts.specs.View.{alarms_on, base_on, is_at, pause_on}
+use Rattle.pulsar_acts.specs.View.{alarms_on, base_on, is_at, pause_on, link_gone}
 use Rattle.pulsar_client.proofs.Raising.{IsRaised, raises}
 use Rattle.pulsar_run.specs.Run.{in_order, only}
 use Rattle.pulsar_laws.specs.Laws.{AreActs}
@@ -40,8 +40,6 @@ use Rattle.pulsar_laws.proofs.links.Unread.{came_short, drawn_stage, moved_stage
 use Rattle.pulsar_links.specs.Asks.{Deed, IsAsked, IsClosed, IsDrained, IsFed, IsGot, IsOpened, IsPinged, IsRead, seat_by}
 use Rattle.pulsar_acts.proofs.Linking.{fed_is, took_is}
 use Rattle.pulsar_laws.proofs.links.Rows.{CameFrom, after_holds}
-use Rattle.pulsar_acts.specs.View.{link_gone}
-use Rattle.std.proofs.Common.{◌||◌}
 
 -- READING COMES BY PARTS ALONE
 

@@ -71,9 +71,9 @@ pub use Rattle.pulsar_producer_table.specs.Asks.{readied, ready_notice, turn_not
 use Rattle.pulsar_producer_table.specs.Notices.{stopped_all}
 use Rattle.pulsar_producer_table.specs.Producers.{Producers, advice, batches_in, errand_of, is_held, is_used as is_used_number, number_drawn, numbers_at, routed, stored_by, why_not}
 use Rattle.pulsar_calls.specs.Content.{next_advice}
-use Rattle.pulsar_acts.specs.View.{Tickets, Turned, View, asked_of, consumer_asked, is_live, may_call, told_some, turned, ways_of}
+use Rattle.pulsar_acts.specs.View.{Tickets, Turned, View, asked_of, consumer_asked, is_live, link_given, may_call, told_some, turned, ways_of}
 use Rattle.pulsar_machine.specs.Options.{Chosen, Options}
-use Rattle.pulsar_links.specs.Seats.{Addresses, Base, Links, Seat, answer_at, arrival_at, later}
+use Rattle.pulsar_links.specs.Seats.{Addresses, Base, Links, Seat, arrival_at, later}
 use Rattle.pulsar_consumer_table.specs.Consumers as consumer
 pub use Rattle.pulsar_calls.specs.Notices.{notice, stopped_one}
 pub use Rattle.pulsar_acts.specs.Reading.{tells, unless}
@@ -81,7 +81,7 @@ use Rattle.pulsar_consumer_table.specs.Notices.{polled_due}
 use Rattle.pulsar_acts.specs.Reading.{acknowledges, closed_at, heard_on, leaves, lost_on, made_due, numbering_said, serves_by, stopped_on, subscribes}
 use Rattle.pulsar_consumer_table.specs.Consumers.{Consumers, is_heard, over_rows}
 use Rattle.pulsar_calls.specs.Order.{opens, alone}
-use Rattle.pulsar_links.specs.LinkRules.{over_links, due_part, told_at, stop_act, may_ping, answered_on, served_by, ended_on, failed_over, moved_on, stopped_at}
+use Rattle.pulsar_links.specs.LinkRules.{over_links, due_part, stop_act, may_ping, answered_on, served_by, ended_on, failed_over, moved_on, stopped_at}
 use Rattle.pulsar_searches.specs.declared.transition.Transition.TheVariants.{Stays, Gives}
 use Rattle.pulsar_plans.specs.Transitions.{PlanTransition}
 
@@ -309,7 +309,7 @@ stops who ls = over_links stop_act ls ++ tells who outcome.Stopped
 
 abbrev pub performs : View → Who → Action → List Act
 performs v who (Get p) = gets who p (v.addresses.base (address_key p)).series
-performs v who (Ask l request) = tells who (told_at (answer_at v.now request (v.links.live l)))
+performs v who (Ask l request) = says_to who (link_given v who l request).says
 performs v who StopAll = stops who v.links
 performs v who (Wait delay) = []
 performs v who (OfTopic n ask) = says_to who (asked_of v who n ask).says

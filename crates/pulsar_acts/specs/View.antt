@@ -13,6 +13,7 @@ use Rattle.pulsar_session.specs.Link as session
 use Rattle.pulsar_session.specs.Link.{Setup, is_open}
 use Rattle.pulsar_session.specs.Series as rule
 use Rattle.pulsar_exchange.specs.Request.{closed_consumer}
+use Rattle.pulsar_messages.specs.Words.{Words}
 use Rattle.pulsar_calls.specs.declared.act.Act.{Act}
 use Rattle.pulsar_calls.specs.declared.act.Act.TheVariants.{Comes, Starts, Told, Does, Answers, Dials}
 use Rattle.pulsar_calls.specs.declared.act.Action.TheVariants.{OfTopic, OfConsumer, Get, Ask, Wait, Number, Hold, Shut, TakeNumber, StopAll}
@@ -37,11 +38,13 @@ use Rattle.pulsar_links.specs.declared.addresses.Series.{Series}
 use Rattle.pulsar_links.specs.declared.addresses.Series.TheVariants.{Nobody, Runs, Pauses, Serves}
 use Rattle.pulsar_plans.specs.declared.plan.Plan.{Plan}
 use Rattle.pulsar_links.specs.Alarms.{clear, rings, set}
+use Rattle.pulsar_links.specs.Asks as of_link
+use Rattle.pulsar_links.specs.Asks.{IsFed, comes_by, got_by, is_end, seat_by}
 use Rattle.pulsar_calls.specs.Content as content
 use Rattle.pulsar_calls.specs.Content.{Heard, Called, Opened, FailedToOpen, Bytes, Drain, Ticked, Poll, lacks_tickets, shares}
 use Rattle.pulsar_links.specs.Links.{Change, Remains, Becomes, IsOver, change_by}
 use Rattle.pulsar_plans.specs.Plan.{begins, told}
-use Rattle.pulsar_run.specs.Things.{row_after}
+use Rattle.pulsar_run.specs.Things.{row_after, row_by}
 use Rattle.pulsar_outgoing.specs.Storage.{limits_of}
 use Rattle.pulsar_calls.specs.declared.content.BuiltProducer.{BuiltProducer}
 use Rattle.pulsar_producer_table.specs.Asks.{Around, Given, around_in, given}
@@ -55,7 +58,7 @@ use Rattle.pulsar_consumer_table.specs.Consumers.{Arrives, ClientStops, CloseAsk
 use Rattle.pulsar_consumer.specs.Topic as reader
 use Rattle.pulsar_consumer.specs.Topic.{of_raw}
 use Rattle.pulsar_calls.specs.Who.{is_same, rank, ticket_of, turn_of}
-use Rattle.pulsar_links.specs.Seats.{Seat, Links, Base, nobody, Addresses, later, seat_fed, seat_of_fresh, arrival_at, closing, took_some, is_busy, answer_at, is_asked, seat_asked, got_at, may_retry, pause_with, base_turned, base_dialed, is_for, pause_put, url_at, room_at}
+use Rattle.pulsar_links.specs.Seats.{Seat, Links, Base, nobody, Addresses, later, seat_of_fresh, arrival_at, closing, is_busy, answer_at, is_asked, may_retry, pause_with, base_turned, base_dialed, is_for, pause_put, url_at, room_at}
 use Rattle.pulsar_machine.specs.Options.{Chosen, Options}
 use Rattle.pulsar_searches.specs.declared.transition.Transition.TheVariants.{Stays, Gives}
 use Rattle.pulsar_plans.specs.Transitions.{PlanTransition}
@@ -127,9 +130,13 @@ is_live v (Drain l most) = is_at is_open (v.links.live l)
 is_live v (Ticked now) = nat_le v.now now
 is_live v (Poll t) = is_some (v.consumers.rows t)
 
+-- bytes of a link are fed to it
+abbrev pub link_heard : (link : ℕ) → Heard → List of_link.Deed
+link_heard l (Bytes k piece) = if l == k then IsFed piece ∷ [] else []
+link_heard l _ = []
+
 abbrev pub live_begun : Heard → ℕ → Option Seat → Option Seat
-live_begun (Bytes k piece) l row = if l == k then option_map (seat_fed piece) row else row
-live_begun _ l row = row
+live_begun e l row = row_by seat_by (link_heard l e) row
 
 -- and a tick sets the clock
 abbrev pub now_begun : Heard → ℕ → ℕ
@@ -228,19 +235,36 @@ abbrev pub link_got : Addresses → Act → Option ℕ
 link_got known (Does who (Get p)) = if is_reachable p then serving (known.base (address_key p)).series else None
 link_got known _ = None
 
-abbrev pub live_after : Chosen → Addresses → (now started : ℕ) → Act → ℕ → Option Seat → Option Seat
-live_after o known now started (Comes (ToLink k x)) l row = if l == k then took_some x now row else row
-live_after o known now started (Does who (Get p)) l row = got_at (link_got known (Does who (Get p))) now l row
-live_after o known now started (Does who (Ask k request)) l row = if l == k then option_map (seat_asked who now request) row else row
-live_after o known now started (Dials p starter retries) l row = if l == started then Some (dialed o started now p) else row
-live_after o known now started _ l row = row
+-- what a plan asks of it gives
+abbrev pub link_given : View → Who → (link : ℕ) → Words → of_link.Given
+link_given v who l request = of_link.given (record { who = who; now = v.now }) request (v.links.live l)
+
+-- what an act does to the one of a number
+abbrev pub link_acts : View → (link : ℕ) → Act → List of_link.Deed
+link_acts v l (Comes (ToLink k x)) = if l == k then comes_by x v.now (v.links.live l) else []
+link_acts v l (Does who (Get p)) = got_by l (link_got v.addresses (Does who (Get p))) v.now
+link_acts v l (Does who (Ask k request)) = if l == k then (link_given v who k request).acts else []
+link_acts v l _ = []
+
+-- the one that an act makes, and whether it ends
+abbrev pub link_born : View → (link : ℕ) → Act → Option Seat
+link_born v l (Dials p starter retries) = if l == v.links.started then Some (dialed v.chosen v.links.started v.now p) else None
+link_born v l _ = None
+
+abbrev pub link_gone : View → (link : ℕ) → Act → Bool
+link_gone v l (Comes (ToLink k x)) = if l == k then is_end x v.now (v.links.live l) else false
+link_gone v l _ = false
+
+-- what becomes of it
+abbrev pub link_row : View → Act → (link : ℕ) → Option Seat → Option Seat
+link_row v a l row = row_after seat_by (link_born v l a) (link_gone v l a) (link_acts v l a) row
 
 abbrev pub started_after : Act → ℕ → ℕ
 started_after (Dials p starter retries) n = n + 1
 started_after _ n = n
 
-abbrev pub links_after : Chosen → Addresses → (now : ℕ) → Act → Links → Links
-links_after o known now a ls = record { started = started_after a ls.started; live = λ l. live_after o known now ls.started a l (ls.live l) }
+abbrev pub links_after : View → Act → Links
+links_after v a = record { started = started_after a v.links.started; live = λ l. link_row v a l (v.links.live l) }
 
 -- WHAT AN ACT TURNS: the address of its link, what becomes of the link, and the attempt that is to follow, where one does
 
@@ -581,7 +605,7 @@ after a v =
       now = v.now;
       stand = λ w. stand_after a w (v.stand w);
       calls = calls_after a v.calls;
-      links = links_after v.chosen v.addresses v.now a v.links;
+      links = links_after v a;
       addresses = addresses_after v a;
       alarms = alarms_after v a;
       consumers = consumers_after v a;

@@ -20,7 +20,7 @@ use Rattle.pulsar_links.specs.Links.{line_places}
 use Rattle.pulsar_acts.specs.Rules.{failed_on, stopped_with, waiters_of, stopped_one}
 use Rattle.pulsar_links.specs.LinkRules.{dropped, ended_on, failed_at, failed_over, lost, on_link, stopped_at}
 use Rattle.pulsar_producer_table.specs.Notices.{stopped_all, stopped_call}
-use Rattle.pulsar_acts.specs.View.{alarms_after, alarms_built, alarms_on, alarms_over, builds, calls_after, live_after, member_made, pause_after, pause_of, pause_on, pause_rung, producers_after, stand_after, topic_of, building_of}
+use Rattle.pulsar_acts.specs.View.{alarms_after, alarms_built, alarms_on, alarms_over, building_of, builds, calls_after, member_made, pause_after, pause_of, pause_on, pause_rung, producers_after, stand_after, topic_of}
 use Rattle.pulsar_links.specs.Seats.{Links, pause_put}
 use Rattle.pulsar_producer_table.specs.declared.table.Topic.{Topic}
 use Rattle.pulsar_outgoing.specs.Storage.{Item}
@@ -51,6 +51,9 @@ use Rattle.pulsar_calls.specs.declared.act.Arrival.TheVariants as arrivals
 use Rattle.pulsar_messages.specs.Words as words
 use Rattle.pulsar_run.specs.Things.{row_by, row_after}
 use Rattle.pulsar_laws.specs.ProducerLaws.{rung_by, topic_acts}
+use Rattle.pulsar_acts.proofs.Linking.{took_is}
+use Rattle.pulsar_laws.proofs.links.Rows.{after_holds as after_links, begun_holds as begun_links}
+use Rattle.pulsar_laws.proofs.Cases.{none_some}
 
 -- LISTS
 
@@ -67,25 +70,14 @@ same_either : {A : Type 0} (b : Bool) (x : A) → cond b x x ≡ x
 same_either true x = refl
 same_either false x = refl
 
-got_none : (k : Option ℕ) (now l : ℕ) → got_at k now l None ≡ None
-got_none None now l = refl
-got_none (Some k) now l = same_either (l == k) None
-
 -- only an attempt makes a link
-stays_dead : (v : View) (a : Act) (l : ℕ) → is_dial a ≡ false → live_after v.chosen v.addresses v.now v.links.started a l None ≡ None
-stays_dead v (Comes (ToLink k x)) l h = same_either (l == k) None
-stays_dead v (Does who (Get p)) l h = got_none (link_got v.addresses (Does who (Get p))) v.now l
-stays_dead v (Does who (Ask k request)) l h = same_either (l == k) None
-stays_dead v (Dials p starter n) l h = absurd cc
-stays_dead v _ l h = refl
-
-live_none : (e : Heard) (l : ℕ) → live_begun e l None ≡ None
-live_none (Bytes k piece) l = same_either (l == k) None
-live_none _ l = refl
+stays_dead : (v : View) (a : Act) (l : ℕ) → is_dial a ≡ false → v.links.live l ≡ None → (after a v).links.live l ≡ None
+stays_dead v a l n h =
+    after_links (λ row. row ≡ None) v l a (λ seat d. (let f : true ≡ false = sym (ap is_dial d.is_act) ∙ n in absurd cc)) (λ end. refl)
+    (λ d c seat at none. absurd (none_some (sym none))) h
 
 begun_dead : (e : Heard) (l : ℕ) (v : View) → v.links.live l ≡ None → (begun e v).links.live l ≡ None
-begun_dead e l v h =
-    elim (is_live v e) as (λ b. (cond b (begun_live e v) v).links.live l ≡ None) [ true ↦ ap (live_begun e l) h ∙ live_none e l | false ↦ h ]
+begun_dead e l v h = begun_links (λ row. row ≡ None) v l e (λ piece is seat at none. absurd (none_some (sym none))) h
 
 -- a link that was not started is none
 not_started : (o : Options) (log : List Entry) (l : ℕ) → (view o log).links.started ≤ l → (view o log).links.live l ≡ None
@@ -97,7 +89,7 @@ not_started o (Then (Dials p starter n) ∷ log) l h =
     let fewer : (view o log).links.started ≤ l = omega (arith, h) in
     rw other (not_started o log l fewer)
 not_started o (Then a ∷ log) l h =
-    let v = view o log in ap (live_after v.chosen v.addresses v.now v.links.started a l) (not_started o log l h) ∙ stays_dead v a l refl
+    stays_dead (view o log) a l refl (not_started o log l h)
 
 pub is_started : (o : Options) (log : List Entry) (l : ℕ) (seat : Seat) → (view o log).links.live l ≡ Some seat → nat_lt l (view o log).links.started ≡ true
 is_started o log l seat h = elim (cases_Bool (nat_lt l (view o log).links.started)) [
@@ -365,7 +357,7 @@ module _ (o : Options) (log : List Entry) (run : IsRun o log) (k : Over o log) w
       alarms_after v a ≡ [] → ((w : Who) → is_fine (stand_after a w (v.stand w)) ≡ true) →
       ((m : ℕ) → next_batch_at ((producers_after v a).topics m) ≡ None) →
       ((t : ℕ) → Gone ((consumers_after v a).rows t)) →
-      ((l : ℕ) → Comes (ToLink l (Ends Stops)) ≡ a → live_after v.chosen v.addresses v.now v.links.started a l (v.links.live l) ≡ None) → Over o (Then a ∷ log)
+      ((l : ℕ) → Comes (ToLink l (Ends Stops)) ≡ a → (after a v).links.live l ≡ None) → Over o (Then a ∷ log)
   goes_over a fits no_dial ends once join caused pauses alarms fine bare gone own =
       let late = late_more a ends in
       let P : Notice → Type 0 = IsLate v.stand in
@@ -385,7 +377,7 @@ module _ (o : Options) (log : List Entry) (run : IsRun o log) (k : Over o log) w
         bare = bare;
         gone = gone;
         links = λ l. elim (k.links l) [
-          | inl e ↦ inl (ap (live_after v.chosen v.addresses v.now v.links.started a l) e ∙ stays_dead v a l no_dial)
+          | inl e ↦ inl (stays_dead v a l no_dial e)
           | inr i ↦ elim (left_of_now a l fits i) [
             | inl e ↦ inl (own l e)
             | inr j ↦ inr (in_right (Comes (ToLink l (Ends Stops))) (at_once v a) (rest g).now j)
@@ -438,8 +430,11 @@ module _ (o : Options) (log : List Entry) (run : IsRun o log) (k : Over o log) w
       alarms_after_end l alarms = alarms_on v.chosen v.now (option_map (turned_by v.chosen v.addresses v.now l (Ends Stops)) (v.links.live l)) alarms
 
       own : (j : ℕ) → Comes (ToLink j (Ends Stops)) ≡ Comes (ToLink l (Ends Stops)) →
-          cond (j == l) (took_some (Ends Stops) v.now (v.links.live j)) (v.links.live j) ≡ None
-      own j e = let same : j ≡ l = cc in let d : (j == l) ≡ true = rw same (grind (arith, nat_tests)) in rw d (took_stops v.now (v.links.live j))
+          (after (Comes (ToLink l (Ends Stops))) v).links.live j ≡ None
+      own j e =
+          let same : j ≡ l = cc in
+          let d : (j == l) ≡ true = rw same (grind (arith, nat_tests)) in
+          took_is v l (Ends Stops) j ∙ (rw d (took_stops v.now (v.links.live j)))
   last_on (Told n) fits is =
       goes_over (Told n) fits refl (told_ends n)
       (last_some (Keeps o log) (told_stand n) n.who (v.stand n.who) n.outcome (λ t p. told_ends n (Call t) p.waits) (own_stand n) is (k.fine n.who)
@@ -536,7 +531,7 @@ module _ (o : Options) (log : List Entry) (run : IsRun o log) (k : Over o log) w
       let dead = all_dead none l in
       goes_over (Comes (ToLink l x)) fits refl (λ w h. h) (dead_once l dead x) tt (dead_causes l dead x) (dead_pause l dead x) (dead_alarms l dead x) k.fine
       k.bare (dead_gone l dead x)
-      (λ j e. ap (live_after v.chosen v.addresses v.now v.links.started (Comes (ToLink l x)) j) (all_dead none j) ∙ stays_dead v (Comes (ToLink l x)) j refl)
+      (λ j e. stays_dead v (Comes (ToLink l x)) j refl (all_dead none j))
   part_on (Rings a) fits none =
       let e = no_alarm a in
       goes_over (Comes (Rings a)) fits refl (λ w h. h) (rw e tt) tt (rw e tt) (λ l. rung_pause (rings v.now a v.alarms) a l) (rw e k.alarms) k.fine

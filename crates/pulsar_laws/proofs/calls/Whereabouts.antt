@@ -9,8 +9,8 @@ use Rattle.std.specs.Ordering.{match_ordering}
 use Rattle.std.specs.declared.cmp.Ordering.{Ordering}
 use Rattle.std.specs.declared.cmp.Ordering.TheVariants.{Less, Equal, Greater}
 use Rattle.pulsar_laws.proofs.ActWords.{Act, Action, Alarm, Answers, Arrival, Ask, Batch, Bytes, CheckIdle, Comes, Dials, Does, Drains, Ends, FindConsumer, Flush, Get, Heard, is_same, KeepAlive, LinkAct, Makes, OfTopic, Opens, Pings, Reads, Retry, Rings, Shut, StopAll, Store, ToLink, turn_of, Wait, Wake, Who, OfConsumer}
-use Rattle.pulsar_laws.proofs.RunWords.{after, begun, begun_live, Chosen, consumers_after, Each, In, is_live, link_got, live_begun, setup_of, turned, Turned, View}
-use Rattle.pulsar_laws.proofs.LinkWords.{Addresses, Base, Becomes, Change, Fault, got_at, is_body, IsOver, Nobody, Pause, Pauses, Remains, Reply, rings, Runs, Seat, seat_asked, seat_fed, seat_got, Series, Serves, took_end, took_some, url_at}
+use Rattle.pulsar_laws.proofs.RunWords.{after, begun, begun_live, Chosen, consumers_after, Each, In, is_live, link_got, live_begun, setup_of, turned, Turned, View, begun_same}
+use Rattle.pulsar_laws.proofs.LinkWords.{Addresses, Base, Becomes, Change, Fault, got_at, is_body, IsOver, Nobody, Pause, Pauses, Remains, Reply, rings, Runs, Seat, seat_asked, seat_fed, seat_got, Series, Serves, took_end, took_some, url_at, Words}
 use Rattle.pulsar_producer.specs.Topic as topic
 use Rattle.pulsar_producer.specs.Topic.{Act as TopicAct}
 use Rattle.pulsar_producer_table.specs.declared.table.Topic.{Topic}
@@ -18,7 +18,7 @@ use Rattle.pulsar_links.specs.Alarms.{alarm_cmp, clear, is_same_alarm, moment_of
 use Rattle.pulsar_laws.proofs.Lists.{in_append}
 use Rattle.pulsar_laws.proofs.Cases.{cond_so, none_some, some_is}
 use Rattle.pulsar_producer_table.specs.Producers.{is_bare, numbers_at, timeout_at, topic_after}
-use Rattle.pulsar_acts.specs.View.{alarms_after, alarms_on, alarms_on_topic, alarms_over, alarms_rung, alarms_turned, alarms_waiting, base_after, base_on, clear_all, live_after, waits_for, waits_from, waits_on, member_made}
+use Rattle.pulsar_acts.specs.View.{alarms_after, alarms_on, alarms_on_topic, alarms_over, alarms_rung, alarms_turned, alarms_waiting, base_after, base_on, clear_all, waits_for, waits_from, waits_on, member_made}
 use Rattle.pulsar_links.specs.Seats.{asker_at, base_turned, nobody}
 use Rattle.pulsar_links.proofs.Ringing.{is_this}
 use Rattle.pulsar_laws.proofs.calls.Same.{same_self, same_who}
@@ -34,6 +34,8 @@ use Rattle.pulsar_consumer_table.specs.Consumers.{Arrives, ClientStops, CloseAsk
 use Rattle.pulsar_consumer_table.specs.declared.row.LinkAnswer.{LinkAnswer}
 use Rattle.pulsar_consumer_table.specs.declared.row.LinkAnswer.TheVariants.{Found, Gone, Later}
 use Rattle.pulsar_laws.proofs.consumers.Members.{CameFrom, after_holds}
+use Rattle.pulsar_links.specs.Asks as of_link
+use Rattle.pulsar_laws.proofs.links.Rows as rows
 
 -- what brings one somewhere
 abbrev pub goes_nowhere : Action → Bool
@@ -115,26 +117,6 @@ module _ (me : Who) where
     left_free true r w h e = absurd (none_some e)
     left_free false r w h e = h e
 
-    end_free : (cause : Option Fault) (seat : Seat) → Asker (Some seat) → Asker (took_end cause seat)
-    end_free None seat h = h
-    end_free (Some cause) seat h = tt
-
-    took_free : (x : LinkAct) (now : ℕ) (row : Option Seat) → Asker row → Asker (took_some x now row)
-    took_free x now None h = tt
-    took_free Opens now (Some seat) h = h
-    took_free Reads now (Some seat) h = λ place e. left_free _ (seat.askers place) me (h place) e
-    took_free (Drains most) now (Some seat) h = h
-    took_free Pings now (Some seat) h = h
-    took_free (Ends end) now (Some seat) h = end_free _ seat h
-
-    pub got_free : (k : Option ℕ) (now l : ℕ) (row : Option Seat) → Asker row → Asker (got_at k now l row)
-    got_free None now l row h = h
-    got_free (Some k) now l row h = cond_so (Asker) (l == k) (option_map (seat_got now) row) row (by row h) h
-      where
-        by : (r : Option Seat) → Asker r → Asker (option_map (seat_got now) r)
-        by None h = tt
-        by (Some seat) h = h
-
     at_free : (is : Bool) (who : Who) (place : Option ℕ) (askers : ℕ → Option Who) → (me ≡ who → ⊥) → ((p : ℕ) → askers p ≡ Some me → P p) →
         (p : ℕ) → asker_at is who place askers p ≡ Some me → P p
     at_free is who None askers other h p e = h p e
@@ -144,26 +126,19 @@ module _ (me : Who) where
       | inr q ↦ h p (rw q at e)
     ]
 
-    live_absent : (o : Chosen) (known : Addresses) (now n : ℕ) (a : Act) (l : ℕ) (row : Option Seat) → ApartBy a → Asker row →
-        Asker (live_after o known now n a l row)
-    live_absent o known now n (Comes (ToLink k x)) l row idle h = cond_so (Asker) (l == k) (took_some x now row) row (took_free x now row h) h
-    live_absent o known now n (Does who (Get p)) l row idle h = got_free (link_got known (Does who (Get p))) now l row h
-    live_absent o known now n (Does who (Ask k request)) l row idle h =
-        cond_so (Asker) (l == k) (option_map (seat_asked who now request) row) row (by row h) h
-      where
-        by : (r : Option Seat) → Asker r → Asker (option_map (seat_asked who now request) r)
-        by None h = tt
-        by (Some seat) h = at_free _ who _ seat.askers (other_apart who (Ask k request) idle refl) h
-    live_absent o known now n (Dials p starter retries) l row idle h = cond_so (Asker) (l == n) _ row (λ place e. absurd (none_some e)) h
-    live_absent o known now n _ l row idle h = h
+    deed_free : (v : View) (l : ℕ) (a : Act) → ((request : Words) → a ≡ Does me (Ask l request) → ⊥) → (d : of_link.Deed) → rows.CameFrom v l a d →
+        (seat : Seat) → Asker (Some seat) → Asker (Some (of_link.seat_by d seat))
+    deed_free v l a other (of_link.IsRead now) c seat h = λ place e. left_free _ (seat.askers place) me (h place) e
+    deed_free v l a other (of_link.IsAsked who now request) c seat h =
+        at_free _ who _ seat.askers (λ e. other request (c.0 ∙ ap (λ w. Does w (Ask l request)) (sym e))) h
+    deed_free v l a other _ c seat h = h
 
-    begun_free : (e : Heard) (l : ℕ) (row : Option Seat) → Asker row → Asker (live_begun e l row)
-    begun_free (Bytes k piece) l row h = cond_so (Asker) (l == k) (option_map (seat_fed piece) row) row (by row h) h
-      where
-        by : (r : Option Seat) → Asker r → Asker (option_map (seat_fed piece) r)
-        by None h = tt
-        by (Some seat) h = h
-    begun_free _ l row h = h
+    pub live_absent : (v : View) (a : Act) (l : ℕ) → ((request : Words) → a ≡ Does me (Ask l request) → ⊥) → Asker (v.links.live l) →
+        Asker ((after a v).links.live l)
+    live_absent v a l other h =
+        rows.after_holds Asker v l a
+        (λ seat d place e. absurd (none_some (subst (λ (t : Seat). t.askers place ≡ Some me) (sym d.is_it) e))) (λ end. tt)
+        (λ d c seat at k. deed_free v l a other d c seat k) h
 
   -- IT WAITS FOR A MOMENT only so
   module _ (A : Type 0) where
@@ -342,12 +317,13 @@ module _ (me : Who) where
       Somewhere Q B A (after a v)
   then_there Q B A v a apart k = record {
     base = λ key. base_absent (B key) v a key (v.addresses.base key) apart (k.base key);
-    asker = λ l. live_absent (Q l) v.chosen v.addresses v.now v.links.started a l (v.links.live l) apart (k.asker l);
+    asker = λ l. live_absent (Q l) v a l (λ request is. other_apart me (Ask l request) (subst ApartBy is apart) refl refl) (k.asker l);
     alarm = alarms_absent A v a apart k.alarm;
   }
 
   pub begun_there : (Q : ℕ → ℕ → Type 0) (B : List ℕ → ℕ) (A : Type 0) (v : View) (e : Heard) → Somewhere Q B A v → Somewhere Q B A (begun e v)
-  begun_there Q B A v e k = elim (is_live v e) as (λ b. Somewhere Q B A (cond b (begun_live e v) v)) [
-    | true ↦ record { base = k.base; asker = λ l. begun_free (Q l) e l (v.links.live l) (k.asker l); alarm = k.alarm }
-    | false ↦ k
-  ]
+  begun_there Q B A v e k = record {
+    base = λ key. subst (λ (b : Base). Within (B key) b.waiting) (sym (begun_same (λ w. w.addresses.base key) e v refl)) (k.base key);
+    asker = λ l. rows.begun_holds (Asker (Q l)) v l e (λ piece is seat at h. h) (k.asker l);
+    alarm = subst (Each (NotWake A)) (sym (begun_same (λ w. w.alarms) e v refl)) k.alarm;
+  }

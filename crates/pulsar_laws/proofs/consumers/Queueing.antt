@@ -21,9 +21,10 @@ use Rattle.pulsar_laws.specs.ConsumerLaws.{Flow, FlowsAreQueued, flows_after, fl
 use Rattle.pulsar_laws.proofs.links.Claiming.{answer_adds, answer_grows, drains_grows, end_of_line, feeds_same, opens_grows, taken_grows}
 use Rattle.pulsar_laws.proofs.consumers.Lone.{begun_rows}
 use Rattle.pulsar_laws.proofs.consumers.Placed.{IsPlaced, is_placed}
-use Rattle.pulsar_laws.proofs.links.Ready.{IsAt, Keeps, in_line, more_at}
+use Rattle.pulsar_laws.proofs.links.Ready.{IsAt, Keeps, in_seat, more_at}
 use Rattle.pulsar_laws.proofs.consumers.Riding.{IsFresh, LinkFrom, link_from, none_from, rides_on}
 use Rattle.pulsar_laws.proofs.calls.Stopping.{is_started}
+use Rattle.pulsar_acts.proofs.Linking.{asked_is}
 
 -- THE END OF THE LINE moves on
 
@@ -210,13 +211,15 @@ module _ (once : EndsOnce) (o : Options) (log : List Entry) (t : ℕ) (was : Flo
           IsAt (AreBelow (record { place = place_of (answer_at v.now (words.SendFlow m' p) (v.links.live l)); permits = p } ∷ fs))
           ((view o (Then (Does (Consumer n u) (Ask l (words.SendFlow m' p))) ∷ log)).links.live l)
       new l m' p n u seat live answer h =
-          let r : IsInLine seat.seen = subst (IsAt IsInLine) live (in_line o log l) in
+          let r : IsInLine seat.seen = in_seat o log l seat live in
           let old : AreBelow fs seat.seen = subst (IsAt (AreBelow fs)) live h in
-          subst (λ row. IsAt (AreBelow (record { place = place_of (answer_at v.now (words.SendFlow m' p) row); permits = p } ∷ fs))
+          subst (IsAt (AreBelow (record { place = place_of (answer_at v.now (words.SendFlow m' p) (v.links.live l)); permits = p } ∷ fs)))
+          (sym (asked_is v (Consumer n u) l (words.SendFlow m' p) l))
+          (subst (λ row. IsAt (AreBelow (record { place = place_of (answer_at v.now (words.SendFlow m' p) row); permits = p } ∷ fs))
           (cond (l == l) (option_map (seat_asked (Consumer n u) v.now (words.SendFlow m' p)) row) row)) (sym live)
           (subst (λ b. IsAt (AreBelow (record { place = place_of (answer_at v.now (words.SendFlow m' p) (Some seat)); permits = p } ∷ fs))
           (cond b (Some (seat_asked (Consumer n u) v.now (words.SendFlow m' p) seat)) (Some seat))) (sym (eq-eqb l l refl))
-          (asked_below v.now m' p (Consumer n u) seat fs r answer old))
+          (asked_below v.now m' p (Consumer n u) seat fs r answer old)))
   kept_below (Does who (OfConsumer (Revive l))) run m k e on = by (t == ticket_of who && is_some (v.links.live l))
     where
       by : (b : Bool) → IsAt (AreBelow (cond b [] fs)) ((view o (Then (Does who (OfConsumer (Revive l))) ∷ log)).links.live k)

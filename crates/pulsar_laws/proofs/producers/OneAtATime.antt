@@ -32,7 +32,7 @@ use Rattle.pulsar_laws.proofs.calls.Stopping.{never_asks}
 use Rattle.pulsar_laws.specs.Laws.{stopped}
 use Rattle.pulsar_laws.proofs.Cases.{none_some, some_is}
 use Rattle.pulsar_laws.proofs.calls.Same.{same_self, same_who}
-use Rattle.pulsar_laws.proofs.calls.Whereabouts.{ApartBy, Asker, NotWake, begun_there, goes_nowhere, got_free, moment_none, not_among, times}
+use Rattle.pulsar_laws.proofs.calls.Whereabouts.{ApartBy, Asker, NotWake, begun_there, goes_nowhere, live_absent, moment_none, not_among, times}
 use Rattle.pulsar_laws.proofs.links.OneEach.{same_key}
 use Rattle.pulsar_laws.proofs.plans.AtOnce.{AtOnce, dials, nothing, once_each, performs_once, says, stops_all}
 use Rattle.pulsar_laws.proofs.plans.Batchers.{batcher_does, batcher_stands}
@@ -52,6 +52,7 @@ use Rattle.pulsar_laws.proofs.producers.Topics.{all_after, row_as}
 use Rattle.pulsar_laws.proofs.producers.TurnActs.{equal_self}
 use Rattle.pulsar_laws.proofs.producers.TurnRun.{own_told_none}
 use Rattle.pulsar_laws.proofs.producers.Turns.{sum_append}
+use Rattle.pulsar_acts.proofs.Linking.{asked_is}
 
 module _ (n : ℕ) where
   -- WHERE IT IS
@@ -456,7 +457,7 @@ module _ (n : ℕ) where
         in_got s links base moment = record {
           place = record {
             base = base;
-            asker = λ l. got_free (me n) (at_place s l) (link_got v.addresses gets) v.now l (v.links.live l)
+            asker = λ l. live_absent (me n) (at_place s l) v gets l (λ request is. absurd cc)
                 (asker_map n (λ q. ⊥) (at_place s l) (v.links.live l) (λ q h. absurd h) (at.place.asker l));
             alarm = subst (λ A. Each (NotWake (me n) A) v.alarms) (sym moment) at.place.alarm;
           };
@@ -543,7 +544,7 @@ module _ (n : ℕ) where
 
         asks_at : (s : Spot) → Asker (me n) (at_place s l) (option_map (seat_asked (me n) v.now request) (v.links.live l)) → (i : ℕ) →
             Asker (me n) (at_place s i) ((view o asked).links.live i)
-        asks_at s here i = by (i == l) refl
+        asks_at s here i = subst (Asker (me n) (at_place s i)) (sym (asked_is v (me n) l request i)) (by (i == l) refl)
           where
             by : (b : Bool) → (i == l) ≡ b →
                 Asker (me n) (at_place s i) (cond b (option_map (seat_asked (me n) v.now request) (v.links.live i)) (v.links.live i))

@@ -49,6 +49,7 @@ use Rattle.pulsar_laws.proofs.producers.Owed.{all_owed, asked_owed, brings, coun
 use Rattle.pulsar_laws.proofs.producers.Topics.{CameFrom, acts_each, all_after, row_as}
 use Rattle.pulsar_laws.proofs.producers.TurnActs.{equal_self}
 use Rattle.pulsar_laws.proofs.producers.Turns.{sum_append}
+use Rattle.pulsar_acts.proofs.Linking.{took_is}
 
 -- A SPOT: for a reply, for the link of an address, for a moment, or for a batch where none is under way
 
@@ -414,7 +415,7 @@ module _ (o : Options) (n : ℕ) (log : List Entry) where
               record {
                 place = record {
                   base = there.place.base;
-                  asker = λ i. at i e y.1 (i == l) refl;
+                  asker = λ i. subst (NoAsker n) (sym (took_is v l x i)) (at i e y.1 (i == l) refl);
                   alarm = there.place.alarm;
                 };
                 row = there.row;

@@ -66,7 +66,7 @@ draws_same : (b : Bool) (v w : Seen) → w.waiting ≡ v.waiting → (cond b v w
 draws_same true v w e = refl
 draws_same false v w e = e
 
-Rises : List Taker → Type 0
+abbrev Rises : List Taker → Type 0
 Rises ts = Ascend (tickets ts)
 
 rises_after : (act : Act) (v : Seen) → Rises v.waiting → Rises (after act v).waiting

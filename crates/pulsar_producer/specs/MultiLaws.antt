@@ -127,8 +127,8 @@ SendKeepsItsTurnWhileItBuilds = (w : Ways) (o : ProducerOrder) (m : ProducerMess
 
 -- Where that fails, this send fails so. It joins nothing, so the next send to the topic builds again.
 abbrev pub FailedBuildFailsItsSend : Type 0
-FailedBuildFailsItsSend = (w : Ways) (o : ProducerOrder) (m : ProducerMessageValues) (b : BuildingProducer) (n : News) (f : Failure) → build_told w o b n ≡ Gives (Err f)
-    → multi_send_told w (send.Building o m b) (Told n) ≡ Stays (send.Passing (Err f)) (Asks PassTurn)
+FailedBuildFailsItsSend = (w : Ways) (o : ProducerOrder) (m : ProducerMessageValues) (b : BuildingProducer) (n : News) (f : Failure)
+    → build_told w o b n ≡ Gives (Err f) → multi_send_told w (send.Building o m b) (Told n) ≡ Stays (send.Passing (Err f)) (Asks PassTurn)
 
 -- And so of a close.
 abbrev pub ClosePassesAtItsEnd : Type 0

@@ -257,7 +257,8 @@ pub data Act : Type 0 where
 
 -- WHAT IS SEEN OF IT
 
--- Its key, which no other consumer ever has, its topic, its number, and how it is made. A raw one grants no permits, and is not subscribed again.
+-- Its key, which no other one that makes copies ever has, its topic, its number, and how it is made. A raw one grants no permits, and is not
+-- subscribed again.
 pub record Setup : Type 0 where
   pub key : ℕ
   pub topic : List ℕ
@@ -265,11 +266,11 @@ pub record Setup : Type 0 where
   pub config : ConfigValues
   pub is_raw : Bool
 
--- the consumer that a raw call makes
-abbrev pub of_raw : (key : ℕ) → Subscribed → Setup
-of_raw key s =
+-- the consumer that a raw call makes: it has no dead letters, so that nothing names its key
+abbrev pub of_raw : Subscribed → Setup
+of_raw s =
     record {
-      key = key;
+      key = 0;
       topic = s.topic;
       number = s.consumer;
       config =

@@ -108,9 +108,9 @@ impl TopicConsumer {
         }
     }
 
-    /// The consumer that a raw call makes.
-    pub fn of_raw(alloc: Global, key: u64, made: Subscribed) -> Result<TopicConsumer, NoMemory>
-        ensures { IfOk result (λ t. t ≡ fresh (of_raw key made)) }
+    /// The consumer that a raw call makes. It has no dead letters, so that nothing names its key.
+    pub fn of_raw(alloc: Global, made: Subscribed) -> Result<TopicConsumer, NoMemory>
+        ensures { IfOk result (λ t. t ≡ fresh (of_raw made)) }
     {
         let made = made.into_inner();
         let config = ConsumerConfig {
@@ -125,10 +125,10 @@ impl TopicConsumer {
         };
         let config = Settings::new(alloc, config)?;
         let topic = Text::new(made.topic);
-        Ok(TopicConsumer::new(alloc, key, topic, made.consumer, config, true))
+        Ok(TopicConsumer::new(alloc, 0, topic, made.consumer, config, true))
     }
 
-    /// Its key, which no other consumer ever has.
+    /// Its key, which no other one that makes copies ever has.
     pub fn key(&self) -> u64
         ensures { result ≡ self.now.key }
     {

@@ -189,7 +189,7 @@ fn raw(alloc: Global) -> Result<Box<TopicConsumer>, Fail> {
         name: None,
         options: ConsumerOptions::new(alloc),
     };
-    let consumer = TopicConsumer::of_raw(alloc, 0, Subscribed::new(alloc, made)?)?;
+    let consumer = TopicConsumer::of_raw(alloc, Subscribed::new(alloc, made)?)?;
     let mut consumer = Box::new(alloc, consumer)?;
     consumer.subscribe(0, url(alloc)?)?;
     Ok(consumer)

@@ -51,12 +51,13 @@ pub put_more : (xs : List (Values key_value)) (x : Values key_value) (ps : List 
 put_more [] (name ▸ value ▸ end) ps = refl
 put_more ((name ▸ value ▸ end) ∷ xs) x ps = put_more xs x (with_property name value ps)
 
-pub put_next : (yielded : List KeyValue) (x : KeyValue) (es : List (String Global × String Global)) (old : List Property) →
+pub put_next : (yielded : List KeyValue) (x : KeyValue) (more es : List (String Global × String Global)) (old : List Property) →
     map property es ≡ with_properties (map key_value_values yielded) old →
-    map property (insert_entry by_text es x.key x.value) ≡ with_properties (map key_value_values (yielded ++ x ∷ [])) old
+    map property more ≡ with_property (string_bytes x.key) (string_bytes x.value) (map property es) →
+    map property more ≡ with_properties (map key_value_values (yielded ++ x ∷ [])) old
 unfolding key_value_values
-put_next yielded x es old so =
-    property_inserted x.key x.value es
+put_next yielded x more es old so one =
+    one
     ∙ ap (λ ps. with_property (string_bytes x.key) (string_bytes x.value) ps) so
     ∙ sym (put_more (map key_value_values yielded) (key_value_values x) old)
     ∙ ap (λ xs. with_properties xs old) (sym (map-append key_value_values yielded (x ∷ [])))

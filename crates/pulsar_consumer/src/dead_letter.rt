@@ -12,7 +12,7 @@ use pulsar_frame::payload::Payload;
 use pulsar_incoming::config::DeadLetterPolicy;
 use pulsar_messages::Message;
 use pulsar_wire::commands::ids::MessageIdData;
-use pulsar_wire::commands::metadata::{KeyValue, MessageMetadata};
+use pulsar_wire::commands::metadata::KeyValue;
 use pulsar_wire::error::NoMemory;
 use std::alloc::Global;
 use std::collections::BTreeMap;
@@ -33,7 +33,7 @@ pub fn is_dead(policy: &Option<DeadLetterPolicy>, redeliveries: Option<u32>) -> 
     }
 }
 
-/// The copy of an entry. Its bytes are moved, and not copied.
+/// The copy of an entry. Its payload is moved, and not copied.
 #[tactic(auto, unfolding(pulsar_wire::specs::Views::message_metadata_values))]
 pub fn copy_of(
     alloc: Global,
@@ -43,22 +43,20 @@ pub fn copy_of(
 ) -> Result<Message, NoMemory>
     ensures { IfOk result (λ m. message_content m ≡ meaning.copy_of topic.now (message_id_values id.now, payload_values payload)) }
 {
-    let Payload { metadata, bytes } = payload;
-    let MessageMetadata {
-        properties,
-        partition_key,
-        ordering_key,
-        event_time,
-        ..
-    } = metadata;
-    let properties = copied_properties(alloc, topic, id, properties)?;
+    let Payload {
+        mut metadata,
+        bytes,
+    } = payload;
+    let properties = copied_properties(alloc, topic, id, &metadata.properties)?;
+    let partition_key = metadata.partition_key.take();
+    let ordering_key = metadata.ordering_key.take();
     Ok(Message {
         payload: bytes,
         properties,
         partition_key,
         ordering_key,
         replicate_to: Vec::new(alloc),
-        event_time,
+        event_time: metadata.event_time,
         schema_version: None,
         deliver_at_time: None,
     })
@@ -69,10 +67,10 @@ fn copied_properties(
     alloc: Global,
     topic: &str,
     id: &MessageIdData,
-    given: Vec<KeyValue>,
+    given: &[KeyValue],
 ) -> Result<BTreeMap<String, String>, NoMemory>
     ensures { IfOk result (λ ps. map property ps.entries
-        ≡ meaning.copied_properties topic.now (message_id_values id.now) (map key_value_values given.items)) }
+        ≡ meaning.copied_properties topic.now (message_id_values id.now) (map key_value_values given.now)) }
 {
     let mut properties = BTreeMap::new(alloc);
     put_all(&mut properties, given)?;
@@ -82,13 +80,25 @@ fn copied_properties(
     Ok(properties)
 }
 
-fn put_all(properties: &mut BTreeMap<String, String>, given: Vec<KeyValue>) -> Result<(), NoMemory>
+#[tactic(auto, using(crate::proofs::Copying::put_next))]
+fn put_all(properties: &mut BTreeMap<String, String>, given: &[KeyValue]) -> Result<(), NoMemory>
     ensures { OnOk result (map property properties.new.entries
-        ≡ meaning.with_properties (map key_value_values given.items) (map property properties.old.entries)) }
+        ≡ meaning.with_properties (map key_value_values given.now) (map property properties.old.entries)) }
 {
-    for KeyValue { key, value } in given {
-        properties.insert(key, value)?;
+    for pair in given {
+        put(properties, pair)?;
     }
+    Ok(())
+}
+
+#[tactic(auto, using(crate::proofs::Copying::property_inserted))]
+fn put(properties: &mut BTreeMap<String, String>, pair: &KeyValue) -> Result<(), NoMemory>
+    ensures { OnOk result (map property properties.new.entries
+        ≡ meaning.with_property (string_bytes pair.now.key) (string_bytes pair.now.value) (map property properties.old.entries)) }
+{
+    let key = pair.key.clone()?;
+    let value = pair.value.clone()?;
+    properties.insert(key, value)?;
     Ok(())
 }
 

@@ -16,6 +16,7 @@ use crate::frame_item::FrameItem;
 use crate::letter::LetterCopy;
 use pulsar_addresses::content::{Refusal, Text};
 use pulsar_exchange::content::Subscribed;
+use pulsar_incoming::config::ConsumerConfig;
 use pulsar_incoming::polled::{Ending, Polled};
 use pulsar_incoming::settings::Settings;
 use pulsar_searches::making::Command;

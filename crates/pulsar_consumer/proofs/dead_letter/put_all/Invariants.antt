@@ -4,5 +4,5 @@ use Rattle.pulsar_messages.specs.Content.{property}
 use Rattle.pulsar_consumer.specs.DeadLetters.{with_properties}
 use Rattle.pulsar_consumer.proofs.dead_letter.put_all.Given as goal
 
-abbrev pub invariant-loop-key : goal.invariant-loop-key
-invariant-loop-key l = map property l.properties.entries ≡ with_properties (map key_value_values l.yielded) (map property l.fn.properties.entries)
+abbrev pub invariant-loop-pair : goal.invariant-loop-pair
+invariant-loop-pair l = map property l.properties.entries ≡ with_properties (map key_value_values l.yielded) (map property l.fn.properties.entries)

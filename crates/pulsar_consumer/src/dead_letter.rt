@@ -16,6 +16,7 @@ use pulsar_wire::commands::metadata::KeyValue;
 use pulsar_wire::error::NoMemory;
 use std::alloc::Global;
 use std::collections::BTreeMap;
+use std::mem::replace;
 
 /// The topic from which a copy comes.
 const REAL_TOPIC: &str = "REAL_TOPIC";
@@ -47,7 +48,8 @@ pub fn copy_of(
         mut metadata,
         bytes,
     } = payload;
-    let properties = copied_properties(alloc, topic, id, &metadata.properties)?;
+    let given = replace(&mut metadata.properties, Vec::new(alloc));
+    let properties = copied_properties(alloc, topic, id, given)?;
     let partition_key = metadata.partition_key.take();
     let ordering_key = metadata.ordering_key.take();
     Ok(Message {
@@ -67,10 +69,10 @@ fn copied_properties(
     alloc: Global,
     topic: &str,
     id: &MessageIdData,
-    given: &[KeyValue],
+    given: Vec<KeyValue>,
 ) -> Result<BTreeMap<String, String>, NoMemory>
     ensures { IfOk result (λ ps. map property ps.entries
-        ≡ meaning.copied_properties topic.now (message_id_values id.now) (map key_value_values given.now)) }
+        ≡ meaning.copied_properties topic.now (message_id_values id.now) (map key_value_values given.items)) }
 {
     let mut properties = BTreeMap::new(alloc);
     put_all(&mut properties, given)?;
@@ -81,12 +83,12 @@ fn copied_properties(
 }
 
 #[tactic(auto, using(crate::proofs::Copying::put_next))]
-fn put_all(properties: &mut BTreeMap<String, String>, given: &[KeyValue]) -> Result<(), NoMemory>
+fn put_all(properties: &mut BTreeMap<String, String>, given: Vec<KeyValue>) -> Result<(), NoMemory>
     ensures { OnOk result (map property properties.new.entries
-        ≡ meaning.with_properties (map key_value_values given.now) (map property properties.old.entries)) }
+        ≡ meaning.with_properties (map key_value_values given.items) (map property properties.old.entries)) }
 {
     for pair in given {
-        put(properties, pair)?;
+        put(properties, &pair)?;
     }
     Ok(())
 }

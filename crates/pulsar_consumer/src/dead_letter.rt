@@ -40,25 +40,21 @@ pub fn copy_of(
     alloc: Global,
     topic: &str,
     id: &MessageIdData,
-    payload: Payload,
+    mut payload: Payload,
 ) -> Result<Message, NoMemory>
     ensures { IfOk result (λ m. message_content m ≡ meaning.copy_of topic.now (message_id_values id.now, payload_values payload)) }
 {
-    let Payload {
-        mut metadata,
-        bytes,
-    } = payload;
-    let given = replace(&mut metadata.properties, Vec::new(alloc));
+    let given = replace(&mut payload.metadata.properties, Vec::new(alloc));
     let properties = copied_properties(alloc, topic, id, given)?;
-    let partition_key = metadata.partition_key.take();
-    let ordering_key = metadata.ordering_key.take();
+    let partition_key = payload.metadata.partition_key.take();
+    let ordering_key = payload.metadata.ordering_key.take();
     Ok(Message {
-        payload: bytes,
+        payload: replace(&mut payload.bytes, Vec::new(alloc)),
         properties,
         partition_key,
         ordering_key,
         replicate_to: Vec::new(alloc),
-        event_time: metadata.event_time,
+        event_time: payload.metadata.event_time,
         schema_version: None,
         deliver_at_time: None,
     })

@@ -1,5 +1,5 @@
 -- What plans ask of topic producers and consumers: what is left to do, and what is seen of them afterwards.
-use Rattle.std.proofs.Common.{◌≡◌, ◌∙◌, ap, sym, ℕ, Bool, false, cond, List, [], ◌++◌, refl, Option, Some, None}
+use Rattle.std.proofs.Common.{◌≡◌, ◌∙◌, ap, sym, ℕ, Bool, false, cond, List, [], ◌++◌, refl, Option, Some}
 use Rattle.std.proofs.lemmas.List.{append-nil}
 use Rattle.pulsar_run.specs.Things.{row_after}
 use Rattle.pulsar_producer.specs.Topic as topic

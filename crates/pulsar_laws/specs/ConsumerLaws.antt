@@ -12,7 +12,6 @@ use Rattle.pulsar_session.specs.declared.states.Asked.{Asked as Placed}
 use Rattle.pulsar_session.specs.declared.states.Asked.TheVariants as placed
 use Rattle.pulsar_frame.specs.Items.{Item, Given, Faulty}
 use Rattle.pulsar_exchange.specs.Messages.{Reply, is_body}
-use Rattle.pulsar_exchange.specs.Request.{closed_consumer}
 use Rattle.pulsar_consumer.specs.Frames.{frame_in}
 use Rattle.pulsar_consumer.specs.Laws.{IsFinished, arrivals, asked_since, begun, items_of, weighed_before, weights}
 use Rattle.pulsar_consumer.specs.Topic as reader
@@ -21,14 +20,13 @@ use Rattle.pulsar_incoming.specs.declared.polled.Ending.{Ending}
 use Rattle.pulsar_incoming.specs.declared.polled.Ending.TheVariants.{Closed, TopicEnded, Stopped}
 use Rattle.pulsar_calls.specs.declared.act.Act.{Act}
 use Rattle.pulsar_calls.specs.declared.act.Act.TheVariants.{Comes, Starts, Told, Does, Answers}
-use Rattle.pulsar_calls.specs.declared.act.Action.TheVariants.{Ask, StopAll, OfConsumer}
-use Rattle.pulsar_calls.specs.declared.act.ConsumerAsk.TheVariants.{TakeFlow, Revive, Fail as FailConsumer}
+use Rattle.pulsar_calls.specs.declared.act.Action.TheVariants.{Ask, OfConsumer}
+use Rattle.pulsar_calls.specs.declared.act.ConsumerAsk.TheVariants.{TakeFlow, Revive}
 use Rattle.pulsar_calls.specs.declared.act.Arrival.{Arrival}
 use Rattle.pulsar_calls.specs.declared.act.Arrival.TheVariants.{Nothing, Readied, Settles, Gives, Passes, Bad}
-use Rattle.pulsar_calls.specs.declared.act.LinkAct.TheVariants.{Reads, Ends}
 use Rattle.pulsar_calls.specs.declared.act.Makes.{Makes}
 use Rattle.pulsar_calls.specs.declared.act.Makes.TheVariants as makes
-use Rattle.pulsar_calls.specs.declared.act.Part.TheVariants.{ToLink, Polls}
+use Rattle.pulsar_calls.specs.declared.act.Part.TheVariants.{Polls}
 use Rattle.pulsar_calls.specs.declared.act.Procedure.{Procedure}
 use Rattle.pulsar_calls.specs.declared.act.Who.{Who}
 use Rattle.pulsar_calls.specs.declared.act.Outcome.TheVariants as outcome
@@ -43,7 +41,7 @@ use Rattle.pulsar_run.specs.Things.{along}
 use Rattle.pulsar_links.specs.Links.{line_places}
 use Rattle.pulsar_acts.specs.View.{View, member_acts, setup_of}
 use Rattle.pulsar_machine.specs.Options.{Options}
-use Rattle.pulsar_links.specs.Seats.{Seat, answer_at, arrival_at, closing, is_asked, place_of, url_at}
+use Rattle.pulsar_links.specs.Seats.{Seat, answer_at, is_asked, place_of, url_at}
 use Rattle.pulsar_acts.specs.Rules.{call_part, notice}
 use Rattle.pulsar_acts.specs.Run.{Entry, Begins, Then, IsRun, Rests, agenda, steps, view}
 use Rattle.pulsar_calls.specs.Steps.{Step}

@@ -6,9 +6,9 @@ use Rattle.std.specs.List.{flat_map}
 use Rattle.std.specs.Option.{is_some, option_map, option_to_list}
 use Rattle.std.specs.Ordering.{match_ordering, nat_cmp}
 use Rattle.std.specs.declared.cmp.Ordering.TheVariants.{Less, Equal, Greater}
-use Rattle.pulsar_laws.proofs.ActWords.{Act, Answers, Arrival, Ask, Asked, Call, Calls, Comes, Consumer, Does, Ends, FailConsumer, is_same, lacks_tickets, Makes, Notice, opens, Polls, Producer, Reads, Revive, shares, StopAll, TakeFlow, TakeNumber, ticket_of, Told, ToLink, Verdict, Who, Word, OfConsumer}
+use Rattle.pulsar_laws.proofs.ActWords.{Act, Answers, Arrival, Ask, Asked, Call, Calls, Comes, Consumer, Does, Ends, is_same, lacks_tickets, Makes, Notice, opens, Polls, Producer, Reads, Revive, shares, StopAll, TakeNumber, ticket_of, Told, ToLink, Verdict, Who, Word, OfConsumer}
 use Rattle.pulsar_laws.proofs.RunWords.{Arises, Begins, begun_same, consumers_after, Entry, In, InOne, joins, may_call, member_on, Options, rules, Then, turned, view, View}
-use Rattle.pulsar_laws.proofs.LinkWords.{answer_at, arrival_at, closed_consumer, closing, Failure, Fault, is_asked, is_body, Reply, Seat, url_at}
+use Rattle.pulsar_laws.proofs.LinkWords.{arrival_at, Failure, is_body, Reply, Seat, url_at}
 use Rattle.url.specs.Parts.{Parts}
 use Rattle.pulsar_exchange.specs.Request.{named_consumer}
 use Rattle.pulsar_exchange.specs.declared.content.Subscribed.{Subscribed}

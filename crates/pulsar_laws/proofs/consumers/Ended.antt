@@ -1,9 +1,9 @@
 -- A consumer ends at one of the acts that end it, and stays so; and its permits are in bounds.
 use Rattle.std.proofs.Common.{◌≡◌, ◌≤◌, ℕ, ◌+◌, ◌-◌, ◌∙◌, sym, ap, subst, List, [], ◌∷◌, ◌++◌, refl, arith, Bool, true, false, ◌&&◌, ◌||◌, cond, Option, Some, None, ◌==◌, append_assoc}
 use Rattle.std.specs.Option.{is_some, option_or}
-use Rattle.pulsar_laws.proofs.ActWords.{Act, Arrival, Ask, Comes, Does, Ends, FailConsumer, Polls, Reads, Revive, StopAll, TakeFlow, ticket_of, ToLink, OfConsumer}
+use Rattle.pulsar_laws.proofs.ActWords.{Act, Arrival}
 use Rattle.pulsar_laws.proofs.RunWords.{Begins, EndsOnce, Entry, IsRun, Options, Then, view, View}
-use Rattle.pulsar_laws.proofs.LinkWords.{answer_at, arrival_at, closed_consumer, closing, Fault, is_asked, is_body, Reply, url_at}
+use Rattle.pulsar_laws.proofs.LinkWords.{Fault, is_body, Reply, url_at}
 use Rattle.url.specs.Parts.{Parts}
 use Rattle.pulsar_frame.specs.Items.{Item, is_message}
 use Rattle.pulsar_messages.specs.Claims.{is_spent}

@@ -1,18 +1,18 @@
 -- A consumer is what was done to it since it was made.
 use Rattle.std.proofs.Common.{◌≡◌, ◌≤◌, ℕ, ◌+◌, ◌∙◌, sym, ap, subst, List, [], ◌∷◌, ◌++◌, refl, arith, Bool, true, false, ◌&&◌, cond, Option, Some, None, inl, inr, ◌==◌}
 use Rattle.std.proofs.lemmas.Bool.{and_parts, cases_Bool}
-use Rattle.pulsar_laws.proofs.ActWords.{Act, Answers, Arrival, Ask, Call, Comes, Consumer, Does, Ends, FailConsumer, FindConsumer, Heard, is_same, Makes, OfConsumer, Polls, Producer, Reads, RecallConsumer, Revive, StopAll, TakeFlow, ticket_of, ToLink, Verdict, Who}
+use Rattle.pulsar_laws.proofs.ActWords.{Act, Answers, Arrival, Call, Consumer, Does, Heard, is_same, Makes, OfConsumer, Producer, Revive, Verdict, Who}
 use Rattle.pulsar_laws.proofs.RunWords.{Begins, begun, begun_live, consumers_after, counted, Each, EndsOnce, Entry, is_live, IsRun, member_on, Options, setup_of, Then, view, View}
-use Rattle.pulsar_laws.proofs.LinkWords.{answer_at, arrival_at, closed_consumer, closing, Fault, is_asked, is_body, Reply, url_at}
+use Rattle.pulsar_laws.proofs.LinkWords.{Fault, is_body, Reply, url_at}
 use Rattle.url.specs.Parts.{Parts}
 use Rattle.pulsar_messages.specs.Claims.{is_spent}
 use Rattle.pulsar_consumer.specs.Frames.{frame_in}
-use Rattle.pulsar_consumer.specs.Topic.{Act as Done, Hears, Loses, Fails, Ends as Over, Polls as Polled, Asks, Seen, Setup, after, fresh, lives_on, of_raw, seen}
+use Rattle.pulsar_consumer.specs.Topic.{Act as Done, Hears, Loses, Ends as Over, Seen, Setup, after, fresh, lives_on, of_raw, seen}
 use Rattle.pulsar_incoming.specs.declared.polled.Ending.TheVariants.{Closed, TopicEnded}
 use Rattle.pulsar_calls.specs.declared.act.Arrival.TheVariants as arrivals
 use Rattle.pulsar_calls.specs.declared.act.Makes.TheVariants as makes
 use Rattle.pulsar_consumer_table.specs.Consumers as consumer
-use Rattle.pulsar_consumer_table.specs.Consumers.{Consumers, Arrives, ClientStops, CloseAsked, Deed, FlowTaken, IsPolled, IsSought, LinkEnds, Member, NotRevived, Revived, hears, hears_frame, loses_by, member_after, member_by, subscribed_on, waits_so}
+use Rattle.pulsar_consumer_table.specs.Consumers.{Arrives, ClientStops, CloseAsked, Deed, FlowTaken, IsPolled, IsSought, LinkEnds, Member, NotRevived, Revived, hears, hears_frame, loses_by, member_after, member_by, subscribed_on, waits_so}
 use Rattle.pulsar_consumer_table.specs.declared.row.LinkAnswer.{LinkAnswer}
 use Rattle.pulsar_consumer_table.specs.declared.row.LinkAnswer.TheVariants.{Found, Gone, Later}
 use Rattle.pulsar_acts.specs.View.{member_acts, member_born, member_made, member_of}

@@ -5,9 +5,9 @@ use Rattle.std.proofs.lemmas.Bool.Decides.{nat_tests}
 use Rattle.std.proofs.lemmas.Grind.{common_steps}
 use Rattle.std.specs.List.{filter, flat_map}
 use Rattle.std.specs.Option.{is_some, option_map, option_to_list}
-use Rattle.pulsar_laws.proofs.ActWords.{Act, Arrival, Ask, Comes, Does, Ends, FailConsumer, LinkAct, Polls, Reads, Revive, Shown, StopAll, TakeFlow, ticket_of, ToLink, OfConsumer}
+use Rattle.pulsar_laws.proofs.ActWords.{Act, Arrival, Ask, Comes, Does, LinkAct, Polls, Shown, ToLink}
 use Rattle.pulsar_laws.proofs.RunWords.{arranged, Begins, Each, each_append, each_either, each_map, EndsOnce, Entry, IsRun, Options, rules, Then, turned, view, View}
-use Rattle.pulsar_laws.proofs.LinkWords.{answer_at, arrival_at, closed_consumer, closing, Fault, is_asked, is_body, Reply, Seat, url_at, Words}
+use Rattle.pulsar_laws.proofs.LinkWords.{Fault, is_body, Reply, Seat, url_at, Words}
 use Rattle.pulsar_run.specs.Order.{InOrder, NoneBelow}
 use Rattle.pulsar_run.specs.Run.{in_order, steps_done, with_effects}
 use Rattle.pulsar_run.proofs.Orders.{kinds_in_order_lem}
@@ -34,7 +34,7 @@ use Rattle.pulsar_incoming.specs.declared.polled.Ending.TheVariants.{Closed, Top
 use Rattle.pulsar_incoming.specs.declared.polled.Polled.{Polled as Answer}
 use Rattle.pulsar_consumer.proofs.Histories.{polls_give_arrivals, polls_give_the_next}
 use Rattle.pulsar_consumer_table.specs.Consumers.{Arrives, ClientStops, CloseAsked, Deed, FlowTaken, IsPolled, IsSought, LinkEnds, Member, NotRevived, Revived, is_closed_by, polled, polled_so}
-use Rattle.pulsar_laws.specs.ConsumerLaws.{PollsAreAnswered, PollsFollow, arrival_does, deed_does, does_to, done_to, frame_does, given_by, items_given, loss_does, made_with, subscription_does}
+use Rattle.pulsar_laws.specs.ConsumerLaws.{PollsAreAnswered, PollsFollow, arrival_does, deed_does, deeds_do, does_to, done_to, frame_does, given_by, items_given, loss_does, made_with, subscription_does}
 use Rattle.pulsar_laws.proofs.consumers.Lone.{IsKept, IsMade, IsNone, RowFrom, StandsSo, begun_rows, consumers_alone_lem, did_so, row_from}
 use Rattle.pulsar_laws.proofs.consumers.Members.{CameFrom}
 use Rattle.pulsar_consumer.specs.Topic as reader
@@ -314,13 +314,13 @@ module _ (once : EndsOnce) (o : Options) (t : ℕ) (un : is_spent t ≡ false) w
             w.2
             ∙ ap (λ x. items_given t (steps o log) ++ x) gave
             ∙ ap (λ x. x ++ item_in (reader.polled (seen s (done_to o t log)))) before
-            ∙ ap (λ b. given s (cond b (Polled (view o log).now ∷ []) [] ++ done_to o t log)) (sym same))
+            ∙ ap (λ b. given s (deeds_do (cond b (IsPolled (view o log).now ∷ []) []) m ++ done_to o t log)) (sym same))
         | inr other ↦
             (w.2
             ∙ ap (λ x. items_given t (steps o log) ++ x) (other_item t u w.0.seen.topic (reader.polled w.0.seen) other)
             ∙ append-nil (items_given t (steps o log))
             ∙ before
-            ∙ ap (λ b. given s (cond b (Polled (view o log).now ∷ []) [] ++ done_to o t log)) (sym other))
+            ∙ ap (λ b. given s (deeds_do (cond b (IsPolled (view o log).now ∷ []) []) m ++ done_to o t log)) (sym other))
       ]
   kept_given a log m e run s is before true h = absurd cc
 

@@ -24,7 +24,7 @@ use Rattle.pulsar_consumer.specs.Topic as reader
 use Rattle.std.proofs.lemmas.Bool.{and_parts, cases_Bool, eqb-true}
 use Rattle.pulsar_laws.proofs.ActWords.{Act, Arrival, Ask, Comes, Consumer, Does, Ends, FailConsumer, Notice, Polls, Reads, Revive, StopAll, TakeFlow, ticket_of, Told, ToLink, Who, OfConsumer}
 use Rattle.pulsar_laws.proofs.RunWords.{agenda, Begins, EndsOnce, Entry, first, IsRun, notice, Options, Then, view, View}
-use Rattle.pulsar_laws.proofs.LinkWords.{answer_at, arrival_at, closed_consumer, closing, Fault, is_asked, is_body, place_of, Reply, Seat, url_at}
+use Rattle.pulsar_laws.proofs.LinkWords.{answer_at, Fault, is_body, place_of, Reply, Seat, url_at}
 use Rattle.pulsar_incoming.specs.declared.polled.Ending.{Ending}
 use Rattle.pulsar_incoming.specs.declared.polled.Ending.TheVariants.{Closed, TopicEnded}
 use Rattle.pulsar_consumer.proofs.Histories.{end_is_final}

@@ -2,7 +2,7 @@
 use Rattle.std.proofs.Common.{◌≡◌, inl, inr, ◌∙◌, sym, ap, subst, ℕ, ◌==◌, List, [], ◌∷◌, refl, Bool, true, false, cond, eq-eqb, Option, Some, None}
 use Rattle.std.proofs.lemmas.Bool.{cases_Bool}
 use Rattle.std.specs.Option.{is_some, option_map}
-use Rattle.pulsar_laws.proofs.ActWords.{Act, Action, Answers, Call, Consumer, Does, is_same, Notice, Outcome, Procedure, Revive, Starts, TakeFlow, Told, Verdict, Who, OfConsumer}
+use Rattle.pulsar_laws.proofs.ActWords.{Act, Action, Answers, Call, Consumer, Does, is_same, Notice, Outcome, Procedure, Revive, Starts, TakeFlow, Told, Who, OfConsumer}
 use Rattle.pulsar_laws.proofs.PlanWords.{Gives, Plan, PlanTransition, Stays, told}
 use Rattle.pulsar_laws.proofs.RunWords.{agenda, Agenda, Begins, begun_same, EndsOnce, Entry, first, IsRun, notice, Options, stays, stays_some, Then, told_some, view, View}
 use Rattle.pulsar_laws.proofs.LinkWords.{url_at}

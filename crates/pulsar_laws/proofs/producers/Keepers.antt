@@ -1,9 +1,9 @@
 -- Those whose messages a topic producer stores, or has in a batch, wait for what becomes of them, or have ended.
-use Rattle.std.proofs.Common.{◌≡◌, inl, inr, ◌∙◌, sym, ap, subst, ℕ, ◌+◌, ◌≤◌, arith, List, [], ◌∷◌, ◌++◌, refl, map, Bool, true, false, cond, Option, Some, None, Ok, Err}
+use Rattle.std.proofs.Common.{◌≡◌, inl, inr, ◌∙◌, sym, ap, subst, ℕ, ◌+◌, ◌≤◌, arith, List, [], ◌∷◌, refl, map, Bool, true, false, cond, Option, Some, None, Ok, Err}
 use Rattle.std.proofs.lemmas.Bool.{cases_Bool}
 use Rattle.pulsar_laws.proofs.ActWords.{Act, Action, Call, Consumer, Does, Notice, OfTopic, Outcome, Procedure, Producer, Starts, Store, TakeBatch, Told, Who, is_same, turn_of}
 use Rattle.pulsar_laws.proofs.PlanWords.{action_of, Batches, Batching, begins, Deed, Errand, Member, News, news_of, Plan, Stored, Storing, told, Ways}
-use Rattle.pulsar_laws.proofs.RunWords.{Begins, begun_same, counted, Each, each_append, each_map, Entry, In, IsRun, Options, rules, start_of, stays, stays_some, Then, told_some, view, View}
+use Rattle.pulsar_laws.proofs.RunWords.{Begins, begun_same, counted, Each, each_map, Entry, IsRun, Options, rules, start_of, stays, stays_some, Then, told_some, view, View}
 use Rattle.pulsar_frame.specs.Batch.{EntryValues}
 use Rattle.pulsar_searches.specs.declared.turn.Action.TheVariants as wish
 use Rattle.pulsar_outgoing.specs.Batch.{member_of}

@@ -1,5 +1,5 @@
 -- The numbers of the frames of a topic producer rise.
-use Rattle.std.proofs.Common.{◌≡◌, inl, inr, ◌∙◌, sym, ap, subst, ℕ, ◌+◌, ◌<◌, ◌≤◌, arith, List, [], ◌∷◌, ◌++◌, refl, Bool, true, false, cond, Option, Some, None}
+use Rattle.std.proofs.Common.{◌≡◌, inl, inr, ◌∙◌, sym, ap, subst, ℕ, ◌+◌, ◌<◌, ◌≤◌, arith, List, [], ◌∷◌, ◌++◌, refl, Bool, true, false, Some}
 use Rattle.pulsar_laws.proofs.ActWords.{Ask, Call, Does, Draw, Notice, OfTopic, Producer, Told, Who}
 use Rattle.pulsar_laws.proofs.RunWords.{Begins, begun_same, Entry, IsRun, Options, rules, Then, view}
 use Rattle.pulsar_messages.specs.Words as words

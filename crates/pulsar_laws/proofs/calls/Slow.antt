@@ -32,7 +32,8 @@ module _ (who : Who) (now l : ℕ) (request : Words) where
     | inr e ↦ rw e refl
   ]
 
-  hears_slow : (row : Option Seat) (m : Option Member) → answer_at now request row ≡ Err error.SlowDown → option_map (closes (closed_consumer request) l (is_asked (answer_at now request row))) m ≡ m
+  hears_slow : (row : Option Seat) (m : Option Member) → answer_at now request row ≡ Err error.SlowDown →
+      option_map (closes (closed_consumer request) l (is_asked (answer_at now request row))) m ≡ m
   hears_slow row None h = refl
   hears_slow row (Some m) h = ap (λ r. Some (closes (closed_consumer request) l (is_asked r) m)) h
 

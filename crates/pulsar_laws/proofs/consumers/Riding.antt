@@ -349,7 +349,8 @@ module _ (o : Options) (log : List Entry) (t : ℕ) where
       none false = tame_none m.seen
 
       on_row : (row : Option Seat) → (view o log).links.live l ≡ row → (t == ticket_of who) ≡ true →
-          Tame (deeds_do (cond (t == ticket_of who) (Revived l (url_at ((view o log).links.live l)) ∷ []) []) m) m.seen ⊎ Revives (Does who (OfConsumer (Revive l)))
+          Tame (deeds_do (cond (t == ticket_of who) (Revived l (url_at ((view o log).links.live l)) ∷ []) []) m) m.seen
+              ⊎ Revives (Does who (OfConsumer (Revive l)))
       on_row None f e =
           inl (subst (λ r. Tame (deeds_do (cond (t == ticket_of who) (Revived l (url_at r) ∷ []) []) m) m.seen) (sym f) (none (t == ticket_of who)))
       on_row (Some seat) f e = inr (who, l, refl, (λ i. e i && is_some (f i)))
@@ -360,7 +361,8 @@ module _ (o : Options) (log : List Entry) (t : ℕ) where
       ended_rides o log (Comes (ToLink l (Ends end))) t m n was is l end (closing end (view o log).now ((view o log).links.live l)) refl refl
       (append-nil (loss_does l (closing end (view o log).now ((view o log).links.live l))))
   kept_by (Does who (OfConsumer (Revive l))) m n run was is =
-      again_rides o log (Does who (OfConsumer (Revive l))) t m n was is l (revives_ready o log who l run) (λ end k at. absurd cc) (λ k h. by (t == ticket_of who) k h)
+      again_rides o log (Does who (OfConsumer (Revive l))) t m n was is l (revives_ready o log who l run) (λ end k at. absurd cc) (λ k h. by
+          (t == ticket_of who) k h)
     where
       by : (b : Bool) (k : ℕ) → link_of (applied (deeds_do (cond b (Revived l (url_at ((view o log).links.live l)) ∷ []) []) m) m.seen) ≡ Some k →
           (link_of m.seen ≡ Some k) ⊎ ((k ≡ l) × IsLive (view o log) l)

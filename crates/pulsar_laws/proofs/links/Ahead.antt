@@ -129,7 +129,8 @@ module _ (bytes : List ℕ) where
 
   -- A LINK
 
-  link_same : (x : LinkAct) (now : ℕ) (v : Seen) → is_read x ≡ false → ((end : End) → x ≡ Ends end → ⊥) → links.after x now (with v) ≡ with (links.after x now v)
+  link_same : (x : LinkAct) (now : ℕ) (v : Seen) → is_read x ≡ false → ((end : End) → x ≡ Ends end → ⊥) →
+      links.after x now (with v) ≡ with (links.after x now v)
   link_same Opens now v h e = opens_same v.stage (ticked now v)
   link_same Reads now v h e = absurd cc
   link_same (Drains most) now v h e = drained_same most (is_open v.stage) (ticked now v)
@@ -525,7 +526,8 @@ module _ (l : ℕ) (bytes : List ℕ) (v : View) where
   after_same (Answers who verdict) h =
       after_by l bytes bytes v (Answers who verdict) (λ k. refl) refl refl
       (ap
-      (λ m. record (consumers_left who (consumers_listed who verdict.makes v.consumers)) { rows = λ t. row_after member_by (member_of m who t) false [] (v.consumers.rows t) })
+      (λ m. record (consumers_left who (consumers_listed who verdict.makes v.consumers)) { rows = λ t. row_after member_by (member_of m who t) false []
+          (v.consumers.rows t) })
       (made_so verdict.makes)) refl
   after_same (Dials p starter retries) h =
       after_by l bytes bytes v (Dials p starter retries)

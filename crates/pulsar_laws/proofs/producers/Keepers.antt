@@ -81,7 +81,8 @@ keeps_more o log (Then (Told n)) t run k =
 keeps_more o log (Then a) t run k = let was : 1 ≤ counted (start_of t) log = k.began in record { began = omega (arith, was); waits = k.waits }
 
 -- one that stores
-pub store_keeps : (o : Options) (log : List Entry) (t n : ℕ) (entry : EntryValues) → IsRun o (Then (Does (Call t) (OfTopic n (Store entry))) ∷ log) → Keeps o log t
+pub store_keeps : (o : Options) (log : List Entry) (t n : ℕ) (entry : EntryValues) → IsRun o (Then (Does (Call t) (OfTopic n (Store entry))) ∷ log) →
+    Keeps o log t
 store_keeps o log t n entry run =
     let k = does_fit o log (Call t) (OfTopic n (Store entry)) refl run in
     let s = stores_so k.0 n entry k.1 in

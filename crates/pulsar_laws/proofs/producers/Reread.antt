@@ -139,7 +139,8 @@ module _ (es : List EntryValues) (whole : ProducerMessageValues) where
 says_so : (es : List EntryValues) (version : Option (List ℕ)) (c : ℤ) → FitsSigned w32 c →
     InRange rows.message_metadata (metadata_of 0 [] 0 (with_version version (batch_with c es)))
 says_so es version c f =
-    ((no_text, tt), ((omega arith, tt), ((omega arith, tt), (tt, (tt, (tt, (tt, (tt, (tt, ((f, tt), (tt, (tt, (tt, (tt, (said version, (tt, (tt, tt)))))))))))))))))
+    ((no_text, tt), ((omega arith, tt), ((omega arith, tt),
+    (tt, (tt, (tt, (tt, (tt, (tt, ((f, tt), (tt, (tt, (tt, (tt, (said version, (tt, (tt, tt)))))))))))))))))
   where
     said : (v : Option (List ℕ)) → AllByRecursion (λ (bytes : List ℕ). Unit {0}) (option_to_list v)
     said None = tt

@@ -1,5 +1,5 @@
 -- The spelling of values in range is bytes, where what they hold as bytes is: numbers and lengths are spelled in bytes, and a text is UTF-8.
-use Rattle.std.proofs.Common.{◌≡◌, inl, inr, subst, ℕ, zero, suc, ◌+◌, ◌*◌, ◌/◌, ◌%◌, ◌^◌, ◌<◌, ℤ, List, [], ◌∷◌, ◌++◌, length, length-append, flat_map, arith, refl, Bool, true, false, nat_lt, ◌&&◌, IsUtf8, encode_utf8_all}
+use Rattle.std.proofs.Common.{◌≡◌, inl, inr, subst, ℕ, zero, suc, ◌+◌, ◌*◌, ◌/◌, ◌%◌, ◌^◌, ◌<◌, ℤ, List, [], ◌∷◌, ◌++◌, length, length-append, flat_map, arith, refl, true, false, nat_lt, ◌&&◌, encode_utf8_all}
 use Rattle.std.proofs.lemmas.Bool.{and_parts}
 use Rattle.std.proofs.lemmas.Bool.Decides.{nat_tests}
 use Rattle.std.proofs.lemmas.List.Elements.{All-append, All-cons, All-nil}
@@ -141,7 +141,8 @@ spelled (Embedded n r inner row) vs h f b l =
     (λ x f b l. spelled inner x t.1 f b l)) (items r vs.0) f.0 b.0 s.0)
     (spelled row vs.1 u.1 f.1 b.1 s.1)
   where
-    message : is_number n ≡ true → ((x : Values inner) → InRange inner x → HoldBytes inner x → length (spelling inner x) < 2 ^ 64 → AreBytes (spelling inner x)) →
+    message : is_number n ≡ true →
+        ((x : Values inner) → InRange inner x → HoldBytes inner x → length (spelling inner x) < 2 ^ 64 → AreBytes (spelling inner x)) →
         (x : Values inner) → InRange inner x → HoldBytes inner x → length (message_entry n (spelling inner x)) < 2 ^ 64 →
         AreBytes (message_entry n (spelling inner x))
     message i deep x f b l =
@@ -171,7 +172,8 @@ pub covered : (p : PayloadValues) → InRange message_metadata p.metadata → Ho
 unfolding covered_bytes with_size
 covered p f b l k =
     let said : List ℕ = spelling message_metadata p.metadata in
-    both (to_be_bytes w32 (length said) ++ said) p.bytes (both (to_be_bytes w32 (length said)) said (size (length said)) (spelled message_metadata p.metadata refl f b l)) k
+    both (to_be_bytes w32 (length said) ++ said) p.bytes
+    (both (to_be_bytes w32 (length said)) said (size (length said)) (spelled message_metadata p.metadata refl f b l)) k
   where
     size : (n : ℕ) → AreBytes (to_be_bytes w32 n)
     size n =

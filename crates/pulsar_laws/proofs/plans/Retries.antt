@@ -187,7 +187,7 @@ again_while_allowed_lem o log who x before run rests is = by ((view o log).stand
         at (Some s) f h =
             let (w, ways) = staged q s f in
             let so : SomeSo w x (Some s) (retries o who x log) = subst (λ st. SomeSo w x st (retries o who x log)) f
-                (subst (λ row. Under row x (stage q) (retries o who x log)) ways (counts_so x o who log q run e)) in
+            (subst (λ row. Under row x (stage q) (retries o who x log)) ways (counts_so x o who log q run e)) in
             let (j, k, m) = stage_rests w x s (retries o who x log) so h in
             let same : j ≡ before = omega (arith, k, is) in
             subst (λ m. MayRetry m before) (delay_by o w (stands_by o log who q w run e ways)).1 (subst (MayRetry w.max_retries) same m)

@@ -138,9 +138,16 @@ module _ (es : List EntryValues) (whole : ProducerMessageValues) where
 
 says_so : (es : List EntryValues) (version : Option (List ℕ)) (c : ℤ) → FitsSigned w32 c →
     InRange rows.message_metadata (metadata_of 0 [] 0 (with_version version (batch_with c es)))
-says_so es version c f =
-    ((no_text, tt), ((omega arith, tt), ((omega arith, tt),
-    (tt, (tt, (tt, (tt, (tt, (tt, ((f, tt), (tt, (tt, (tt, (tt, (said version, (tt, (tt, tt)))))))))))))))))
+says_so es version c f = (
+  (no_text, tt),
+  (
+    (omega arith, tt),
+    (
+      (omega arith, tt),
+      (tt, (tt, (tt, (tt, (tt, (tt, ((f, tt), (tt, (tt, (tt, (tt, (said version, (tt, (tt, tt)))))))))))))),
+    ),
+  ),
+)
   where
     said : (v : Option (List ℕ)) → AllByRecursion (λ (bytes : List ℕ). Unit {0}) (option_to_list v)
     said None = tt
@@ -170,6 +177,8 @@ frames_are_read_again_lem o log id l n s name m block place row behind low early
     let sequence : s < 2 ^ 64 = omega (arith, all, next) in
     let said : InRange rows.message_metadata (metadata_of 0 [] 0 m) = says_in_range m typed.0 in
     let range : InRange rows.message_metadata (metadata_of now name s m) = ((text, tt), ((sequence, tt), ((early, tt), said.1.1.1))) in
-    read_so id now n s name m block behind size (send_in_range n s m.num_messages_in_batch producer sequence said.1.1.1.1.1.1.1.1.1.0)
-    (range, covered (record { metadata = metadata_of now name s m; bytes = m.payload }) range ((tt, tt), ((tt, tt), ((tt, tt), typed.1.1.1.1)))
-    (short_said whole size) typed.2)
+    read_so id now n s name m block behind size (send_in_range n s m.num_messages_in_batch producer sequence said.1.1.1.1.1.1.1.1.1.0) (
+      range,
+      covered (record { metadata = metadata_of now name s m; bytes = m.payload }) range ((tt, tt), ((tt, tt), ((tt, tt), typed.1.1.1.1)))
+          (short_said whole size) typed.2,
+    )

@@ -31,3 +31,4 @@ pub mod Reread
 pub mod Texts
 pub mod TextReplies
 pub mod Named
+pub mod Spelled

@@ -111,7 +111,7 @@ served_at (service.Reviving link) = None
 served_at service.Failing = None
 served_at service.Closing = None
 
--- in which operation a plan stands
+-- In which operation a plan stands. A search that rests by itself stands in none: no call begins with one.
 abbrev pub stage : Plan → Option Stage
 stage plan.Building = None
 stage (plan.Getting request s) = None

@@ -1,9 +1,8 @@
 -- Where an operation fails so that another time may help, its plan makes it again or gives it up, by how often it was made again.
-use Rattle.std.proofs.Common.{◌≡◌, ◌⊎◌, inl, inr, ◌∙◌, sym, ap, subst, ℕ, List, [], ◌∷◌, refl, Bool, true, false, Option, Some, None, Result, Ok, Err}
-use Rattle.pulsar_laws.proofs.ActWords.{Action, Outcome, Share, Who}
-use Rattle.pulsar_laws.proofs.PlanWords.{Batches, batches_on, BuildingProducer as Build, Command, Errand, Heard as News, Looking, Making, Naming, News as Granting, news_in, news_of, overrides, Plan, PlanTransition, ProducerOrder, SearchTransition, Sending as Send, told, Ways, Wish}
-use Rattle.pulsar_laws.proofs.RunWords.{Entry, IsRun, Options, view}
-use Rattle.pulsar_laws.proofs.LinkWords.{Failure, Fault, OfConnection, Place}
+use Rattle.std.proofs.Common.{◌≡◌, ◌⊎◌, inl, inr, ◌∙◌, sym, ap, subst, ℕ, List, [], ◌∷◌, refl, true, false, Option, Some, None, Result, Ok, Err}
+use Rattle.pulsar_laws.proofs.ActWords.{Outcome, Share}
+use Rattle.pulsar_laws.proofs.PlanWords.{Batches, batches_on, BuildingProducer as Build, Command, Errand, Heard as News, Looking, Making, Naming, news_in, news_of, overrides, Plan, PlanTransition, ProducerOrder, SearchTransition, Sending as Send, told, Ways, Wish}
+use Rattle.pulsar_laws.proofs.LinkWords.{Failure, OfConnection}
 use Rattle.pulsar_searches.specs.Plans as search
 use Rattle.pulsar_searches.specs.Plans.{count_told, is_retryable, look_told, made_told, names_told}
 use Rattle.pulsar_searches.specs.declared.count.Counting.{Counting}
@@ -37,7 +36,6 @@ use Rattle.pulsar_plans.specs.Plan.{builds, wished, consumer_news_of, goes, goes
 use Rattle.pulsar_plans.specs.declared.plan.Plan.TheVariants.{Batching, Producing, Reporting, Searching, Sending, Serving, Subscribing}
 use Rattle.pulsar_plans.specs.declared.service.Service.TheVariants as service
 use Rattle.pulsar_plans.specs.declared.states.Resubscribing.{Resubscribing}
-use Rattle.pulsar_laws.proofs.Cases.{none_some, some_is}
 use Rattle.pulsar_laws.proofs.plans.Again.{counts_either, looks_either, makes_either, makes_no_more, retried}
 use Rattle.pulsar_laws.proofs.plans.Retried.{SomeSo, StageSo}
 use Rattle.pulsar_laws.proofs.plans.Retries.{counts_so, staged, Under}
@@ -85,8 +83,9 @@ module _ (May : Wish → Type 0) (Not : Type 0) (to : Progress) (w : Ways) (x : 
   PlanAgain t = ((a : Wish) × May a × (q : Plan) × (t ≡ Stays q (wished a)) × (progress x (Some q) ≡ to)) ⊎ (Not × GivesUp t)
 
   -- a machine around another
-  around : {S T A B : Type 0} (at : S → Option Stage) (on : T → Option Stage) (F : SearchTransition S (Result A Failure) → SearchTransition T (Result B Failure))
-      (within : S → T) → ((s : S) (a : Wish) → F (Stays s a) ≡ Stays (within s) a) → ((s : S) → goes_in x (at s) ≡ goes_in x (on (within s))) →
+  around : {S T A B : Type 0} (at : S → Option Stage) (on : T → Option Stage)
+      (F : SearchTransition S (Result A Failure) → SearchTransition T (Result B Failure)) (within : S → T) →
+      ((s : S) (a : Wish) → F (Stays s a) ≡ Stays (within s) a) → ((s : S) → goes_in x (at s) ≡ goes_in x (on (within s))) →
       ((f : Failure) → F (Gives (Err f)) ≡ Gives (Err f)) → (t : SearchTransition S (Result A Failure)) → Again at t → Again on (F t)
   around at on F within p q r t (inl (a, m, s, e, h)) = inl (a, m, within s, ap F e ∙ p s a, sym (q s) ∙ h)
   around at on F within p q r t (inr (n, f, e)) = inr (n, f, ap F e ∙ r f)
@@ -136,8 +135,8 @@ module _ (May : Wish → Type 0) (Not : Type 0) (to : Progress) (w : Ways) (x : 
       (names_told w p.topic n o) (names_again p.topic n o k)
   build_again p (build.Numbering q) o k = absurd k
   build_again p (build.Making c m i left made') o k =
-      plan_around (made c) (λ y. builds w p (produce.build_makes c i left made' y)) (λ d. Producing w p (build.Making c d i left made')) (λ s a. refl) (λ s. refl)
-      (closes made') (made_told w c m o) k
+      plan_around (made c) (λ y. builds w p (produce.build_makes c i left made' y)) (λ d. Producing w p (build.Making c d i left made')) (λ s a. refl)
+      (λ s. refl) (closes made') (made_told w c m o) k
     where
       closes : (bs : List Built) (f : Failure) → GivesUp (builds w p (produce.build_closes bs f))
       closes [] f = tt
@@ -166,8 +165,8 @@ module _ (May : Wish → Type 0) (Not : Type 0) (to : Progress) (w : Ways) (x : 
         plan_around looked (λ y. batches_on w e (batches.sends ms n (produce.send_looks e m c y))) (λ l. Batching w e (batch.Sending ms n (send.Looking m c l)))
         (λ s a. refl) (λ s. refl) (λ f. refl) (look_told w c.topic l o) (k c.topic)
     batch_again (batch.Sending ms n (send.Making m c j)) o k =
-        plan_around (made c) (λ y. batches_on w e (batches.sends ms n (produce.send_makes e m c y))) (λ d. Batching w e (batch.Sending ms n (send.Making m c d)))
-        (λ s a. refl) (λ s. refl) (λ f. refl) (made_told w c j o) k
+        plan_around (made c) (λ y. batches_on w e (batches.sends ms n (produce.send_makes e m c y)))
+        (λ d. Batching w e (batch.Sending ms n (send.Making m c d))) (λ s a. refl) (λ s. refl) (λ f. refl) (made_told w c j o) k
     batch_again _ o k = absurd k
 
   subscribe_again : (p : ConsumerOrder) (b : ConsumerBuild) (o : News) → SomeAt (subscribed_at b) o →
@@ -205,7 +204,8 @@ module _ (May : Ways → Wish → Type 0) (Not : Ways → Type 0) (to : Progress
   plan_again (Batching w e b) u t = λ k. rw (t.goes_on, t.as_news) (batch_again (May w) (Not w) to w x e b (news_in u) k)
   plan_again (Subscribing w p b) u t = λ k. rw (t.goes_on, t.as_consumer) (subscribe_again (May w) (Not w) to w x p b (news_in u) k)
   plan_again (Serving w n (service.Resuming s)) u t = λ k.
-      rw (t.goes_on) (subst (PlanAgain (May w) (Not w) to w x) (sym (t.as_service w n s)) (resume_again (May w) (Not w) to w x n s.command s.resuming (news_in u) k))
+      rw (t.goes_on) (subst (PlanAgain (May w) (Not w) to w x) (sym (t.as_service w n s))
+      (resume_again (May w) (Not w) to w x n s.command s.resuming (news_in u) k))
   plan_again (Serving w n _) u t = λ k. absurd k
   plan_again _ u t = tt
 

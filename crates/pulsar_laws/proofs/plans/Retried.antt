@@ -1,10 +1,8 @@
 -- An operation is made again only so often as the options allow, wherever a plan makes it: what it counts is how often it came to rest.
-use Rattle.std.proofs.Common.{◌≡◌, ◌⊎◌, inl, inr, ◌∙◌, sym, ap, subst, ℕ, ◌+◌, ◌-◌, ◌==◌, List, [], ◌∷◌, refl, ◌&&◌, ◌||◌, Bool, true, false, cond, arith, Option, Some, None, Result, Ok, Err}
+use Rattle.std.proofs.Common.{◌≡◌, sym, subst, ℕ, ◌+◌, ◌==◌, List, [], refl, ◌&&◌, ◌||◌, Bool, true, false, cond, Option, Some, None, Result, Ok, Err}
 use Rattle.std.specs.Prelude.{pos}
-use Rattle.std.proofs.lemmas.Bool.{and_parts, cases_Bool}
-use Rattle.pulsar_laws.proofs.ActWords.{Action, Outcome, Procedure, is_same, Starts, Told, Who}
-use Rattle.pulsar_laws.proofs.PlanWords.{Batches, Batching, begins, BuildingProducer as Build, Command, Denies, Errand, Heard as News, Later, Looking, Making, Naming, News as Granting, news_in, news_of, overrides, Plan, PlanTransition, ProducerOrder, Producing, Reporting, Says, SearchTransition, Sending as Send, Serving, Sought, Subscribing, told, Ways}
-use Rattle.pulsar_laws.proofs.RunWords.{Begins, begun_same, Entry, IsRun, notice, Options, stays_some, Then, told_some, view}
+use Rattle.std.proofs.lemmas.Bool.{and_parts}
+use Rattle.pulsar_laws.proofs.PlanWords.{BuildingProducer as Build, Command, Denies, Errand, Heard as News, Later, Looking, Making, Naming, News as Granting, ProducerOrder, Says, SearchTransition, Sending as Send, Sought, Ways}
 use Rattle.pulsar_laws.proofs.LinkWords.{Failure, Fault, Named, OfConnection, Place}
 use Rattle.pulsar_frame.specs.Reply.{Reply as Content, is_body}
 use Rattle.pulsar_addresses.specs.Backoff.{allow_retry, one_more}
@@ -16,7 +14,6 @@ use Rattle.pulsar_searches.specs.declared.count.Counting.TheVariants as count
 use Rattle.pulsar_searches.specs.declared.look.Looking.TheVariants as look
 use Rattle.pulsar_searches.specs.declared.look.Search.{Search as Question}
 use Rattle.pulsar_searches.specs.declared.making.Making.TheVariants as make
-use Rattle.pulsar_searches.specs.declared.making.Served.{Served}
 use Rattle.pulsar_searches.specs.declared.names.Naming.TheVariants as name
 use Rattle.pulsar_searches.specs.declared.plan.Answer.TheVariants as answer
 use Rattle.pulsar_searches.specs.declared.plan.SearchPlan.{SearchPlan as Search}
@@ -25,19 +22,14 @@ use Rattle.pulsar_searches.specs.declared.plan.Sought.TheVariants as sought
 use Rattle.pulsar_searches.specs.declared.replies.Heard.{Heard}
 use Rattle.pulsar_searches.specs.declared.replies.Pointed.{Pointed}
 use Rattle.pulsar_searches.specs.declared.replies.Pointed.TheVariants.{Redirects, Serves}
-use Rattle.pulsar_searches.specs.declared.retry.Retrying.{Retrying}
 use Rattle.pulsar_searches.specs.declared.retry.Retrying.TheVariants as retry
 use Rattle.pulsar_searches.specs.declared.transition.Transition.{Transition}
 use Rattle.pulsar_searches.specs.declared.transition.Transition.TheVariants.{Stays, Gives}
-use Rattle.pulsar_searches.specs.declared.turn.Action.TheVariants.{Ask, Get, Wait}
+use Rattle.pulsar_searches.specs.declared.turn.Action.TheVariants.{Wait}
 use Rattle.pulsar_searches.specs.declared.turn.SearchOutcome.TheVariants as news
 use Rattle.pulsar_outgoing.specs.Errors.{in_producer}
 use Rattle.pulsar_outgoing.specs.declared.news.News.TheVariants as granting
-use Rattle.pulsar_producer.specs.Batching as batches
-use Rattle.pulsar_producer.specs.Batching.{is_sent_send}
 use Rattle.pulsar_producer.specs.Plans as produce
-use Rattle.pulsar_producer.specs.declared.batching.Batching.TheVariants as batch
-use Rattle.pulsar_producer.specs.declared.building.BuildingProducer.TheVariants as build
 use Rattle.pulsar_producer.specs.declared.deed.Deed.{Deed}
 use Rattle.pulsar_producer.specs.declared.sending.Sending.TheVariants as send
 use Rattle.pulsar_producer.proofs.Arcs.{BuildArc, building_rests, builds_on_asks, builds_on_gets, builds_on_waits, names_on_asks, names_on_gets, names_on_waits, naming_rests, numbered_makes}
@@ -49,17 +41,9 @@ use Rattle.pulsar_consumer.specs.declared.building.News.TheVariants as consumer_
 use Rattle.pulsar_consumer.specs.declared.resuming.Resuming.{Resuming}
 use Rattle.pulsar_consumer.specs.declared.resuming.Resuming.TheVariants as resume
 use Rattle.pulsar_incoming.specs.declared.orders.ConsumerOrder.{ConsumerOrder}
-use Rattle.pulsar_calls.specs.declared.act.Share.{Share}
-use Rattle.pulsar_plans.specs.Plan.{goes_on_sending, halted}
-use Rattle.pulsar_plans.specs.declared.plan.Plan.TheVariants as plan
-use Rattle.pulsar_plans.specs.declared.service.Service.TheVariants as service
-use Rattle.pulsar_plans.proofs.Arcs.{Arc, BatchArc, Begun, StaysSo, batch_cuts, batch_halts, batch_sends, batch_settles, batches_go, begins_by, builds_on, part_sends, part_tells, recalled_resumes_asks, recalled_resumes_gets, recalled_resumes_waits, resumes_on_asks, resumes_on_gets, resumes_on_waits, search_rests, searches_asks, searches_gets, searches_waits, sends as sends_on, serving_rests, stays_by, subscribed_numbers, subscribed_rests, subscribes_on_asks, subscribes_on_gets, subscribes_on_waits, subscribing_rests}
-use Rattle.pulsar_laws.proofs.Cases.{cond_so, cond_when, none_some}
-use Rattle.pulsar_laws.proofs.calls.Same.{same_self}
+use Rattle.pulsar_laws.proofs.Cases.{cond_so, cond_when}
 use Rattle.pulsar_laws.proofs.plans.Again.{IsNow, may_retry, now_on, retried}
-use Rattle.pulsar_laws.proofs.plans.Standing.{moves, run_older, stands_so}
-use Rattle.pulsar_laws.proofs.plans.Waiting.{delay_by, stands_by, ways_at}
-use Rattle.pulsar_laws.specs.AgainLaws.{Absent, AgainWhileAllowed, Busy, Counts, InCount, InLook, InMaking, Looks, Makes, Operation, Progress, Resting, Stage, batched_at, built_at, comes_to, count_goes, goes_at, goes_in, goes_to, look_goes, look_within, making_goes, named_at, progress, resumed_at, retries, searched_at, sent_at, served_at, stage, subscribed_at}
+use Rattle.pulsar_laws.specs.AgainLaws.{Absent, Busy, Counts, InCount, InLook, InMaking, Looks, Makes, Operation, Progress, Resting, Stage, built_at, comes_to, count_goes, goes_in, goes_to, look_goes, look_within, making_goes, named_at, resumed_at, searched_at, sent_at, subscribed_at}
 use Rattle.pulsar_laws.specs.RetryLaws.{MayRetry, to_32}
 
 -- WHERE A TURN STAYS, AND WHERE IT ENDS
@@ -388,7 +372,8 @@ module _ (w : Ways) where
     retry_turns t k l (Gives (Ok place)) i = tt
     retry_turns t k l (Gives (Err f)) i = tt
 
-    pub search_on : (s : Search) (o : News) (k : ℕ) → SomeSo x (searched_at s) k → Turns (λ q. Moved x (searched_at s) k (searched_at q)) Any (search.told w s o)
+    pub search_on : (s : Search) (o : News) (k : ℕ) → SomeSo x (searched_at s) k →
+        Turns (λ q. Moved x (searched_at s) k (searched_at q)) Any (search.told w s o)
     search_on (searching.Counting t c) o k i =
         then_turns (λ q. Moved x (Some (InCount c)) k (searched_at q)) Any (count_told w t c o) (searching.Counting t) _ (counts_on x t c o k i) (λ a e. tt)
     search_on (searching.Looking t l) o k i =
@@ -483,12 +468,14 @@ module _ (w : Ways) where
     send_on e (send.Waiting m) _ k i = tt
     send_on e (send.Drawing m) (granting.Drew d) k i = tt
     send_on e (send.Drawing m) y k i =
-        cond_so (Turns (SendBehind None k) Any) (search.is_lost (produce.fault_told y)) (produce.send_recalls e m) (produce.send_ends e (in_producer (produce.fault_told y))) tt tt
+        cond_so (Turns (SendBehind None k) Any) (search.is_lost (produce.fault_told y)) (produce.send_recalls e m)
+        (produce.send_ends e (in_producer (produce.fault_told y))) tt tt
     send_on e (send.Asked kept) granting.Queued k i = tt
     send_on e (send.Asked kept) granting.InLine k i = tt
     send_on e (send.Asked None) y k i = tt
     send_on e (send.Asked (Some m)) y k i =
-        cond_so (Turns (SendBehind None k) Any) (search.is_lost (produce.fault_told y)) (produce.send_recalls e m) (produce.send_ends e (in_producer (produce.fault_told y))) tt tt
+        cond_so (Turns (SendBehind None k) Any) (search.is_lost (produce.fault_told y)) (produce.send_recalls e m)
+        (produce.send_ends e (in_producer (produce.fault_told y))) tt tt
     send_on e send.Sent (granting.Told o) k i = received (search.verdict 7 o) k
     send_on e send.Sent _ k i = tt
     send_on e (send.Recalling m) (granting.Recalled c) k i = begins_look x None k (apart_none x)

@@ -1,11 +1,8 @@
 -- So it is along each run, for whoever has a plan: an operation that rests was made again fewer times than the options allow.
-use Rattle.std.proofs.Common.{◌≡◌, ◌∙◌, sym, ap, subst, ℕ, ◌+◌, List, [], ◌∷◌, refl, ◌&&◌, not, Bool, true, false, cond, arith, Option, Some, None, Result, Ok, Err}
-use Rattle.pulsar_laws.proofs.ActWords.{Action, is_same, Notice, Outcome, Procedure, Share, Starts, Told, Who}
-use Rattle.pulsar_laws.proofs.PlanWords.{Batches, batches_on, begins, Deed, Errand, Heard as News, Looking, Making, Member, News as Granting, news_in, news_of, overrides, Plan, PlanTransition, SearchTransition, Sending as Send, Sought, told, Ways}
-use Rattle.pulsar_laws.proofs.RunWords.{Begins, begun_same, Entry, IsRun, notice, Options, stays, stays_some, Then, told_some, view}
-use Rattle.pulsar_laws.proofs.LinkWords.{Failure, Place}
-use Rattle.pulsar_frame.specs.Reply.{Reply as Content}
-use Rattle.pulsar_searches.specs.Plans as search
+use Rattle.std.proofs.Common.{◌≡◌, ◌∙◌, sym, ap, subst, ℕ, ◌+◌, List, ◌∷◌, refl, ◌&&◌, not, Bool, true, false, cond, arith, Option, Some, None, Ok, Err}
+use Rattle.pulsar_laws.proofs.ActWords.{Action, Notice, Outcome, Procedure, Share, Starts, Told, Who}
+use Rattle.pulsar_laws.proofs.PlanWords.{Batches, batches_on, Deed, Errand, Member, News as Granting, news_in, news_of, overrides, Plan, PlanTransition, Sending as Send, told, Ways}
+use Rattle.pulsar_laws.proofs.RunWords.{Entry, IsRun, notice, Options, stays, stays_some, Then, told_some, view}
 use Rattle.pulsar_searches.specs.declared.count.Counting.TheVariants as count
 use Rattle.pulsar_searches.specs.declared.look.Looking.TheVariants as look
 use Rattle.pulsar_searches.specs.declared.making.Making.TheVariants as make
@@ -16,17 +13,15 @@ use Rattle.pulsar_producer.specs.Batching.{is_sent_send}
 use Rattle.pulsar_producer.specs.Plans as produce
 use Rattle.pulsar_producer.specs.declared.batching.Batching.TheVariants as batch
 use Rattle.pulsar_producer.specs.declared.batching.Goes.{Goes}
-use Rattle.pulsar_producer.proofs.Arcs.{StepSo, send_arcs}
-use Rattle.pulsar_consumer.specs.Plans as consume
-use Rattle.pulsar_plans.specs.Plan.{goes_on_sending, halted, sends_stay}
+use Rattle.pulsar_plans.specs.Plan.{goes_on_sending, halted}
 use Rattle.pulsar_plans.specs.declared.plan.Plan.TheVariants.{Batching, Producing, Searching, Sending, Serving, Subscribing}
 use Rattle.pulsar_plans.proofs.Arcs.{Arc, BatchArc, Begun, StaysSo, batch_sends, batches_go, begins_by, begins_produce_asks, begins_produce_gets, begins_produce_waits, begins_search_asks, begins_search_gets, begins_search_waits, begins_subscribe_asks, begins_subscribe_gets, begins_subscribe_waits, builds_on, part_sends, recalled_resumes_asks, recalled_resumes_gets, recalled_resumes_waits, resumes_on_asks, resumes_on_gets, resumes_on_waits, search_rests, searches_asks, searches_gets, searches_waits, sends as sends_on, serving_rests, stays_by, subscribed_numbers, subscribed_rests, subscribes_on_asks, subscribes_on_gets, subscribes_on_waits, subscribing_rests}
-use Rattle.pulsar_laws.proofs.Cases.{cond_so, none_some}
+use Rattle.pulsar_laws.proofs.Cases.{cond_so}
 use Rattle.pulsar_laws.proofs.calls.Same.{same_self}
 use Rattle.pulsar_laws.proofs.plans.Retried.{Any, apart_none, begins_look, BuildBehind, build_on, Moved, names_begin, ResumeBehind, resume_on, search_begin, search_on, send_on, SomeSo, StageSo, stays_on, subscribe_on, Turns}
 use Rattle.pulsar_laws.proofs.plans.Standing.{moves, run_older, stands_so}
 use Rattle.pulsar_laws.proofs.plans.Waiting.{delay_by, stands_by, ways_at}
-use Rattle.pulsar_laws.specs.AgainLaws.{AgainWhileAllowed, Counts, InCount, InLook, InMaking, Looks, Makes, Operation, Resting, Stage, batched_at, built_at, comes_to, goes_at, goes_in, named_at, progress, resumed_at, retries, searched_at, sent_at, served_at, stage, subscribed_at}
+use Rattle.pulsar_laws.specs.AgainLaws.{AgainWhileAllowed, Counts, InCount, InLook, InMaking, Looks, Makes, Operation, Resting, Stage, batched_at, comes_to, goes_at, goes_in, named_at, progress, resumed_at, retries, searched_at, sent_at, served_at, stage, subscribed_at}
 use Rattle.pulsar_laws.specs.RetryLaws.{MayRetry}
 
 abbrev pub Under : Option Ways → Operation → Option Stage → ℕ → Type 0
@@ -192,7 +187,7 @@ again_while_allowed_lem o log who x before run rests is = by ((view o log).stand
         at (Some s) f h =
             let (w, ways) = staged q s f in
             let so : SomeSo w x (Some s) (retries o who x log) = subst (λ st. SomeSo w x st (retries o who x log)) f
-                (subst (λ row. Under row x (stage q) (retries o who x log)) ways (counts_so x o who log q run e)) in
+            (subst (λ row. Under row x (stage q) (retries o who x log)) ways (counts_so x o who log q run e)) in
             let (j, k, m) = stage_rests w x s (retries o who x log) so h in
             let same : j ≡ before = omega (arith, k, is) in
             subst (λ m. MayRetry m before) (delay_by o w (stands_by o log who q w run e ways)).1 (subst (MayRetry w.max_retries) same m)

@@ -208,7 +208,7 @@ numbers_are_free_lem o log n run h =
           let same : next_free ps ≡ n = cc in
           let at_least : ps.next ≤ next_free ps = free_least ps.named ps.next in (
             λ lt. (let low : IsLow ps = low_run o log lt in
-            subst (λ m. list_any (λ k. k == m) ps.named ≡ false) same (is_free ps.named ps.next low.1 low.0 s)),
+                subst (λ m. list_any (λ k. k == m) ps.named ≡ false) same (is_free ps.named ps.next low.1 low.0 s)),
             no_row (ps.topics n) (λ row e.
                 let k = here (Drawn o) log (drawn_run o log run) in
                 let b : n < ps.next = k.below n _ (k.topics n row e).0 in

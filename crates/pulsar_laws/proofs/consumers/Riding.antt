@@ -384,7 +384,8 @@ module _ (o : Options) (log : List Entry) (t : ℕ) where
       none false = tame_none m.seen
 
       on_row : (row : Option Seat) → (view o log).links.live l ≡ row → (t == ticket_of who) ≡ true →
-          Tame (deeds_do (cond (t == ticket_of who) (Revived l (url_at ((view o log).links.live l)) ∷ []) []) m) m.seen ⊎ Revives (Does who (OfConsumer (Revive l)))
+          Tame (deeds_do (cond (t == ticket_of who) (Revived l (url_at ((view o log).links.live l)) ∷ []) []) m) m.seen
+          ⊎ Revives (Does who (OfConsumer (Revive l)))
       on_row None f e =
           inl (subst (λ r. Tame (deeds_do (cond (t == ticket_of who) (Revived l (url_at r) ∷ []) []) m) m.seen) (sym f) (none (t == ticket_of who)))
       on_row (Some seat) f e = inr (who, l, refl, (λ i. e i && is_some (f i)))

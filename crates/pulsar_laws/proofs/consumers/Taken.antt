@@ -227,7 +227,8 @@ module _ (once : EndsOnce) (o : Options) (log : List Entry) (t : ℕ) (k : Every
           ap (λ y. first_due (seen y (done_to o t log)).engine.live) (sym same) ∙ ap (λ y. first_due y.engine.live) (sym c.2)
           ∙ flow_none m (ap flow_at (sym is) ∙ none) in
           let a : asked_since s (does_to v t m (Does w (OfConsumer TakeFlow)) ++ done_to o t log) ≡ asked_since s (done_to o t log) + 0 =
-          ap (λ b. asked_since s (deeds_do (cond b (FlowTaken ∷ []) []) m ++ done_to o t log)) d ∙ ap (λ y. asked_since s (done_to o t log) + unwrap_or y 0) due in
+          ap (λ b. asked_since s (deeds_do (cond b (FlowTaken ∷ []) []) m ++ done_to o t log)) d
+          ∙ ap (λ y. asked_since s (done_to o t log) + unwrap_or y 0) due in
           omega (arith, le, a)
 
       by : (n u : ℕ) → w ≡ Consumer n u → t ≡ u → (row : Option (ℕ × ℕ)) → flow_at (v.consumers.rows t) ≡ row → Goal (Does w (OfConsumer TakeFlow)) s m
@@ -339,7 +340,8 @@ module _ (once : EndsOnce) (o : Options) (log : List Entry) (t : ℕ) (k : Every
   kept_settled (Does who (OfConsumer TakeFlow)) l s m n run from is made seen_so on = elim (cases_Bool (t == ticket_of who)) [
     | inl d ↦ took_settled who l s m run from is made d
     | inr d ↦
-        quiet_settled (Does who (OfConsumer TakeFlow)) l s m from is made (λ w i e f. absurd cc) (ap (λ b. takes_in (deeds_do (cond b (FlowTaken ∷ []) []) m)) d) refl
+        quiet_settled (Does who (OfConsumer TakeFlow)) l s m from is made (λ w i e f. absurd cc)
+        (ap (λ b. takes_in (deeds_do (cond b (FlowTaken ∷ []) []) m)) d) refl
         (never (Does who (OfConsumer TakeFlow)) run refl)
   ]
   kept_settled (Does who (OfConsumer (Revive j))) l s m n run from is made seen_so on = elim (cases_Bool (t == ticket_of who && is_some (v.links.live j))) [
@@ -359,10 +361,12 @@ module _ (once : EndsOnce) (o : Options) (log : List Entry) (t : ℕ) (k : Every
       revivers : {w : Who} {i : ℕ} → Does who (OfConsumer (Revive j)) ≡ Does w (OfConsumer (Revive i)) → who ≡ w
       revivers {w} {i} e = cc
   kept_settled (Does who (OfConsumer (FailConsumer f))) l s m n run from is made seen_so on =
-      quiet_settled (Does who (OfConsumer (FailConsumer f))) l s m from is made (λ w i e g. absurd cc) (other_takes v t (Does who (OfConsumer (FailConsumer f))) refl m) refl
+      quiet_settled (Does who (OfConsumer (FailConsumer f))) l s m from is made (λ w i e g. absurd cc)
+      (other_takes v t (Does who (OfConsumer (FailConsumer f))) refl m) refl
       (never (Does who (OfConsumer (FailConsumer f))) run refl)
   kept_settled (Does who StopAll) l s m n run from is made seen_so on =
-      quiet_settled (Does who StopAll) l s m from is made (λ w i e f. absurd cc) (other_takes v t (Does who StopAll) refl m) refl (never (Does who StopAll) run refl)
+      quiet_settled (Does who StopAll) l s m from is made (λ w i e f. absurd cc) (other_takes v t (Does who StopAll) refl m) refl
+      (never (Does who StopAll) run refl)
   kept_settled a l s m n run from is made seen_so on =
       quiet_settled a l s m from is made (λ w i e f. absurd cc) (other_takes v t a refl m) refl (never a run refl)
 

@@ -112,7 +112,8 @@ module _ (once : EndsOnce) (o : Options) (log : List Entry) (t : ℕ) (was : Ten
             sym (ap (λ (s : Seen). s.number) seen ∙ applied_number (does_to (view o older) t m (Does who (OfConsumer (Revive l)))) m.seen) in
             let own : (t == t) ≡ true = eq-eqb t t refl in
             let d : is_due (applied (deeds_do (Revived l (url_at ((view o older).links.live l)) ∷ []) m) m.seen) ≡ true =
-            sym (ap (λ b. is_due (applied (deeds_do (cond b (Revived l (url_at ((view o older).links.live l)) ∷ []) []) m) m.seen)) own) ∙ sym (ap is_due seen) ∙ due in
+            sym (ap (λ b. is_due (applied (deeds_do (cond b (Revived l (url_at ((view o older).links.live l)) ∷ []) []) m) m.seen)) own)
+            ∙ sym (ap is_due seen) ∙ due in
             subst (λ k. Tells o k t (Then (Does who (OfConsumer (Revive l))) ∷ older)) number
             (arises (due_to_plan m.seen.number t) o (Then (Does who (OfConsumer (Revive l)))) older (revived_due o older t m e who l own d))
 

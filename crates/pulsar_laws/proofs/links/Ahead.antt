@@ -521,7 +521,9 @@ module _ (l : ℕ) (bytes : List ℕ) (v : View) where
   after_same (Answers who verdict) h =
       after_by l bytes bytes v (Answers who verdict) (λ k. refl) refl refl
       (ap
-      (λ m. record (consumers_left who (consumers_listed who verdict.makes v.consumers)) { rows = λ t. row_after member_by (member_of m who t) false [] (v.consumers.rows t) })
+      (λ m. record (consumers_left who (consumers_listed who verdict.makes v.consumers)) {
+        rows = λ t. row_after member_by (member_of m who t) false [] (v.consumers.rows t);
+      })
       (made_so verdict.makes)) refl
   after_same (Dials p starter retries) h =
       after_by l bytes bytes v (Dials p starter retries)

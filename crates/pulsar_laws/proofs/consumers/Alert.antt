@@ -171,7 +171,8 @@ module _ (o : Options) (log : List Entry) (t : ℕ) where
       old e = absurd (none_some (sym none ∙ e))
 
       joined_by : (who : Who) (j : Joining) → IsRun o (Then (Answers who verdict) ∷ log) → verdict.makes ≡ makes.Consumer j →
-          row_made (Some (member_on v.links.live j.link (setup_of j))) who t (v.consumers.rows t) ≡ Some m → Starting o (Then (Answers who verdict) ∷ log) m.seen.number t
+          row_made (Some (member_on v.links.live j.link (setup_of j))) who t (v.consumers.rows t) ≡ Some m →
+          Starting o (Then (Answers who verdict) ∷ log) m.seen.number t
       joined_by (Call u) j run made e = elim (cases_Bool (t == u)) [
         | inl d ↦
             (let same : Some (member_on v.links.live j.link (setup_of j)) ≡ Some m = rw d at e in

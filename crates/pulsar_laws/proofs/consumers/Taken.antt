@@ -101,8 +101,7 @@ Pending o log t =
 -- what comes next then
 abbrev Follows : Options → List Entry → (ticket : ℕ) → Act → Type 0
 Follows o log t a =
-    ((n l p : ℕ) × (older : List Entry) × (flow_at ((view o older).consumers.rows t) ≡ Some (l, p))
-        × (log ≡ Then (Does (Consumer n t) (OfConsumer TakeFlow)) ∷ older)
+    ((n l p : ℕ) × (older : List Entry) × (flow_at ((view o older).consumers.rows t) ≡ Some (l, p)) × (log ≡ Then (Does (Consumer n t) (OfConsumer TakeFlow)) ∷ older)
     × (a ≡ Told (notice (Consumer n t) (outcome.Word (word.Flow l p)))))
     ⊎ ((n l p : ℕ) × (a ≡ Does (Consumer n t) (Ask l (words.SendFlow n p))))
 
@@ -113,8 +112,7 @@ follows_next o log t run a fits (n, l, p, older, flow, inl is) =
     let x = (flows_are_asked_lem o older n t l p r flow).0 in
     (Told (notice (Consumer n t) (outcome.Word (word.Flow l p))), sym fits ∙ ap (λ y. first (agenda o y)) is ∙ x, inl (n, l, p, older, flow, is, refl))
 follows_next o log t run a fits (n, l, p, older, flow, inr is) =
-    let r : IsRun o (Then (Told (notice (Consumer n t) (outcome.Word (word.Flow l p)))) ∷ Then (Does (Consumer n t) (OfConsumer TakeFlow)) ∷ older) = subst
-        (IsRun o) is run
+    let r : IsRun o (Then (Told (notice (Consumer n t) (outcome.Word (word.Flow l p)))) ∷ Then (Does (Consumer n t) (OfConsumer TakeFlow)) ∷ older) = subst (IsRun o) is run
     in
     let x = (flows_are_asked_lem o older n t l p r.0 flow).1 in
     (Does (Consumer n t) (Ask l (words.SendFlow n p)), sym fits ∙ ap (λ y. first (agenda o y)) is ∙ x, inr (n, l, p, refl))
@@ -135,8 +133,7 @@ module _ (once : EndsOnce) (o : Options) (log : List Entry) (n t l m p : ℕ) (r
     -- a flow that is asked for is the one that was taken
     asked_settled : Every (Settled o t) log → (s : Setup) → made_with t log ≡ Some s → asked_since s (done_to o t log) ≤ permits_of (flows_since o t log) + p
     asked_settled k s made =
-        let r : IsRun o (Then (Told (told_so once o log n t l m p run.0 x)) ∷ Then (Does (Consumer n t) (OfConsumer TakeFlow)) ∷ x.older) = subst
-            (IsRun o) x.is_behind run.0
+        let r : IsRun o (Then (Told (told_so once o log n t l m p run.0 x)) ∷ Then (Does (Consumer n t) (OfConsumer TakeFlow)) ∷ x.older) = subst (IsRun o) x.is_behind run.0
         in
         let e : Every (Settled o t) (Then (Told (told_so once o log n t l m p run.0 x)) ∷ Then (Does (Consumer n t) (OfConsumer TakeFlow)) ∷ x.older) = subst
         (Every (Settled o t)) x.is_behind k in
@@ -215,8 +212,7 @@ module _ (once : EndsOnce) (o : Options) (log : List Entry) (t : ℕ) (k : Every
   never a run h pending = absurd (not_step o log t a h (pending_next o log t a run pending))
 
   -- one is taken
-  took_settled : (w : Who) (l : ℕ) (s : Setup) (m : Member) → IsRun o (Then (Does w (OfConsumer TakeFlow)) ∷ log) →
-      LinkFrom o log (Does w (OfConsumer TakeFlow)) t l →
+  took_settled : (w : Who) (l : ℕ) (s : Setup) (m : Member) → IsRun o (Then (Does w (OfConsumer TakeFlow)) ∷ log) → LinkFrom o log (Does w (OfConsumer TakeFlow)) t l →
       v.consumers.rows t ≡ Some m → made_with t log ≡ Some s → (t == ticket_of w) ≡ true → Goal (Does w (OfConsumer TakeFlow)) s m
   took_settled w l s m run from is made d =
       let x = flow_takers o log w run in
@@ -232,7 +228,7 @@ module _ (once : EndsOnce) (o : Options) (log : List Entry) (t : ℕ) (k : Every
           ∙ flow_none m (ap flow_at (sym is) ∙ none) in
           let a : asked_since s (does_to v t m (Does w (OfConsumer TakeFlow)) ++ done_to o t log) ≡ asked_since s (done_to o t log) + 0 =
           ap (λ b. asked_since s (deeds_do (cond b (FlowTaken ∷ []) []) m ++ done_to o t log)) d
-              ∙ ap (λ y. asked_since s (done_to o t log) + unwrap_or y 0) due in
+          ∙ ap (λ y. asked_since s (done_to o t log) + unwrap_or y 0) due in
           omega (arith, le, a)
 
       by : (n u : ℕ) → w ≡ Consumer n u → t ≡ u → (row : Option (ℕ × ℕ)) → flow_at (v.consumers.rows t) ≡ row → Goal (Does w (OfConsumer TakeFlow)) s m
@@ -344,8 +340,8 @@ module _ (once : EndsOnce) (o : Options) (log : List Entry) (t : ℕ) (k : Every
   kept_settled (Does who (OfConsumer TakeFlow)) l s m n run from is made seen_so on = elim (cases_Bool (t == ticket_of who)) [
     | inl d ↦ took_settled who l s m run from is made d
     | inr d ↦
-        quiet_settled (Does who (OfConsumer TakeFlow)) l s m from is made (λ w i e f. absurd cc) (ap (λ b. takes_in (deeds_do (cond b
-            (FlowTaken ∷ []) []) m)) d) refl
+        quiet_settled (Does who (OfConsumer TakeFlow)) l s m from is made (λ w i e f. absurd cc)
+        (ap (λ b. takes_in (deeds_do (cond b (FlowTaken ∷ []) []) m)) d) refl
         (never (Does who (OfConsumer TakeFlow)) run refl)
   ]
   kept_settled (Does who (OfConsumer (Revive j))) l s m n run from is made seen_so on = elim (cases_Bool (t == ticket_of who && is_some (v.links.live j))) [
@@ -365,12 +361,12 @@ module _ (once : EndsOnce) (o : Options) (log : List Entry) (t : ℕ) (k : Every
       revivers : {w : Who} {i : ℕ} → Does who (OfConsumer (Revive j)) ≡ Does w (OfConsumer (Revive i)) → who ≡ w
       revivers {w} {i} e = cc
   kept_settled (Does who (OfConsumer (FailConsumer f))) l s m n run from is made seen_so on =
-      quiet_settled (Does who (OfConsumer (FailConsumer f))) l s m from is made (λ w i e g. absurd cc) (other_takes v t (Does who (OfConsumer
-          (FailConsumer f))) refl m) refl
+      quiet_settled (Does who (OfConsumer (FailConsumer f))) l s m from is made (λ w i e g. absurd cc)
+      (other_takes v t (Does who (OfConsumer (FailConsumer f))) refl m) refl
       (never (Does who (OfConsumer (FailConsumer f))) run refl)
   kept_settled (Does who StopAll) l s m n run from is made seen_so on =
-      quiet_settled (Does who StopAll) l s m from is made (λ w i e f. absurd cc) (other_takes v t (Does who StopAll) refl m) refl (never
-          (Does who StopAll) run refl)
+      quiet_settled (Does who StopAll) l s m from is made (λ w i e f. absurd cc) (other_takes v t (Does who StopAll) refl m) refl
+      (never (Does who StopAll) run refl)
   kept_settled a l s m n run from is made seen_so on =
       quiet_settled a l s m from is made (λ w i e f. absurd cc) (other_takes v t a refl m) refl (never a run refl)
 

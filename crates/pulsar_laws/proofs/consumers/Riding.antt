@@ -28,6 +28,7 @@ use Rattle.pulsar_laws.proofs.consumers.Lone.{IsKept, IsMade, IsNone, RowFrom, a
 use Rattle.pulsar_laws.proofs.consumers.Members.{CameFrom}
 use Rattle.pulsar_laws.proofs.links.Ready.{IsAt, IsReady, WasReady, more_ready}
 use Rattle.pulsar_laws.proofs.consumers.Reached.{makes_ready, revives_ready}
+use Rattle.pulsar_laws.proofs.links.Rows.{after_holds as after_links, begun_holds as begun_links}
 
 -- WHAT ACTS MAKE OF THE LINK OF A CONSUMER
 
@@ -183,51 +184,15 @@ subscription_link l (Some seat) s k h = elim (lives_link l seat.address.url s k 
 abbrev IsLive : View → ℕ → Type 0
 IsLive v k = is_some (v.links.live k) ≡ true
 
-either_some : (b : Bool) (x y : Option Seat) → (b ≡ true → is_some x ≡ true) → (b ≡ false → is_some y ≡ true) → is_some (cond b x y) ≡ true
-either_some true x y p q = p refl
-either_some false x y p q = q refl
-
-map_some : (f : Seat → Seat) (row : Option Seat) → is_some row ≡ true → is_some (option_map f row) ≡ true
-map_some f None h = h
-map_some f (Some seat) h = refl
-
-got_some : (got : Option ℕ) (now l : ℕ) (row : Option Seat) → is_some row ≡ true → is_some (got_at got now l row) ≡ true
-got_some None now l row h = h
-got_some (Some k) now l row h = either_some (l == k) (option_map (seat_got now) row) row (λ e. map_some (seat_got now) row h) (λ e. h)
-
-took_some_is : (x : LinkAct) (now : ℕ) (row : Option Seat) → ((end : End) → x ≡ Ends end → closing end now row ≡ None) → is_some row ≡ true →
-    is_some (took_some x now row) ≡ true
-took_some_is x now None lasts h = h
-took_some_is (Ends end) now (Some seat) lasts h = by (closed_by end now seat.seen) (lasts end refl)
-  where
-    by : (c : Option Fault) → c ≡ None → is_some (took_end c seat) ≡ true
-    by None e = refl
-    by (Some cause) e = absurd cc
-took_some_is Opens now (Some seat) lasts h = refl
-took_some_is Reads now (Some seat) lasts h = refl
-took_some_is (Drains most) now (Some seat) lasts h = refl
-took_some_is Pings now (Some seat) lasts h = refl
-
 -- but where it ends
 stays_live : (v : View) (a : Act) (k : ℕ) → ((end : End) → a ≡ Comes (ToLink k (Ends end)) → closing end v.now (v.links.live k) ≡ None) → IsLive v k →
     IsLive (after a v) k
-stays_live v (Comes (ToLink l x)) k lasts h =
-    either_some (k == l) (took_some x v.now (v.links.live k)) (v.links.live k)
-    (λ e. took_some_is x v.now (v.links.live k) (λ end is. lasts end (λ i. Comes (ToLink (sym (eqb-true k l e) i) (is i)))) h) (λ e. h)
-stays_live v (Does who (Get p)) k lasts h = got_some (link_got v.addresses (Does who (Get p))) v.now k (v.links.live k) h
-stays_live v (Does who (Ask l request)) k lasts h =
-    either_some (k == l) (option_map (seat_asked who v.now request) (v.links.live k)) (v.links.live k)
-    (λ e. map_some (seat_asked who v.now request) (v.links.live k) h) (λ e. h)
-stays_live v (Dials p starter n) k lasts h = either_some (k == v.links.started) _ (v.links.live k) (λ e. refl) (λ e. h)
-stays_live v a k lasts h = h
-
-heard_live : (e : Heard) (l : ℕ) (row : Option Seat) → is_some row ≡ true → is_some (live_begun e l row) ≡ true
-heard_live (Bytes k piece) l row h = either_some (l == k) (option_map (seat_fed piece) row) row (λ e. map_some (seat_fed piece) row h) (λ e. h)
-heard_live e l row h = h
+stays_live v a k lasts h =
+    after_links (λ row. is_some row ≡ true) v k a (λ seat d. refl)
+    (λ end. (let f : false ≡ true = sym (ap is_some (lasts end.end end.is_act)) ∙ end.closes in absurd cc)) (λ d c seat at s. refl) h
 
 begun_stays : (e : Heard) (v : View) (k : ℕ) → IsLive v k → IsLive (begun e v) k
-begun_stays e v k h =
-    elim (is_live v e) as (λ b. IsLive (cond b (begun_live e v) v) k) [ true ↦ heard_live e k (v.links.live k) h | false ↦ h ]
+begun_stays e v k h = begun_links (λ row. is_some row ≡ true) v k e (λ piece is seat at s. refl) h
 
 -- HOW IT WAS MADE stays
 
@@ -396,7 +361,8 @@ module _ (o : Options) (log : List Entry) (t : ℕ) where
       ended_rides o log (Comes (ToLink l (Ends end))) t m n was is l end (closing end (view o log).now ((view o log).links.live l)) refl refl
       (append-nil (loss_does l (closing end (view o log).now ((view o log).links.live l))))
   kept_by (Does who (OfConsumer (Revive l))) m n run was is =
-      again_rides o log (Does who (OfConsumer (Revive l))) t m n was is l (revives_ready o log who l run) (λ end k at. absurd cc) (λ k h. by (t == ticket_of who) k h)
+      again_rides o log (Does who (OfConsumer (Revive l))) t m n was is l (revives_ready o log who l run) (λ end k at. absurd cc) (λ k h. by
+          (t == ticket_of who) k h)
     where
       by : (b : Bool) (k : ℕ) → link_of (applied (deeds_do (cond b (Revived l (url_at ((view o log).links.live l)) ∷ []) []) m) m.seen) ≡ Some k →
           (link_of m.seen ≡ Some k) ⊎ ((k ≡ l) × IsLive (view o log) l)

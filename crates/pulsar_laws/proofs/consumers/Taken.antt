@@ -101,7 +101,8 @@ Pending o log t =
 -- what comes next then
 abbrev Follows : Options → List Entry → (ticket : ℕ) → Act → Type 0
 Follows o log t a =
-    ((n l p : ℕ) × (older : List Entry) × (flow_at ((view o older).consumers.rows t) ≡ Some (l, p)) × (log ≡ Then (Does (Consumer n t) (OfConsumer TakeFlow)) ∷ older)
+    ((n l p : ℕ) × (older : List Entry) × (flow_at ((view o older).consumers.rows t) ≡ Some (l, p))
+        × (log ≡ Then (Does (Consumer n t) (OfConsumer TakeFlow)) ∷ older)
     × (a ≡ Told (notice (Consumer n t) (outcome.Word (word.Flow l p)))))
     ⊎ ((n l p : ℕ) × (a ≡ Does (Consumer n t) (Ask l (words.SendFlow n p))))
 
@@ -112,7 +113,8 @@ follows_next o log t run a fits (n, l, p, older, flow, inl is) =
     let x = (flows_are_asked_lem o older n t l p r flow).0 in
     (Told (notice (Consumer n t) (outcome.Word (word.Flow l p))), sym fits ∙ ap (λ y. first (agenda o y)) is ∙ x, inl (n, l, p, older, flow, is, refl))
 follows_next o log t run a fits (n, l, p, older, flow, inr is) =
-    let r : IsRun o (Then (Told (notice (Consumer n t) (outcome.Word (word.Flow l p)))) ∷ Then (Does (Consumer n t) (OfConsumer TakeFlow)) ∷ older) = subst (IsRun o) is run
+    let r : IsRun o (Then (Told (notice (Consumer n t) (outcome.Word (word.Flow l p)))) ∷ Then (Does (Consumer n t) (OfConsumer TakeFlow)) ∷ older) = subst
+        (IsRun o) is run
     in
     let x = (flows_are_asked_lem o older n t l p r.0 flow).1 in
     (Does (Consumer n t) (Ask l (words.SendFlow n p)), sym fits ∙ ap (λ y. first (agenda o y)) is ∙ x, inr (n, l, p, refl))
@@ -133,7 +135,8 @@ module _ (once : EndsOnce) (o : Options) (log : List Entry) (n t l m p : ℕ) (r
     -- a flow that is asked for is the one that was taken
     asked_settled : Every (Settled o t) log → (s : Setup) → made_with t log ≡ Some s → asked_since s (done_to o t log) ≤ permits_of (flows_since o t log) + p
     asked_settled k s made =
-        let r : IsRun o (Then (Told (told_so once o log n t l m p run.0 x)) ∷ Then (Does (Consumer n t) (OfConsumer TakeFlow)) ∷ x.older) = subst (IsRun o) x.is_behind run.0
+        let r : IsRun o (Then (Told (told_so once o log n t l m p run.0 x)) ∷ Then (Does (Consumer n t) (OfConsumer TakeFlow)) ∷ x.older) = subst
+            (IsRun o) x.is_behind run.0
         in
         let e : Every (Settled o t) (Then (Told (told_so once o log n t l m p run.0 x)) ∷ Then (Does (Consumer n t) (OfConsumer TakeFlow)) ∷ x.older) = subst
         (Every (Settled o t)) x.is_behind k in
@@ -212,7 +215,8 @@ module _ (once : EndsOnce) (o : Options) (log : List Entry) (t : ℕ) (k : Every
   never a run h pending = absurd (not_step o log t a h (pending_next o log t a run pending))
 
   -- one is taken
-  took_settled : (w : Who) (l : ℕ) (s : Setup) (m : Member) → IsRun o (Then (Does w (OfConsumer TakeFlow)) ∷ log) → LinkFrom o log (Does w (OfConsumer TakeFlow)) t l →
+  took_settled : (w : Who) (l : ℕ) (s : Setup) (m : Member) → IsRun o (Then (Does w (OfConsumer TakeFlow)) ∷ log) →
+      LinkFrom o log (Does w (OfConsumer TakeFlow)) t l →
       v.consumers.rows t ≡ Some m → made_with t log ≡ Some s → (t == ticket_of w) ≡ true → Goal (Does w (OfConsumer TakeFlow)) s m
   took_settled w l s m run from is made d =
       let x = flow_takers o log w run in

@@ -35,11 +35,12 @@ use Rattle.pulsar_run.specs.Things.{row_after, row_by}
 use Rattle.pulsar_acts.specs.Effects.{effects, retries_on}
 use Rattle.pulsar_acts.specs.Reading.{made_due, tells}
 use Rattle.pulsar_acts.specs.Rules.{breaks_at, failed_on, idle_act, keeps_alive, reads_on, served_on, waiters_of}
-use Rattle.pulsar_acts.specs.View.{addresses_after, alarms_after, alarms_on, base_on, calls_after, consumers_after, consumers_left, consumers_listed, live_after, member_made, member_of, pause_for, pause_on, producers_after, room_on, stand_after, started_after}
+use Rattle.pulsar_acts.specs.View.{addresses_after, alarms_after, alarms_on, base_on, calls_after, consumers_after, consumers_left, consumers_listed, member_made, member_of, pause_for, pause_on, producers_after, room_on, stand_after, started_after}
 use Rattle.pulsar_consumer.specs.Topic.{of_raw}
 use Rattle.pulsar_consumer_table.specs.Consumers as consumer
 use Rattle.pulsar_consumer_table.specs.Consumers.{Revived, member_by, over_rows}
 use Rattle.pulsar_consumer_table.specs.Notices.{due_to, heard_at, lost_at, revived_at, word_to}
+use Rattle.pulsar_acts.proofs.Linking.{asked_is, dialed_is, got_row, took_is}
 
 -- an act that reads a link
 abbrev pub is_read : LinkAct → Bool
@@ -128,7 +129,8 @@ module _ (bytes : List ℕ) where
 
   -- A LINK
 
-  link_same : (x : LinkAct) (now : ℕ) (v : Seen) → is_read x ≡ false → ((end : End) → x ≡ Ends end → ⊥) → links.after x now (with v) ≡ with (links.after x now v)
+  link_same : (x : LinkAct) (now : ℕ) (v : Seen) → is_read x ≡ false → ((end : End) → x ≡ Ends end → ⊥) →
+      links.after x now (with v) ≡ with (links.after x now v)
   link_same Opens now v h e = opens_same v.stage (ticked now v)
   link_same Reads now v h e = absurd cc
   link_same (Drains most) now v h e = drained_same most (is_open v.stage) (ticked now v)
@@ -406,14 +408,8 @@ row_dialed held new true false r h = refl
 row_dialed held new false c r h = refl
 
 module _ (l : ℕ) (bytes later : List ℕ) (v : View) where
-  abbrev then : Act → ℕ → Option Seat → Option Seat
-  then a k r = live_after v.chosen v.addresses v.now v.links.started a k r
-
-  abbrev next : Act → ℕ → Option Seat
-  next a k = then a k (v.links.live k)
-
   pub after_by : (a : Act) →
-      ((k : ℕ) → then a k (row l bytes v k) ≡ cond (k == l) (option_map (holding later) (next a k)) (next a k)) →
+      ((k : ℕ) → (after a (other l bytes v)).links.live k ≡ (other l later (after a v)).links.live k) →
       addresses_after (other l bytes v) a ≡ addresses_after v a → alarms_after (other l bytes v) a ≡ alarms_after v a →
       consumers_after (other l bytes v) a ≡ consumers_after v a → producers_after (other l bytes v) a ≡ producers_after v a →
       after a (other l bytes v) ≡ other l later (after a v)
@@ -437,6 +433,9 @@ module _ (l : ℕ) (bytes : List ℕ) (v : View) where
   abbrev held' : Option Seat → Option Seat
   held' r = option_map (holding bytes) r
 
+  abbrev held_at : ℕ → Option Seat → Option Seat
+  held_at j r = cond (j == l) (held' r) r
+
   took_row : (x : LinkAct) (r : Option Seat) → is_read x ≡ false → took_some x v.now (held' r) ≡ held' (took_some x v.now r)
   took_row x None h = refl
   took_row x (Some seat) h = took_same bytes x v.now seat h
@@ -446,15 +445,15 @@ module _ (l : ℕ) (bytes : List ℕ) (v : View) where
   asked_row who request None = refl
   asked_row who request (Some seat) = ap Some (seat_same bytes who v.now request seat)
 
-  got_row : (r : Option Seat) → option_map (seat_got v.now) (held' r) ≡ held' (option_map (seat_got v.now) r)
-  got_row None = refl
-  got_row (Some seat) = refl
+  got_held : (r : Option Seat) → option_map (seat_got v.now) (held' r) ≡ held' (option_map (seat_got v.now) r)
+  got_held None = refl
+  got_held (Some seat) = refl
 
   got_rows : (link : Option ℕ) (k : ℕ) →
       got_at link v.now k (row l bytes v k)
       ≡ cond (k == l) (held' (got_at link v.now k (v.links.live k))) (got_at link v.now k (v.links.live k))
   got_rows None k = refl
-  got_rows (Some m) k = rows_move held' (option_map (seat_got v.now)) (k == m) (k == l) (v.links.live k) (λ p q. got_row (v.links.live k))
+  got_rows (Some m) k = rows_move held' (option_map (seat_got v.now)) (k == m) (k == l) (v.links.live k) (λ p q. got_held (v.links.live k))
 
   turned_same : (k : ℕ) (x : LinkAct) → apart l bytes v k x ≡ true → turned there (Comes (ToLink k x)) ≡ turned v (Comes (ToLink k x))
   turned_same k Reads h =
@@ -497,19 +496,25 @@ module _ (l : ℕ) (bytes : List ℕ) (v : View) where
   pub after_same : (a : Act) → fits l bytes v a ≡ true → after a there ≡ other l bytes (after a v)
   after_same (Comes (ToLink k x)) h =
       after_by l bytes bytes v (Comes (ToLink k x))
-      (λ j. rows_move held' (took_some x v.now) (j == k) (j == l) (v.links.live j)
-      (λ p q. took_row x (v.links.live j) (not_both k x h (both_here j k l p q))))
+      (λ j. took_is there k x j
+      ∙ rows_move held' (took_some x v.now) (j == k) (j == l) (v.links.live j)
+      (λ p q. took_row x (v.links.live j) (not_both k x h (both_here j k l p q)))
+      ∙ ap (held_at j) (sym (took_is v k x j)))
       (λ i. record {
         base = λ key. base_on (turned_same k x h i) key (v.addresses.base key);
         pause = λ m. pause_on (turned_same k x h i) m (v.addresses.pause m);
       }) (ap (λ t. alarms_on v.chosen v.now t v.alarms) (turned_same k x h)) (heard_same k x h) refl
   after_same (Does who (Ask k request)) h =
       after_by l bytes bytes v (Does who (Ask k request))
-      (λ j. rows_move held' (option_map (seat_asked who v.now request)) (j == k) (j == l) (v.links.live j) (λ p q. asked_row who request (v.links.live j)))
+      (λ j. asked_is there who k request j
+      ∙ rows_move held' (option_map (seat_asked who v.now request)) (j == k) (j == l) (v.links.live j) (λ p q. asked_row who request (v.links.live j))
+      ∙ ap (held_at j) (sym (asked_is v who k request j)))
       refl refl
       (ap (λ a. consumer.all_changed (consumer.closes (closed_consumer request) k (is_asked a)) v.consumers) (answer_same l bytes v k request)) refl
   after_same (Does who (Get p)) h =
-      after_by l bytes bytes v (Does who (Get p)) (got_rows (link_got v.addresses (Does who (Get p)))) refl refl refl refl
+      let link : Option ℕ = link_got v.addresses (Does who (Get p)) in
+      after_by l bytes bytes v (Does who (Get p))
+      (λ j. got_row link v.now j (row l bytes v j) ∙ got_rows link j ∙ ap (held_at j) (sym (got_row link v.now j (v.links.live j)))) refl refl refl refl
   after_same (Does who (OfTopic n Draw)) h =
       after_by l bytes bytes v (Does who (OfTopic n Draw)) (λ k. refl) refl refl refl
       (λ i. record v.producers { topics = λ m. row_by topic_after (cond (m == n) (drawn_by (room_same l bytes v n i)) []) (v.producers.topics m) })
@@ -527,8 +532,10 @@ module _ (l : ℕ) (bytes : List ℕ) (v : View) where
       (made_so verdict.makes)) refl
   after_same (Dials p starter retries) h =
       after_by l bytes bytes v (Dials p starter retries)
-      (λ j. row_dialed held' (Some (dialed v.chosen v.links.started v.now p)) (j == v.links.started) (j == l) (v.links.live j)
-      (λ a b. never (both_here j l v.links.started b a) h)) refl refl refl refl
+      (λ j. dialed_is there p starter retries j (row l bytes v j)
+      ∙ row_dialed held' (Some (dialed v.chosen v.links.started v.now p)) (j == v.links.started) (j == l) (v.links.live j)
+      (λ a b. never (both_here j l v.links.started b a) h)
+      ∙ ap (held_at j) (sym (dialed_is v p starter retries j (v.links.live j)))) refl refl refl refl
     where
       never : (l == v.links.started) ≡ true → not (l == v.links.started) ≡ true → ⊥
       never e f = by (l == v.links.started) e f

@@ -42,8 +42,6 @@ use Rattle.pulsar_calls.specs.declared.act.Who.{Who}
 use Rattle.pulsar_calls.specs.declared.act.Who.TheVariants.{Call, Producer}
 use Rattle.pulsar_calls.specs.declared.content.BuiltProducer.{BuiltProducer}
 use Rattle.pulsar_links.specs.declared.addresses.Pause.{Pause}
-use Rattle.pulsar_links.specs.declared.addresses.Series.{Series}
-use Rattle.pulsar_links.specs.declared.addresses.Series.TheVariants.{Nobody, Runs, Pauses, Serves}
 use Rattle.pulsar_plans.specs.declared.plan.Plan.{Plan}
 use Rattle.pulsar_exchange.specs.Request.{named_consumer, named_producer}
 use Rattle.pulsar_messages.specs.Content.{ProducerMessageValues}
@@ -58,11 +56,12 @@ use Rattle.pulsar_outgoing.specs.declared.content.Built.{Built}
 use Rattle.pulsar_producer.specs.News.{News}
 use Rattle.pulsar_outgoing.specs.declared.news.News.TheVariants as news
 use Rattle.pulsar_outgoing.specs.declared.orders.Errand.{Errand}
-use Rattle.pulsar_addresses.specs.Address.{Place, address_key, is_reachable}
+use Rattle.pulsar_addresses.specs.Address.{Place}
 use Rattle.pulsar_searches.specs.declared.plan.Sought.{Sought}
 use Rattle.pulsar_searches.specs.declared.plan.Sought.TheVariants as sought
 use Rattle.pulsar_searches.specs.declared.turn.Ways.{Ways}
 use Rattle.pulsar_links.specs.Alarms.{ringing, rings}
+use Rattle.pulsar_links.specs.Gets as of_address
 use Rattle.pulsar_calls.specs.Content as content
 use Rattle.pulsar_calls.specs.Content.{Asked as Asking, Heard, Called, Opened, FailedToOpen, Bytes, Lost as Loses, Drain, Ticked, Poll, lacks_tickets, shares}
 use Rattle.pulsar_links.specs.Links.{Change, Remains, Becomes, IsOver}
@@ -71,7 +70,7 @@ pub use Rattle.pulsar_producer_table.specs.Asks.{readied, ready_notice, turn_not
 use Rattle.pulsar_producer_table.specs.Notices.{stopped_all}
 use Rattle.pulsar_producer_table.specs.Producers.{Producers, advice, batches_in, errand_of, is_held, is_used as is_used_number, number_drawn, numbers_at, routed, stored_by, why_not}
 use Rattle.pulsar_calls.specs.Content.{next_advice}
-use Rattle.pulsar_acts.specs.View.{Tickets, Turned, View, asked_of, consumer_asked, is_live, link_given, may_call, told_some, turned, ways_of}
+use Rattle.pulsar_acts.specs.View.{Tickets, Turned, View, address_given, asked_of, consumer_asked, is_live, link_given, may_call, told_some, turned, ways_of}
 use Rattle.pulsar_machine.specs.Options.{Chosen, Options}
 use Rattle.pulsar_links.specs.Seats.{Addresses, Base, Links, Seat, arrival_at, later}
 use Rattle.pulsar_consumer_table.specs.Consumers as consumer
@@ -279,17 +278,6 @@ abbrev pub called : View → List (Option ℕ) → Asking → List Act
 called v advice asked =
     if lacks_tickets v.calls.drawn (shares asked) then Answers (Call (2 ^ 64 - 1)) (fails Exhausted) ∷ [] else starts v advice asked
 
--- A link of an address: a ready one serves at once, an attempt that runs or is to follow is waited for, else one is started. None is
--- found where the address cannot be reached.
-abbrev pub gets_from : Who → Place → Series → List Act
-gets_from who p Nobody = Dials p who 0 ∷ []
-gets_from who p (Runs starter retries link) = []
-gets_from who p (Pauses link) = []
-gets_from who p (Serves link) = tells who (outcome.GotLink link)
-
-abbrev pub gets : Who → Place → Series → List Act
-gets who p series = if is_reachable p then gets_from who p series else tells who outcome.NotFound
-
 -- WHAT PLANS ASK OF TOPIC PRODUCERS AND CONSUMERS is told at once, but for what is waited for.
 
 abbrev pub grants : Who → News → List Act
@@ -304,11 +292,15 @@ abbrev pub says_to : Who → Option Outcome → List Act
 says_to who None = []
 says_to who (Some u) = tells who u
 
+-- where nothing runs for an address an attempt begins
+abbrev pub gets : Who → Place → of_address.Given → List Act
+gets who p g = (if g.begins then Dials p who 0 ∷ [] else []) ++ says_to who g.says
+
 abbrev pub stops : Who → Links → List Act
 stops who ls = over_links stop_act ls ++ tells who outcome.Stopped
 
 abbrev pub performs : View → Who → Action → List Act
-performs v who (Get p) = gets who p (v.addresses.base (address_key p)).series
+performs v who (Get p) = gets who p (address_given v.addresses p)
 performs v who (Ask l request) = says_to who (link_given v who l request).says
 performs v who StopAll = stops who v.links
 performs v who (Wait delay) = []

@@ -2,7 +2,7 @@
 use Rattle.std.specs.Prelude.{ℕ, ◌+◌, ◌==◌, bytes_eq, nat_le, ◌&&◌, not, Bool, true, false, if◌then◌else◌, List, [], ◌∷◌, ◌++◌, Option, Some, None, ◌≡◌, ◌⊎◌}
 use Rattle.std.specs.List.{list_any}
 use Rattle.std.specs.Option.{is_some, option_map}
-use Rattle.pulsar_addresses.specs.Address.{Place, address_key, behind, is_reachable}
+use Rattle.pulsar_addresses.specs.Address.{Place, address_key, behind}
 use Rattle.pulsar_addresses.specs.Backoff.{backoff, connection_id, jitter}
 use Rattle.pulsar_addresses.specs.declared.options.OperationRetryOptions.{OperationRetryOptions}
 use Rattle.pulsar_searches.specs.declared.turn.Ways.{Ways}
@@ -34,10 +34,10 @@ use Rattle.pulsar_calls.specs.declared.act.Who.TheVariants as who
 use Rattle.pulsar_calls.specs.declared.content.Joining.{Joining}
 use Rattle.pulsar_links.specs.declared.addresses.Pause.{Pause}
 use Rattle.pulsar_links.specs.declared.addresses.Series.{Series}
-use Rattle.pulsar_links.specs.declared.addresses.Series.TheVariants.{Nobody, Runs, Pauses, Serves}
 use Rattle.pulsar_plans.specs.declared.plan.Plan.{Plan}
 use Rattle.pulsar_links.specs.Alarms.{clear, rings, set}
 use Rattle.pulsar_links.specs.Asks as of_link
+use Rattle.pulsar_links.specs.Gets as of_address
 use Rattle.pulsar_links.specs.Asks.{IsFed, comes_by, got_by, is_end, seat_by}
 use Rattle.pulsar_calls.specs.Content as content
 use Rattle.pulsar_calls.specs.Content.{Heard, Called, Opened, FailedToOpen, Bytes, Drain, Ticked, Poll, lacks_tickets, shares}
@@ -57,7 +57,7 @@ use Rattle.pulsar_consumer_table.specs.Consumers.{Arrives, ClientStops, CloseAsk
 use Rattle.pulsar_consumer.specs.Topic as reader
 use Rattle.pulsar_consumer.specs.Topic.{of_raw}
 use Rattle.pulsar_calls.specs.Who.{is_same, rank, ticket_of, turn_of}
-use Rattle.pulsar_links.specs.Seats.{Seat, Links, Base, nobody, Addresses, later, seat_of_fresh, arrival_at, closing, is_busy, answer_at, is_asked, may_retry, pause_with, base_turned, base_dialed, is_for, pause_put, url_at, room_at}
+use Rattle.pulsar_links.specs.Seats.{Seat, Links, Base, base_waiting, nobody, Addresses, later, seat_of_fresh, arrival_at, closing, is_busy, answer_at, is_asked, may_retry, pause_with, base_turned, base_dialed, is_for, pause_put, url_at, room_at}
 use Rattle.pulsar_machine.specs.Options.{Chosen, Options}
 use Rattle.pulsar_searches.specs.declared.transition.Transition.TheVariants.{Stays, Gives}
 use Rattle.pulsar_plans.specs.Transitions.{PlanTransition}
@@ -222,17 +222,9 @@ setup o link now p =
 abbrev pub dialed : Chosen → (link now : ℕ) → Place → Seat
 dialed o link now p = seat_of_fresh p now (session.fresh (setup o link now p))
 
--- the link that serves an address, where one does
-abbrev pub serving : Series → Option ℕ
-serving Nobody = None
-serving (Runs starter retries link) = None
-serving (Pauses link) = None
-serving (Serves link) = Some link
-
--- the link that one who wants a link of an address gets at once
-abbrev pub link_got : Addresses → Act → Option ℕ
-link_got known (Does who (Get p)) = if is_reachable p then serving (known.base (address_key p)).series else None
-link_got known _ = None
+-- what one who wants a link of an address gives
+abbrev pub address_given : Addresses → Place → of_address.Given
+address_given known p = of_address.given p (known.base (address_key p)).series
 
 -- what a plan asks of it gives
 abbrev pub link_given : View → Who → (link : ℕ) → Words → of_link.Given
@@ -241,7 +233,7 @@ link_given v who l request = of_link.given (record { who = who; now = v.now }) r
 -- what an act does to the one of a number
 abbrev pub link_acts : View → (link : ℕ) → Act → List of_link.Deed
 link_acts v l (Comes (ToLink k x)) = if l == k then comes_by x v.now (v.links.live l) else []
-link_acts v l (Does who (Get p)) = got_by l (link_got v.addresses (Does who (Get p))) v.now
+link_acts v l (Does who (Get p)) = got_by l (address_given v.addresses p).gets v.now
 link_acts v l (Does who (Ask k request)) = if l == k then (link_given v who k request).acts else []
 link_acts v l _ = []
 
@@ -304,16 +296,9 @@ abbrev pub base_on : Option Turned → (key : List ℕ) → Base → Base
 base_on None key b = b
 base_on (Some t) key b = if bytes_eq t.key key then base_turned t.link t.change t.pause b else b
 
--- one that gets a link of an address waits, unless it is served at once
-abbrev pub waits_for : Series → Who → List Who → List Who
-waits_for Nobody who ws = ws ++ who ∷ []
-waits_for (Runs starter retries link) who ws = ws ++ who ∷ []
-waits_for (Pauses link) who ws = ws ++ who ∷ []
-waits_for (Serves link) who ws = ws
-
-abbrev pub base_got : Who → Place → (key : List ℕ) → Base → Base
-base_got who p key b =
-    if is_reachable p && bytes_eq (address_key p) key then record { series = b.series; waiting = waits_for b.series who b.waiting } else b
+-- one that wants a link of an address may wait for it
+abbrev pub base_got : Who → Place → of_address.Given → (key : List ℕ) → Base → Base
+base_got who p g key b = if g.waits && bytes_eq (address_key p) key then base_waiting who b else b
 
 abbrev pub is_to_follow : Addresses → (key : List ℕ) → Alarm → Bool
 is_to_follow known key (Retry l) = is_for key (known.pause l)
@@ -327,7 +312,7 @@ waits_on known alarms key = list_any (λ e. is_to_follow known key e.0) alarms
 
 abbrev pub base_after : View → Act → (key : List ℕ) → Base → Base
 base_after v (Comes (ToLink l x)) key b = base_on (turned v (Comes (ToLink l x))) key b
-base_after v (Does who (Get p)) key b = base_got who p key b
+base_after v (Does who (Get p)) key b = base_got who p (address_given v.addresses p) key b
 base_after v (Does who StopAll) key b = if waits_on v.addresses v.alarms key then nobody else b
 base_after v (Dials p starter retries) key b = base_dialed v.links.started p starter retries key b
 base_after v _ key b = b

@@ -120,7 +120,7 @@ some_raised a who (Some turn) d e = follows_raised a who turn d e
 
 -- ACTIONS
 
-from_raised : (who : Who) (p : Place) (s : Series) → Each (IsRaised (Does who (Get p))) (gets_from who p s)
+from_raised : (who : Who) (p : Place) (s : Series) → Each (IsRaised (Does who (Get p))) (gets who p (given_from s))
 from_raised who p Nobody = (refl, tt)
 from_raised who p (Runs starter retries l) = tt
 from_raised who p (Pauses l) = tt
@@ -133,7 +133,10 @@ says_raised who action (Some u) = (refl, tt)
 performs_raised : (v : View) (who : Who) (action : Action) → Each (IsRaised (Does who action)) (performs v who action)
 performs_raised v who (Get p) =
     let s : Series = (v.addresses.base (address_key p)).series in
-    each_either (IsRaised (Does who (Get p))) (is_reachable p) (gets_from who p s) (tells who outcome.NotFound) (from_raised who p s) (refl, tt)
+    elim (is_reachable p) as (λ b. Each (IsRaised (Does who (Get p))) (gets who p (cond b (given_from s) not_found))) [
+      | true ↦ from_raised who p s
+      | false ↦ (refl, tt)
+    ]
 performs_raised v who (Wait delay) = tt
 performs_raised v who (OfTopic n ask) = says_raised who (OfTopic n ask) (asked_of v who n ask).says
 performs_raised v who (OfConsumer ask) = says_raised who (OfConsumer ask) (consumer_asked v who ask).says

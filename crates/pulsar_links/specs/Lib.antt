@@ -7,3 +7,4 @@ pub mod Seats
 pub mod LinkRules
 pub mod LinkEffects
 pub mod Asks
+pub mod Gets

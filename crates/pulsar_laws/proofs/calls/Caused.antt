@@ -53,6 +53,8 @@ use Rattle.pulsar_consumer_table.specs.Consumers as consumer
 use Rattle.pulsar_consumer.specs.Topic as reader
 use Rattle.pulsar_laws.proofs.calls.CausedLists.{IsAsker, in_alone, in_askers, in_flat, in_opened, in_told, step_map}
 use Rattle.pulsar_producer_table.specs.Asks.{draw_outcome, draw_said, grants_it, link_said, recall_said, turn_said}
+use Rattle.pulsar_links.specs.Gets.{given_from, not_found}
+use Rattle.pulsar_acts.specs.Rules.{gets}
 
 -- WHO IS TOLD AT ONCE
 
@@ -134,7 +136,7 @@ module _ (o : Options) (who : Who) (u : Outcome) (older : List Entry) where
   did : (w : Who) (action : Action) → who ≡ w → ◌≡◌ {A = Entry} (Then (Does w action)) (Then (Does who action))
   did w action e = ap (λ x. Then (Does x action)) (sym e)
 
-  from_caused : (w : Who) (p : Place) (s : Series) → is_reachable p ≡ true → (base_of v p).series ≡ s → In (Told it) (gets_from w p s) →
+  from_caused : (w : Who) (p : Place) (s : Series) → is_reachable p ≡ true → (base_of v p).series ≡ s → In (Told it) (gets w p (given_from s)) →
       Cause o who u (Then (Does w (Get p))) older
   from_caused w p Nobody r q (inl e) = absurd cc
   from_caused w p Nobody r q (inr h) = absurd h
@@ -143,7 +145,7 @@ module _ (o : Options) (who : Who) (u : Outcome) (older : List Entry) where
   from_caused w p (Serves l) r q h =
       let k = told_is w (outcome.GotLink l) h in named (Then (Does w (Get p))) (outcome.GotLink l) k.1 (inl (p, did w (Get p) k.0, (r, q)))
 
-  gets_caused : (w : Who) (p : Place) (b : Bool) → is_reachable p ≡ b → In (Told it) (cond b (gets_from w p (base_of v p).series) (tells w outcome.NotFound)) →
+  gets_caused : (w : Who) (p : Place) (b : Bool) → is_reachable p ≡ b → In (Told it) (gets w p (cond b (given_from (base_of v p).series) not_found)) →
       Cause o who u (Then (Does w (Get p))) older
   gets_caused w p true r h = from_caused w p (base_of v p).series r refl h
   gets_caused w p false r h = let k = told_is w outcome.NotFound h in named (Then (Does w (Get p))) outcome.NotFound k.1 (p, did w (Get p) k.0, r)

@@ -38,6 +38,7 @@ use Rattle.pulsar_links.specs.Asks as of_link
 use Rattle.pulsar_laws.proofs.links.Rows as rows
 use Rattle.pulsar_laws.proofs.RunWords.{begun_same}
 use Rattle.pulsar_laws.proofs.LinkWords.{Words}
+use Rattle.pulsar_links.specs.Seats.{base_waiting}
 
 -- what brings one somewhere
 abbrev pub goes_nowhere : Action → Bool
@@ -94,17 +95,10 @@ module _ (me : Who) where
         ] in
         omega (arith, a, z, h)
 
-    waits_absent : (s : Series) (who : Who) (ws : List Who) → (me ≡ who → ⊥) → Within ws → Within (waits_for s who ws)
-    waits_absent Nobody who ws other h = end_absent who ws other h
-    waits_absent (Runs starter retries l) who ws other h = end_absent who ws other h
-    waits_absent (Pauses l) who ws other h = end_absent who ws other h
-    waits_absent (Serves l) who ws other h = h
-
     base_absent : (v : View) (a : Act) (key : List ℕ) (b : Base) → ApartBy a → Within b.waiting → Within (base_after v a key b).waiting
     base_absent v (Comes (ToLink l x)) key b idle h = on_absent (turned v (Comes (ToLink l x))) key b h
     base_absent v (Does who (Get p)) key b idle h =
-        cond_so (λ z. Within z.waiting) _ (record { series = b.series; waiting = waits_for b.series who b.waiting }) b
-        (waits_absent b.series who b.waiting (other_apart who (Get p) idle refl) h) h
+        cond_so (λ z. Within z.waiting) _ (base_waiting who b) b (end_absent who b.waiting (other_apart who (Get p) idle refl) h) h
     base_absent v (Does who StopAll) key b idle h = cond_so (λ z. Within z.waiting) (waits_on v.addresses v.alarms key) nobody b (omega arith) h
     base_absent v (Dials p starter retries) key b idle h = cond_so (λ z. Within z.waiting) _ _ b h h
     base_absent v _ key b idle h = h

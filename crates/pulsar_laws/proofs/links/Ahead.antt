@@ -41,6 +41,7 @@ use Rattle.pulsar_consumer_table.specs.Consumers as consumer
 use Rattle.pulsar_consumer_table.specs.Consumers.{Revived, member_by, over_rows}
 use Rattle.pulsar_consumer_table.specs.Notices.{due_to, heard_at, lost_at, revived_at, word_to}
 use Rattle.pulsar_acts.proofs.Linking.{asked_is, dialed_is, got_row, took_is}
+use Rattle.pulsar_acts.specs.View.{address_given}
 
 -- an act that reads a link
 abbrev pub is_read : LinkAct → Bool
@@ -511,7 +512,7 @@ module _ (l : ℕ) (bytes : List ℕ) (v : View) where
       refl refl
       (ap (λ a. consumer.all_changed (consumer.closes (closed_consumer request) k (is_asked a)) v.consumers) (answer_same l bytes v k request)) refl
   after_same (Does who (Get p)) h =
-      let link : Option ℕ = link_got v.addresses (Does who (Get p)) in
+      let link : Option ℕ = (address_given v.addresses p).gets in
       after_by l bytes bytes v (Does who (Get p))
       (λ j. got_row link v.now j (row l bytes v j) ∙ got_rows link j ∙ ap (held_at j) (sym (got_row link v.now j (v.links.live j)))) refl refl refl refl
   after_same (Does who (OfTopic n Draw)) h =

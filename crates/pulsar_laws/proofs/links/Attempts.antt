@@ -14,6 +14,8 @@ use Rattle.pulsar_links.specs.Seats.{is_retryable, pause_put}
 use Rattle.pulsar_calls.specs.declared.act.Outcome.TheVariants as outcome
 use Rattle.pulsar_client.proofs.Acts.{each_drop}
 use Rattle.pulsar_client.proofs.Raising.{IsRaised, OfAttempt, may, raises}
+use Rattle.pulsar_links.specs.Gets.{given_from, not_found}
+use Rattle.pulsar_acts.specs.Rules.{gets}
 
 -- WHAT IS NO ATTEMPT
 
@@ -37,7 +39,7 @@ none_raised v a never = each_map (IsRaised a) NoDial (at_once v a) (λ b. no_dia
 abbrev OneDial : List Act → Type 0
 OneDial xs = Each NoDial (drop 1 xs)
 
-from_one : (who : Who) (p : Place) (s : Series) → OneDial (gets_from who p s)
+from_one : (who : Who) (p : Place) (s : Series) → OneDial (gets who p (given_from s))
 from_one who p Nobody = tt
 from_one who p (Runs starter retries l) = tt
 from_one who p (Pauses l) = tt
@@ -51,7 +53,8 @@ rings_one : (v : View) (l : ℕ) → OneDial (at_once v (Comes (Rings (Retry l))
 rings_one v l = cond_so OneDial (rings v.now (Retry l) v.alarms) (tries_again (v.addresses.pause l)) [] (tries_one (v.addresses.pause l)) tt
 
 gets_one : (v : View) (who : Who) (p : Place) → OneDial (at_once v (Does who (Get p)))
-gets_one v who p = cond_so OneDial (is_reachable p) (gets_from who p (base_of v p).series) (tells who outcome.NotFound) (from_one who p (base_of v p).series) tt
+gets_one v who p =
+    cond_so (λ g. OneDial (gets who p g)) (is_reachable p) (given_from (base_of v p).series) not_found (from_one who p (base_of v p).series) tt
 
 by_kind : (v : View) (a : Act) (b : Bool) → may OfAttempt a ≡ b → OneDial (at_once v a)
 by_kind v (Comes (Rings (Retry l))) b h = rings_one v l
@@ -150,7 +153,7 @@ module _ (o : Options) (older : List Entry) (p : Place) (starter : Who) (n : ℕ
   not_raised xs ys k e = let no : Each NoDial (Dials p starter n ∷ ys) = subst (Each NoDial) e k in let f : true ≡ false = no.0 in cc
 
   from_begun : (who : Who) (q : Place) (s : Series) (ys : List Act) → is_reachable q ≡ true → (base_of v q).series ≡ s →
-      gets_from who q s ≡ Dials p starter n ∷ ys →
+      gets who q (given_from s) ≡ Dials p starter n ∷ ys →
       CausedBy (Does who (Get q))
   from_begun who q Nobody ys r e h =
       let a : q ≡ p = cc in
@@ -162,7 +165,7 @@ module _ (o : Options) (older : List Entry) (p : Place) (starter : Who) (n : ℕ
   from_begun who q (Serves l) ys r e h = absurd cc
 
   begun : (who : Who) (q : Place) (b : Bool) (ys : List Act) → is_reachable q ≡ b →
-      cond b (gets_from who q (base_of v q).series) (tells who outcome.NotFound) ≡ Dials p starter n ∷ ys → CausedBy (Does who (Get q))
+      gets who q (cond b (given_from (base_of v q).series) not_found) ≡ Dials p starter n ∷ ys → CausedBy (Does who (Get q))
   begun who q true ys r h = from_begun who q (base_of v q).series ys r refl h
   begun who q false ys r h = absurd (not_raised (tells who outcome.NotFound) ys (refl, tt) h)
 

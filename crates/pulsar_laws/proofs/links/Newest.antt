@@ -12,6 +12,8 @@ use Rattle.pulsar_laws.specs.Laws.{ClockIs}
 use Rattle.pulsar_laws.specs.AddressLaws.{SeriesIsNewest, newest_turn, turn_of, turn_on, turn_over}
 use Rattle.pulsar_acts.specs.View.{base_on, waits_for, waits_on}
 use Rattle.pulsar_links.specs.Seats.{base_over, base_turned, nobody}
+use Rattle.pulsar_acts.specs.View.{address_given}
+use Rattle.std.proofs.Common.{◌++◌}
 
 -- THE CLOCK
 
@@ -66,7 +68,8 @@ series_is_newest_lem o (Then (Comes (ToLink l x)) ∷ log) key =
     on_is key t ((view o log).addresses.base key) ∙ ap (turn_on key t) (series_is_newest_lem o log key)
 series_is_newest_lem o (Then (Does who (Get p)) ∷ log) key =
     let b : Base = (view o log).addresses.base key in
-    got_is (is_reachable p && bytes_eq (address_key p) key) b (waits_for b.series who b.waiting) (newest_turn o key log) (series_is_newest_lem o log key)
+    got_is ((address_given (view o log).addresses p).waits && bytes_eq (address_key p) key) b (b.waiting ++ who ∷ []) (newest_turn o key log)
+    (series_is_newest_lem o log key)
 series_is_newest_lem o (Then (Does who StopAll) ∷ log) key =
     stopped_is (waits_on (view o log).addresses (view o log).alarms key) ((view o log).addresses.base key) (newest_turn o key log)
     (series_is_newest_lem o log key)

@@ -19,6 +19,7 @@ use Rattle.pulsar_links.specs.Asks.{Deed, IsAsked, IsClosed, IsDrained, IsFed, I
 use Rattle.pulsar_acts.proofs.Linking.{took_is}
 use Rattle.pulsar_laws.proofs.links.Rows.{after_holds, begun_holds}
 use Rattle.pulsar_laws.proofs.RunWords.{begun_same}
+use Rattle.pulsar_acts.specs.View.{address_given}
 
 abbrev pub series_at : View → List ℕ → Series
 series_at v key = (v.addresses.base key).series
@@ -251,7 +252,7 @@ pub gets_same : (v : View) (who : Who) (p : Place) → Same v (after (Does who (
 gets_same v who p = record {
   series = λ key.
       let b : Base = v.addresses.base key in
-      got_series (is_reachable p && bytes_eq (address_key p) key) b (waits_for b.series who b.waiting);
+      got_series ((address_given v.addresses p).waits && bytes_eq (address_key p) key) b (b.waiting ++ who ∷ []);
   pause = λ l q h. h;
   live = λ l. after_kept v (Does who (Get p)) l refl;
 }

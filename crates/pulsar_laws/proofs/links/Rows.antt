@@ -11,6 +11,7 @@ use Rattle.pulsar_links.specs.Asks.{Deed, IsAsked, IsClosed, IsDrained, IsFed, I
 use Rattle.pulsar_run.specs.Things.{Keeps, along, row_after, row_by}
 use Rattle.pulsar_session.specs.Link.{feeds, is_open}
 use Rattle.pulsar_laws.proofs.Cases.{cond_when, some_is}
+use Rattle.pulsar_acts.specs.View.{address_given}
 
 -- A piece that is not fed does nothing to it.
 
@@ -70,7 +71,7 @@ came_from v l (Does who (Ask k request)) g =
     cond_when (One (CameFrom v l (Does who (Ask k request)))) (l == k) (IsAsked who v.now request ∷ []) []
     (λ e. (ap (λ j. Does who (Ask j request)) (sym (eqb-true l k e)), refl)) (λ e. tt)
 came_from v l (Does who (Get p)) g =
-    elim (link_got v.addresses (Does who (Get p))) as (λ link. One (CameFrom v l (Does who (Get p))) (got_by l link v.now)) [
+    elim (address_given v.addresses p).gets as (λ link. One (CameFrom v l (Does who (Get p))) (got_by l link v.now)) [
       | None ↦ tt
       | Some k ↦ cond_when (One (CameFrom v l (Does who (Get p)))) (l == k) (IsGot v.now ∷ []) [] (λ e. (who, p, refl, refl)) (λ e. tt)
     ]

@@ -37,6 +37,7 @@ use Rattle.pulsar_incoming.specs.declared.polled.Polled.{Polled}
 use Rattle.pulsar_incoming.specs.declared.polled.Polled.TheVariants as poll
 use Rattle.pulsar_consumer.specs.Topic as reader
 use Rattle.pulsar_acts.proofs.Linking.{asked_is, dialed_is, fed_is, got_row, took_is}
+use Rattle.pulsar_acts.specs.View.{address_given}
 
 abbrev flat : List (List ℕ) → List ℕ
 flat xs = flat_map (λ bytes. bytes) xs
@@ -589,7 +590,7 @@ module _ (o : Options) (log : List Entry) (w : Writes o log) (k : InAStep o log)
   gets_on : (who : Who) (p : Place) → Writes o (Then (Does who (Get p)) ∷ log)
   gets_on who p l =
       let v : View = view o log in
-      let link : Option ℕ = link_got v.addresses (Does who (Get p)) in
+      let link : Option ℕ = (address_given v.addresses p).gets in
       subst (λ r. Wrote l n r (with_effects [] (steps_done rules o log))) (sym (got_row link v.now l (row l)))
       (got_on l n v.now link (row l) (with_effects [] (steps_done rules o log)) (mute_on l [] tt))
 

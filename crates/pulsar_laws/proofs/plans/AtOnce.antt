@@ -66,7 +66,7 @@ pub data AtOnce (v : View) (who : Who) : Action → List Act → Type 0 where
   stops_all : AtOnce v who StopAll (over_links stop_act v.links ++ tells who outcome.Stopped)
 
 module _ (v : View) (who : Who) where
-  gets_once : (p : Place) (x : Series) → AtOnce v who (Get p) (gets_from who p x)
+  gets_once : (p : Place) (x : Series) → AtOnce v who (Get p) (gets who p (given_from x))
   gets_once p Nobody = dials
   gets_once p (Runs starter retries l) = nothing
   gets_once p (Pauses l) = nothing

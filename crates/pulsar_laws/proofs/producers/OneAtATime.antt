@@ -52,6 +52,11 @@ use Rattle.pulsar_laws.proofs.producers.TurnActs.{equal_self}
 use Rattle.pulsar_laws.proofs.producers.TurnRun.{own_told_none}
 use Rattle.pulsar_laws.proofs.producers.Turns.{sum_append}
 use Rattle.pulsar_acts.proofs.Linking.{asked_is}
+use Rattle.pulsar_links.specs.Gets as of_address
+use Rattle.pulsar_links.specs.Gets.{given_from, not_found}
+use Rattle.pulsar_links.specs.Seats.{base_waiting}
+use Rattle.pulsar_acts.specs.View.{address_given}
+use Rattle.pulsar_acts.specs.Rules.{gets as gives}
 
 -- WHAT ARISES AT ONCE
 
@@ -508,22 +513,16 @@ module _ (n : ℕ) where
         abbrev waits : List Who → ℕ
         waits ws = times (me n) ws
 
-        got_base : (r c : Bool) (s : Series) (ws : List Who) → waits ws ≤ 0 →
-            waits (cond {A = Base} (r && c) (record { series = s; waiting = waits_for s (me n) ws }) (record { series = s; waiting = ws })).waiting ≤ cond c 1 0
-        got_base false c s ws h = omega (arith, h)
-        got_base true false s ws h = h
-        got_base true true s ws h = by s
-          where
-            more : waits (ws ++ me n ∷ []) ≤ 1
-            more =
-                let a : waits (ws ++ me n ∷ []) ≡ waits ws + waits (me n ∷ []) = sum_append (λ w. cond (is_same (me n) w) 1 0) ws (me n ∷ []) in
-                let b : waits (me n ∷ []) ≡ 1 = ap (λ b. cond b 1 0 + 0) (same_self (me n)) in
-                omega (arith, a, b, h)
+        abbrev given : of_address.Given
+        given = address_given v.addresses p
 
-            by : (s : Series) → waits (waits_for s (me n) ws) ≤ 1
-            by (Serves l) = omega (arith, h)
-            by Nobody = more
-            by _ = more
+        got_base : (w c : Bool) (b : Base) → waits b.waiting ≤ 0 → waits (cond {A = Base} (w && c) (base_waiting (me n) b) b).waiting ≤ cond c 1 0
+        got_base false c b h = omega (arith, h)
+        got_base true false b h = h
+        got_base true true b h =
+            let a : waits (b.waiting ++ me n ∷ []) ≡ waits b.waiting + waits (me n ∷ []) = sum_append (λ w. cond (is_same (me n) w) 1 0) b.waiting (me n ∷ []) in
+            let z : waits (me n ∷ []) ≡ 1 = ap (λ b. cond b 1 0 + 0) (same_self (me n)) in
+            omega (arith, a, z, h)
 
         in_got : (s : Spot) → ((l q : ℕ) → at_place s l q ≡ ⊥) → ((key : List ℕ) → waits ((view o got).addresses.base key).waiting ≤ at_base s key) →
             at_moment s ≡ ⊥ → IsAt n s (view o got)
@@ -547,11 +546,10 @@ module _ (n : ℕ) where
         waits_on head =
             begins_wait (Get p) run refl clear (AtBase (address_key p))
             (in_got (AtBase (address_key p)) (λ l q. refl)
-            (λ key. (let b = v.addresses.base key in
-            got_base (is_reachable p) (bytes_eq (address_key p) key) b.series b.waiting (at.place.base key))) refl) refl head
+            (λ key. got_base given.waits (bytes_eq (address_key p) key) (v.addresses.base key) (at.place.base key)) refl) refl head
 
-        abbrev Got : Spot → Bool → Series → Type 0
-        Got s r x = HeadSo got s (cond r (gets_from (me n) p x) (Told (notice (me n) outcome.NotFound) ∷ []) ++ left log)
+        abbrev Got : Spot → of_address.Given → Type 0
+        Got s g = HeadSo got s (gives (me n) p g ++ left log)
 
         abbrev series : Series
         series = (v.addresses.base (address_key p)).series
@@ -559,31 +557,20 @@ module _ (n : ℕ) where
         get_on : Single got
         get_on = by (is_reachable p) refl series refl
           where
-            next : (s : Spot) (r : Bool) (x : Series) → is_reachable p ≡ r → series ≡ x → Got s r x → HeadSo got s (agenda o got).now
-            next s r x e f h = subst (λ y. Got s (is_reachable p) y) (sym f) (subst (λ b. Got s b x) (sym e) h)
+            next : (s : Spot) (r : Bool) (x : Series) → is_reachable p ≡ r → series ≡ x → Got s (cond r (given_from x) not_found) → HeadSo got s (agenda o got).now
+            next s r x e f h = subst (λ y. Got s (cond (is_reachable p) (given_from y) not_found)) (sym f)
+                (subst (λ b. Got s (cond b (given_from x) not_found)) (sym e) h)
 
-            not_reached : is_reachable p ≡ false → (key : List ℕ) → waits ((view o got).addresses.base key).waiting ≤ 0
-            not_reached e key =
-                let b = v.addresses.base key in
-                subst (λ r. waits (cond {A = Base} (r && bytes_eq (address_key p) key)
-                (record { series = b.series; waiting = waits_for b.series (me n) b.waiting }) b).waiting ≤ 0)
-                (sym e) (at.place.base key)
-
-            is_served : (l : ℕ) → series ≡ Serves l → (key : List ℕ) → waits ((view o got).addresses.base key).waiting ≤ 0
-            is_served l e key = so (v.addresses.base key) (is_reachable p) (bytes_eq (address_key p) key) (at.place.base key)
-                (λ y. ap (λ z. (v.addresses.base z).series) (sym (same_key (address_key p) key y)) ∙ e)
-              where
-                so : (b : Base) (r c : Bool) → waits b.waiting ≤ 0 → (c ≡ true → b.series ≡ Serves l) →
-                    waits (cond {A = Base} (r && c) (record { series = b.series; waiting = waits_for b.series (me n) b.waiting }) b).waiting ≤ 0
-                so b false c h f = h
-                so b true false h f = h
-                so b true true h f = subst (λ s. waits (waits_for s (me n) b.waiting) ≤ 0) (sym (f refl)) h
+            unwaited : given.waits ≡ false → (key : List ℕ) → waits ((view o got).addresses.base key).waiting ≤ 0
+            unwaited e key =
+                let b : Base = v.addresses.base key in
+                subst (λ w. waits (cond {A = Base} (w && bytes_eq (address_key p) key) (base_waiting (me n) b) b).waiting ≤ 0) (sym e) (at.place.base key)
 
             by : (r : Bool) → is_reachable p ≡ r → (x : Series) → series ≡ x → Single got
             by false e x f =
-                served (not_reached e) (λ free. next Nowhere false x e f ((λ y. inl (omega (arith, free))), left_not log k))
+                served (unwaited (ap (λ r. (cond r (given_from series) not_found).waits) e)) (λ free. next Nowhere false x e f ((λ y. inl (omega (arith, free))), left_not log k))
             by true e (Serves l) f =
-                served (is_served l f) (λ free. next Nowhere true (Serves l) e f ((λ y. inl (omega (arith, free))), left_not log k))
+                served (unwaited (λ i. (cond (e i) (given_from (f i)) not_found).waits)) (λ free. next Nowhere true (Serves l) e f ((λ y. inl (omega (arith, free))), left_not log k))
             by true e Nobody f = waits_on (next (AtBase (address_key p)) true Nobody e f (tt, left_not log k))
             by true e (Runs starter retries l) f =
                 waits_on (next (AtBase (address_key p)) true (Runs starter retries l) e f (each_head got (AtBase (address_key p)) (left log) (left_not log k)))

@@ -14,7 +14,7 @@ use Rattle.pulsar_run.specs.Things.{row_after, row_by}
 use Rattle.pulsar_links.specs.Asks.{Deed, IsAsked, IsClosed, IsFed, IsGot, comes_by, got_by, is_end, seat_by}
 use Rattle.pulsar_links.specs.Links.{closed_by}
 use Rattle.pulsar_links.specs.Seats.{Seat, got_at, seat_asked, seat_fed, took_end, took_some}
-use Rattle.pulsar_acts.specs.View.{View, dialed, link_got, link_row, live_begun}
+use Rattle.pulsar_acts.specs.View.{View, dialed, link_row, live_begun}
 
 -- one thing is done to one of the rows
 row_either : (b : Bool) (d : Deed) (row : Option Seat) → row_by seat_by (cond b (d ∷ []) []) row ≡ cond b (option_map (seat_by d) row) row

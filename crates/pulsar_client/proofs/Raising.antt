@@ -30,7 +30,7 @@ use Rattle.pulsar_links.specs.Alarms.{rings}
 use Rattle.pulsar_acts.specs.Reading.{serves_by, tells}
 use Rattle.pulsar_calls.specs.Content.{Asked, shares}
 use Rattle.pulsar_plans.specs.Plan.{begins}
-use Rattle.pulsar_acts.specs.Rules.{at_once, batches_by, batches_from, breaks_at, called, does, follows, follows_some, gets_from, idle_act, is_idle, keeps_alive, left_with, performs, rung, tries_again, says_to}
+use Rattle.pulsar_acts.specs.Rules.{at_once, batches_by, batches_from, breaks_at, called, does, follows, follows_some, idle_act, is_idle, keeps_alive, left_with, performs, rung, tries_again, says_to, gets}
 use Rattle.pulsar_links.specs.LinkRules.{may_ping, over_links, stop_act}
 use Rattle.pulsar_acts.specs.View.{View, told_some, ways_of, asked_of, consumer_asked}
 use Rattle.pulsar_links.specs.Seats.{Seat, arrival_at}
@@ -39,6 +39,7 @@ use Rattle.pulsar_client.proofs.Acts.{Each, StartsIn, called_each, each_append, 
 use Rattle.pulsar_calls.specs.declared.act.Outcome.{Outcome}
 use Rattle.pulsar_searches.specs.declared.transition.Transition.TheVariants.{Stays, Gives}
 use Rattle.pulsar_plans.specs.Transitions.{PlanTransition}
+use Rattle.pulsar_links.specs.Gets.{given_from, not_found}
 
 -- the plan of a call begins, that of a topic producer's batches, or that of a consumer; one does something, or ends; one is told something; an attempt begins; a link ends by what came on it, for want of use or
 -- with the client, or is pinged; and what never arises at once

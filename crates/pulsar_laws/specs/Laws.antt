@@ -19,9 +19,8 @@ use Rattle.pulsar_session.specs.Link.{Act as Act', Seen, Setup, came, due, ends}
 use Rattle.pulsar_messages.specs.Claims.{is_spent}
 use Rattle.pulsar_exchange.specs.Messages.{Reply, read}
 use Rattle.pulsar_exchange.specs.Request.{closed_consumer, request_number}
-use Rattle.pulsar_addresses.specs.Address.{Place, address_key}
+use Rattle.pulsar_addresses.specs.Address.{Place, address_key, in_discovery}
 use Rattle.pulsar_searches.specs.Replies.{query, unexpected, fails_by, is_choice, place_at, count_in}
-use Rattle.pulsar_addresses.specs.Address.{in_discovery}
 use Rattle.pulsar_outgoing.specs.Errors.{in_producer}
 use Rattle.pulsar_producer.specs.News.{News}
 use Rattle.pulsar_addresses.specs.Backoff.{allow_retry}
@@ -59,10 +58,9 @@ use Rattle.pulsar_calls.specs.declared.act.Word.TheVariants as word
 use Rattle.pulsar_calls.specs.declared.content.Joining.{Joining}
 use Rattle.pulsar_links.specs.declared.addresses.Series.TheVariants.{Runs}
 use Rattle.pulsar_plans.specs.declared.plan.Plan.{Plan}
-use Rattle.pulsar_calls.specs.Content.{Asked, Ticked, Said, Shown, Queued, Write, Failed, lacks_tickets, shares}
-use Rattle.pulsar_calls.specs.Order.{effect_below, is_before3}
+use Rattle.pulsar_calls.specs.Content.{Asked, Ticked, Said, Shown, Queued, Write, Failed, lacks_tickets, shares, numbers_from}
+use Rattle.pulsar_calls.specs.Order.{effect_below, is_before3, below}
 use Rattle.pulsar_links.specs.Links.{arrival, call_of, closed_by, line_places, new_places}
-use Rattle.pulsar_calls.specs.Content.{numbers_from}
 use Rattle.pulsar_calls.specs.Parts.{outcomes_of}
 use Rattle.pulsar_producer_table.specs.Producers.{advice, turn_passed, drawn, is_settled_at, is_woken, link_at, next_batch_at, number_drawn, numbers_at, recalled, stored_at, turn_taken, unsent_at, waiting_at}
 use Rattle.pulsar_producer.specs.Topic as topic
@@ -70,7 +68,6 @@ use Rattle.pulsar_plans.specs.Plan.{begins, failure_of, fails, fault_of, reply_s
 use Rattle.pulsar_acts.specs.Rules.{call_part, notice, starts, stopped_with, brings}
 use Rattle.pulsar_links.specs.Asks.{call_by}
 use Rattle.pulsar_links.specs.LinkRules.{dropped, fails_so}
-use Rattle.pulsar_calls.specs.Order.{below}
 use Rattle.pulsar_acts.specs.Run.{Entry, Begins, Then, Good, IsRun, Rests, agenda, rules, steps, tickets_in, view}
 use Rattle.pulsar_calls.specs.Steps.{Step}
 use Rattle.pulsar_consumer_table.specs.Consumers as consumer

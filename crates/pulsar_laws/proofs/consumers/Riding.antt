@@ -3,7 +3,7 @@ use Rattle.std.proofs.Common.{◌≡◌, ◌⊎◌, inl, inr, ◌∙◌, sym, ap
 use Rattle.std.proofs.lemmas.Bool.{cases_Bool, eqb-true}
 use Rattle.std.specs.Option.{is_some, option_map}
 use Rattle.pulsar_laws.proofs.ActWords.{Act, Answers, Arrival, Ask, Bytes, Call, Comes, Dials, Does, Drains, End, Ends, FailConsumer, Get, Heard, is_same, LinkAct, Makes, Opens, Pings, Polls, Reads, Revive, StopAll, TakeFlow, ticket_of, ToLink, Who, OfConsumer}
-use Rattle.pulsar_laws.proofs.RunWords.{after, Begins, begun, begun_live, EndsOnce, Entry, is_live, IsRun, link_got, live_begun, member_on, Options, Then, view, View}
+use Rattle.pulsar_laws.proofs.RunWords.{after, Begins, begun, begun_live, EndsOnce, Entry, is_live, IsRun, live_begun, member_on, Options, Then, view, View}
 use Rattle.pulsar_laws.proofs.LinkWords.{answer_at, arrival_at, closed_by, closed_consumer, closing, Failure, Fault, got_at, is_asked, is_body, Reply, Seat, seat_asked, seat_fed, seat_got, took_end, took_some, url_at}
 use Rattle.url.specs.Parts.{Parts}
 use Rattle.pulsar_frame.specs.Items.{Item}

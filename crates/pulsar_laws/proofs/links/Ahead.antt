@@ -5,7 +5,7 @@ use Rattle.std.specs.List.{filter_map, flat_map}
 use Rattle.std.specs.Option.{option_map, option_to_list}
 use Rattle.pulsar_laws.proofs.ActWords.{Act, Action, Alarm, Answers, Ask, Asked, Call, Calls, CheckIdle, Comes, Dials, Does, Drains, Draw, End, Ends, Get, KeepAlive, LinkAct, Makes, Notice, OfTopic, Opens, Overdue, Part, Pings, Reads, CallRefusal, Revive, Rings, Shown, Starts, StopAll, ToLink, Who, lacks_tickets, numbers_from, opens, shares, ticket_of, OfConsumer}
 use Rattle.pulsar_laws.proofs.PlanWords.{fails}
-use Rattle.pulsar_laws.proofs.RunWords.{after, at_once, causes, dialed, further, joins, link_got, parts_of, procedure_for, room_of, setup_of, shares_unless, Turned, turned, turned_by, View, why_no_sends}
+use Rattle.pulsar_laws.proofs.RunWords.{after, at_once, causes, dialed, further, joins, parts_of, procedure_for, room_of, setup_of, shares_unless, Turned, turned, turned_by, View, why_no_sends}
 use Rattle.pulsar_laws.proofs.LinkWords.{address_key, answer_at, arrival_at, closed_by, closed_consumer, closing, ConnectionError, Exhausted, Fault, got_at, is_asked, is_numbered, over_links, place_of, rings, Seat, seat_asked, seat_got, SendPing, stop_act, tells_asker, told_at, took, took_end, took_some, url_at, Words}
 use Rattle.pulsar_messages.specs.Content.{ProducerMessageValues}
 use Rattle.pulsar_wire.specs.declared.error.IoKind.TheVariants as io_kind
@@ -35,7 +35,7 @@ use Rattle.pulsar_run.specs.Things.{row_after, row_by}
 use Rattle.pulsar_acts.specs.Effects.{effects, retries_on}
 use Rattle.pulsar_acts.specs.Reading.{made_due, tells}
 use Rattle.pulsar_acts.specs.Rules.{breaks_at, failed_on, idle_act, keeps_alive, reads_on, served_on, waiters_of}
-use Rattle.pulsar_acts.specs.View.{addresses_after, alarms_after, alarms_on, base_on, calls_after, consumers_after, consumers_left, joins_some, live_after, member_made, member_of, pause_for, pause_on, producers_after, room_on, stand_after, started_after}
+use Rattle.pulsar_acts.specs.View.{addresses_after, alarms_after, alarms_on, base_on, calls_after, consumers_after, consumers_left, joins_some, member_made, member_of, pause_for, pause_on, producers_after, room_on, stand_after, started_after}
 use Rattle.pulsar_consumer.specs.Topic.{of_raw}
 use Rattle.pulsar_consumer_table.specs.Consumers as consumer
 use Rattle.pulsar_consumer_table.specs.Consumers.{Revived, member_by, over_rows}

@@ -4,7 +4,7 @@ use Rattle.std.proofs.lemmas.Bool.{cases_Bool}
 use Rattle.std.proofs.lemmas.Bool.Decides.{nat_tests}
 use Rattle.std.specs.Option.{is_none, option_map}
 use Rattle.pulsar_laws.proofs.ActWords.{Act, Ask, below, Bytes, Comes, Dials, Does, Drains, Ends, Get, LinkAct, Notice, Opens, Part, Pings, Reads, Shown, Told, ToLink}
-use Rattle.pulsar_laws.proofs.RunWords.{after, agenda, arranged, at_once, Begins, begun_live, Chosen, Each, each_append, each_map, Entry, first, first_of, further, is_live, IsRun, live_begun, link_got, Options, put_all, rest, rest_of, rules, Then, turned, turned_by, view, View}
+use Rattle.pulsar_laws.proofs.RunWords.{after, agenda, arranged, at_once, Begins, begun_live, Chosen, Each, each_append, each_map, Entry, first, first_of, further, is_live, IsRun, live_begun, Options, put_all, rest, rest_of, rules, Then, turned, turned_by, view, View}
 use Rattle.pulsar_laws.proofs.LinkWords.{arrival_at, ConnectionError, Fault, got_at, is_numbered, Seat, seat_asked, seat_fed, seat_got, SendPing, took_end, took_some, Words}
 use Rattle.pulsar_frame.specs.Frame.{Front, Short, Refused, Whole, front}
 use Rattle.pulsar_session.specs.declared.states.Stage.{Stage}
@@ -24,11 +24,11 @@ use Rattle.pulsar_consumer_table.specs.Consumers as consumer
 use Rattle.pulsar_acts.specs.Effects.{effects}
 use Rattle.pulsar_acts.specs.Rules.{breaks_at, reads_on}
 use Rattle.pulsar_acts.specs.Run.{Rests, steps}
-use Rattle.pulsar_acts.specs.View.{alarms_on, base_on, is_at, live_after, pause_on}
+use Rattle.pulsar_acts.specs.View.{alarms_on, base_on, is_at, pause_on, link_gone}
 use Rattle.pulsar_client.proofs.Raising.{IsRaised, raises}
 use Rattle.pulsar_run.specs.Run.{in_order, only}
 use Rattle.pulsar_laws.specs.Laws.{AreActs}
-use Rattle.pulsar_laws.specs.LinkLaws.{PiecesDontMatter, end_in, fed, is_end}
+use Rattle.pulsar_laws.specs.LinkLaws.{PiecesDontMatter, end_in, fed}
 use Rattle.pulsar_laws.proofs.Cases.{none_some, some_is}
 use Rattle.pulsar_laws.proofs.calls.Ticketed.{older_run}
 use Rattle.pulsar_laws.proofs.links.Ahead.{after_by, after_same, came_same, fits, holding, is_read, other, read_ruled, ruled, ruled_same, seat_read_same, taken_open}
@@ -155,13 +155,11 @@ started_more (Dials p starter retries) l v h = up l v.links.started h
 started_more a l v h = h
 
 end_more : (o : Options) (l : ℕ) (x : Act) (log : List Entry) → end_in o l log ≡ true → end_in o l (Then x ∷ log) ≡ true
-end_more o l (Comes (ToLink k y)) log h = by (l == k) (is_end y (view o log).now ((view o log).links.live l))
+end_more o l x log h = ap (λ b. link_gone (view o log) l x || b) h ∙ or_true (link_gone (view o log) l x)
   where
-    by : (b e : Bool) → cond b (e || end_in o l log) (end_in o l log) ≡ true
-    by true true = refl
-    by true false = h
-    by false e = h
-end_more o l x log h = h
+    or_true : (b : Bool) → (b || true) ≡ true
+    or_true true = refl
+    or_true false = refl
 
 -- WHERE OTHER BYTES ARE THE SAME
 

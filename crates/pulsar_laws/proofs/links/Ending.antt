@@ -3,14 +3,14 @@ use Rattle.std.proofs.Common.{◌≡◌, ◌∙◌, sym, ap, ℕ, ◌+◌, ◌�
 use Rattle.std.proofs.lemmas.Bool.{cases_Bool}
 use Rattle.std.proofs.lemmas.Bool.Decides.{nat_tests}
 use Rattle.std.specs.Option.{is_none, is_some, option_map}
-use Rattle.pulsar_laws.proofs.ActWords.{Ask, Bytes, Comes, Dials, Does, Ends, Get, Heard, LinkAct, numbers_from, Overdue, Part, Rings, ToLink}
-use Rattle.pulsar_laws.proofs.RunWords.{Begins, begun_same, dialed, Entry, In, is_live, link_got, live_begun, Options, parts, Then, View, view}
+use Rattle.pulsar_laws.proofs.ActWords.{Ask, Bytes, Comes, Dials, Does, Ends, Get, Heard, LinkAct, numbers_from, Overdue, Part, Rings, ToLink, Act}
+use Rattle.pulsar_laws.proofs.RunWords.{Begins, begun_same, dialed, Entry, In, is_live, live_begun, Options, parts, Then, View, view}
 use Rattle.pulsar_laws.proofs.LinkWords.{closed_by, Fault, got_at, over_links, Seat, seat_asked, seat_fed, seat_got, took_end, took_some}
 use Rattle.pulsar_session.specs.Link.{due}
 use Rattle.pulsar_calls.specs.Content.{Ticked}
 use Rattle.pulsar_links.specs.Alarms.{ringing}
 use Rattle.pulsar_links.specs.LinkRules.{due_part, on_link}
-use Rattle.pulsar_links.specs.Seats.{Links, has_ended}
+use Rattle.pulsar_links.specs.Seats.{Links, has_ended, closing}
 use Rattle.pulsar_laws.specs.Laws.{dialed_with}
 use Rattle.pulsar_laws.specs.LinkLaws.{DueLinksEnd, EndedIs, end_in}
 use Rattle.pulsar_laws.proofs.Cases.{none_some}
@@ -22,8 +22,6 @@ use Rattle.pulsar_laws.proofs.links.Rows.{gone_by}
 use Rattle.pulsar_run.specs.Things.{row_after, row_by}
 use Rattle.pulsar_acts.specs.View.{link_acts, link_gone, link_heard}
 use Rattle.pulsar_links.specs.Asks.{Deed, seat_by}
-use Rattle.pulsar_links.specs.Seats.{closing}
-use Rattle.pulsar_laws.proofs.ActWords.{Act}
 
 -- A LINK THAT WAS NOT STARTED
 

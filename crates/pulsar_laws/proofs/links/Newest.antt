@@ -10,7 +10,7 @@ use Rattle.pulsar_requests.specs.Waits.{later_of}
 use Rattle.pulsar_calls.specs.Content.{Ticked}
 use Rattle.pulsar_laws.specs.Laws.{ClockIs}
 use Rattle.pulsar_laws.specs.AddressLaws.{SeriesIsNewest, newest_turn, turn_of, turn_on, turn_over}
-use Rattle.pulsar_acts.specs.View.{base_on, waits_for, waits_on}
+use Rattle.pulsar_acts.specs.View.{base_on, waits_on}
 use Rattle.pulsar_links.specs.Seats.{base_over, base_turned, nobody}
 use Rattle.pulsar_acts.specs.View.{address_given}
 use Rattle.std.proofs.Common.{◌++◌}

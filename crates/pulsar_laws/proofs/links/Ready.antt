@@ -3,7 +3,7 @@ use Rattle.std.proofs.Common.{◌≡◌, ◌∙◌, sym, ap, subst, ℕ, ◌+◌
 use Rattle.std.proofs.lemmas.Bool.Decides.{nat_tests}
 use Rattle.std.specs.Option.{option_map}
 use Rattle.pulsar_laws.proofs.ActWords.{Act, Ask, Bytes, Comes, Dials, Does, Drains, Ends, Get, Heard, LinkAct, Opens, Pings, Reads, ToLink, Who}
-use Rattle.pulsar_laws.proofs.RunWords.{after, Begins, begun_live, begun_same, calls_of, Entry, is_live, link_got, live_begun, Options, Then, view, View}
+use Rattle.pulsar_laws.proofs.RunWords.{after, Begins, begun_live, begun_same, calls_of, Entry, is_live, live_begun, Options, Then, view, View}
 use Rattle.pulsar_laws.proofs.LinkWords.{answer_at, closed_by, ConnectionError, Fault, got_at, is_numbered, Seat, seat_asked, seat_fed, seat_got, SendPing, took, took_end, took_some, Words}
 use Rattle.pulsar_frame.specs.Frame.{Front, Short, Refused, Whole, front}
 use Rattle.pulsar_requests.specs.Waits.{places}

@@ -5,7 +5,7 @@ use Rattle.std.specs.List.{list_any}
 use Rattle.std.specs.Option.{option_map}
 use Rattle.pulsar_laws.proofs.ActWords.{Act, Action, Ask, Bytes, Call, Comes, Dials, Does, Drains, Ends, Get, Heard, is_same, LinkAct, Opens, Pings, Procedure, Reads, Share, Starts, ToLink, Who}
 use Rattle.pulsar_laws.proofs.PlanWords.{Errand, Ways}
-use Rattle.pulsar_laws.proofs.RunWords.{Begins, begun_live, calls_of, Cause, counted, Each, Entry, In, InThisStep, is_live, IsRun, link_got, live_begun, Options, start_of, started, Then, view, View}
+use Rattle.pulsar_laws.proofs.RunWords.{Begins, begun_live, calls_of, Cause, counted, Each, Entry, In, InThisStep, is_live, IsRun, live_begun, Options, start_of, started, Then, view, View}
 use Rattle.pulsar_laws.proofs.LinkWords.{closed_by, got_at, is_body, Reply, Seat, seat_asked, seat_fed, seat_got, SendPing, took, took_end, took_some, Words}
 use Rattle.pulsar_wire.specs.At.{flag_at, uint64_at}
 use Rattle.pulsar_wire.specs.Command.{BodyValues}

@@ -3,7 +3,7 @@ use Rattle.std.proofs.Common.{◌≡◌, ◌∙◌, sym, ap, subst, ℕ, ◌==�
 use Rattle.std.proofs.lemmas.Bool.{cases_Bool, eqb-true}
 use Rattle.std.specs.Option.{is_some, option_to_list}
 use Rattle.pulsar_laws.proofs.ActWords.{Act, Ask, Bytes, Comes, Dials, Does, Drains, End, Ends, Get, Heard, LinkAct, Opens, Pings, Reads, ToLink, Who}
-use Rattle.pulsar_laws.proofs.RunWords.{after, begun, begun_live, begun_same, dialed, is_live, link_got, rules, View}
+use Rattle.pulsar_laws.proofs.RunWords.{after, begun, begun_live, begun_same, dialed, is_live, rules, View}
 use Rattle.pulsar_laws.proofs.LinkWords.{closing, Fault, Place, Seat, seat_fed}
 use Rattle.pulsar_acts.specs.Things.{links}
 use Rattle.pulsar_acts.specs.View.{is_at, link_acts, link_born, link_gone, link_heard, live_begun}

@@ -3,7 +3,7 @@ use Rattle.std.proofs.Common.{◌≡◌, ◌⊎◌, inl, inr, ◌∙◌, sym, ap
 use Rattle.std.proofs.lemmas.Bool.{cases_Bool, eqb-true, eq-eqb}
 use Rattle.std.specs.Option.{option_map}
 use Rattle.pulsar_laws.proofs.ActWords.{Act, Arrival, Ask, Bytes, Comes, Dials, Does, Drains, End, Ends, Get, Heard, LinkAct, Notice, Opens, Part, Pings, Reads, ToLink, Who}
-use Rattle.pulsar_laws.proofs.RunWords.{agenda, at_once, Begins, begun_live, calls_of, dialed, Entry, first, first_of, further, In, is_live, IsRun, link_got, live_begun, none_now, Options, rest, rest_of, rules, Then, view}
+use Rattle.pulsar_laws.proofs.RunWords.{agenda, at_once, Begins, begun_live, calls_of, dialed, Entry, first, first_of, further, In, is_live, IsRun, live_begun, none_now, Options, rest, rest_of, rules, Then, view, View, after}
 use Rattle.pulsar_laws.proofs.LinkWords.{arrival_at, closed_by, ConnectionError, Fault, got_at, is_numbered, Place, Seat, seat_asked, seat_got, SendPing, took_end, took_some, Words}
 use Rattle.pulsar_wire.specs.declared.key.RequestKey.{RequestKey}
 use Rattle.pulsar_frame.specs.Frame.{Front, Short, Refused, Whole, cut, front}
@@ -25,14 +25,13 @@ use Rattle.pulsar_laws.proofs.Cases.{none_some, some_is}
 use Rattle.pulsar_laws.specs.Laws.{FramesAreCut, dialed_with}
 use Rattle.pulsar_links.specs.Links.{arrives}
 use Rattle.pulsar_acts.specs.Rules.{breaks_at, brings, reads_on}
-use Rattle.pulsar_acts.specs.View.{is_dialing}
+use Rattle.pulsar_acts.specs.View.{is_dialing, link_born}
 use Rattle.pulsar_wire.specs.declared.key.RequestKey.TheVariants as keys
 use Rattle.pulsar_session.specs.Link as session
 use Rattle.pulsar_calls.specs.declared.act.Arrival.TheVariants as arrivals
 use Rattle.pulsar_laws.proofs.links.Alone.{Made, alone}
 use Rattle.pulsar_links.specs.Asks.{Deed, IsAsked, IsClosed, IsDrained, IsFed, IsGot, IsOpened, IsPinged, IsRead, seat_by}
 use Rattle.pulsar_acts.proofs.Linking.{took_is}
-use Rattle.pulsar_acts.specs.View.{link_born}
 use Rattle.pulsar_laws.proofs.links.Rows.{CameFrom, IsDialed, after_holds}
 
 -- A CONNECTION THAT IS DIALED HAS NOTHING UNREAD

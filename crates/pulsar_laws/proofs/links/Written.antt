@@ -7,7 +7,7 @@ use Rattle.std.proofs.lemmas.List.Elements.{filter-append}
 use Rattle.std.specs.List.{filter, flat_map}
 use Rattle.std.specs.Option.{option_map, option_to_list}
 use Rattle.pulsar_laws.proofs.ActWords.{Act, Ask, Bytes, Comes, Dials, Does, End, Get, Heard, LinkAct, Polls, Queued, Shown, ToLink, Who}
-use Rattle.pulsar_laws.proofs.RunWords.{Begins, begun_live, Chosen, dialed, Each, each_append, each_map, Entry, is_live, IsRun, link_got, live_begun, Options, rules, Then, turned, view, View}
+use Rattle.pulsar_laws.proofs.RunWords.{Begins, begun_live, Chosen, dialed, Each, each_append, each_map, Entry, is_live, IsRun, live_begun, Options, rules, Then, turned, view, View}
 use Rattle.pulsar_laws.proofs.LinkWords.{closed_by, Fault, got_at, Place, Seat, seat_asked, seat_fed, seat_got, SendPing, took, took_end, took_some, Words}
 use Rattle.pulsar_run.specs.Order.{InOrder, NoneBelow}
 use Rattle.pulsar_run.specs.Run.{in_order, steps_done, with_effects}

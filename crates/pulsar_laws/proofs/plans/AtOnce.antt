@@ -12,7 +12,7 @@ use Rattle.pulsar_calls.specs.declared.act.Outcome.TheVariants as outcome
 use Rattle.pulsar_producer_table.specs.declared.table.Topic.{Topic}
 use Rattle.pulsar_producer_table.specs.Producers.{drawn, is_settled_at, link_at, next_batch_at, number_drawn, recalled, turn_taken}
 use Rattle.pulsar_producer_table.specs.Asks.{draw_outcome, draw_said, grants_it, link_said, recall_said, turn_said}
-use Rattle.pulsar_acts.specs.Rules.{gets_from, number_said, says_to}
+use Rattle.pulsar_acts.specs.Rules.{number_said, says_to}
 use Rattle.pulsar_consumer_table.specs.Asks.{recalled_said, sought_said}
 use Rattle.pulsar_acts.specs.Reading.{numbering_said}
 use Rattle.pulsar_consumer_table.specs.Consumers as consumer
@@ -23,6 +23,8 @@ use Rattle.pulsar_consumer_table.specs.declared.numbers.Numbering.TheVariants.{H
 use Rattle.pulsar_client.proofs.Raising.{IsRaised}
 use Rattle.pulsar_laws.proofs.Cases.{cond_so}
 use Rattle.pulsar_acts.specs.View.{asked_of}
+use Rattle.pulsar_links.specs.Gets.{given_from, not_found}
+use Rattle.pulsar_acts.specs.Rules.{gets}
 
 -- what a topic producer grants, by what is granted
 abbrev pub TopicGives : View → (number : ℕ) → News → TopicAsk → Type 0
@@ -137,7 +139,8 @@ module _ (v : View) (who : Who) where
 
   pub performs_once : (action : Action) → AtOnce v who action (performs v who action)
   performs_once (Get p) =
-      cond_so (AtOnce v who (Get p)) (is_reachable p) _ _ (gets_once p (v.addresses.base (address_key p)).series) (says tt refl)
+      cond_so (λ g. AtOnce v who (Get p) (gets who p g)) (is_reachable p) (given_from (v.addresses.base (address_key p)).series) not_found
+      (gets_once p (v.addresses.base (address_key p)).series) (says tt refl)
   performs_once (Ask l request) = asks_once l request (answer_at v.now request (v.links.live l))
   performs_once StopAll = stops_all
   performs_once (Wait delay) = nothing

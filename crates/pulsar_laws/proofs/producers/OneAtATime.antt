@@ -5,7 +5,7 @@ use Rattle.std.proofs.lemmas.Bool.{cases_Bool, eqb-true}
 use Rattle.std.specs.Option.{option_map}
 use Rattle.pulsar_laws.proofs.ActWords.{Act, Action, Alarm, Answers, Ask, Comes, Dials, Does, FindConsumer, Get, is_same, Notice, OfTopic, Outcome, Part, PassTurn, Procedure, Producer, Rest, Starts, StopAll, TakeBatch, Told, Verdict, Wait, Who, OfConsumer}
 use Rattle.pulsar_laws.proofs.PlanWords.{Batching, begins, Gives, Plan, PlanTransition, Stays, told}
-use Rattle.pulsar_laws.proofs.RunWords.{agenda, at_once, Begins, begun_same, does, Each, each_append, each_map, Entry, first_of, follows, follows_some, IsRun, link_got, notice, Options, performs, rest, rest_of, rules, stays, stays_some, Then, told_some, view, View}
+use Rattle.pulsar_laws.proofs.RunWords.{agenda, at_once, Begins, begun_same, does, Each, each_append, each_map, Entry, first_of, follows, follows_some, IsRun, notice, Options, performs, rest, rest_of, rules, stays, stays_some, Then, told_some, view, View}
 use Rattle.pulsar_laws.proofs.LinkWords.{answer_at, Base, Nobody, Pauses, place_of, Place, Runs, Seat, seat_asked, Series, Serves, Words}
 use Rattle.pulsar_addresses.specs.Address.{address_key, is_reachable}
 use Rattle.pulsar_exchange.specs.Request.{is_awaited}
@@ -20,10 +20,8 @@ use Rattle.pulsar_outgoing.specs.Storage.{Item}
 use Rattle.pulsar_outgoing.specs.declared.news.News.TheVariants as news
 use Rattle.pulsar_producer_table.specs.Producers.{next_batch_at}
 use Rattle.pulsar_producer_table.specs.declared.table.Topic.{Topic}
-use Rattle.pulsar_acts.specs.Rules.{gets_from}
 use Rattle.pulsar_links.specs.LinkRules.{told_at}
 use Rattle.pulsar_links.specs.Seats.{asker_at}
-use Rattle.pulsar_acts.specs.View.{waits_for}
 use Rattle.pulsar_calls.specs.declared.act.Outcome.TheVariants as outcome
 use Rattle.pulsar_client.proofs.Raising.{IsRaised, raises}
 use Rattle.pulsar_plans.proofs.Arcs.{StaysSo, told_arc}

@@ -1,5 +1,5 @@
 -- What arises at once, by its kind, and which acts give rise to it. A further kind of act or action is told of here, and nowhere else.
-use Rattle.std.proofs.Common.{◌≡◌, ℕ, ◌+◌, List, ◌∷◌, refl, Bool, true, false, Option, Some, None, [], map}
+use Rattle.std.proofs.Common.{◌≡◌, ℕ, ◌+◌, List, ◌∷◌, refl, Bool, true, false, Option, Some, None, [], map, cond}
 use Rattle.pulsar_addresses.specs.Address.{Place, address_key, is_reachable}
 use Rattle.pulsar_searches.specs.declared.turn.Ways.{Ways}
 use Rattle.pulsar_outgoing.specs.Storage.{is_batching}

@@ -19,7 +19,7 @@ use Rattle.pulsar_laws.proofs.calls.Causes.{IsToldBy, OutcomesAreCaused}
 use Rattle.pulsar_laws.proofs.links.Late.{lost_same}
 use Rattle.pulsar_laws.specs.Laws.{AttemptEnds, CutsSo, LineEnds, RequestEnds, base_of, GrantsSo, BuiltDue, PolledDue, RevivedDue, SaysSo}
 use Rattle.pulsar_links.specs.Links.{arrival, change_at, change_in, line_places, new_places, times_out}
-use Rattle.pulsar_acts.specs.Rules.{caused, failed_by, failed_on, served_on, stopped_with, waiters_of, woken, grants, number_said, stopped_one, says_to}
+use Rattle.pulsar_acts.specs.Rules.{caused, failed_by, failed_on, served_on, stopped_with, waiters_of, woken, grants, number_said, stopped_one, says_to, gets}
 use Rattle.pulsar_links.specs.LinkRules.{answered_by, answered_on, dropped, ended_by, ended_on, failed, failed_over, failed_so, fails_so, lost, lost_so, lost_with, moved_on, served_by, stopped_at}
 use Rattle.pulsar_producer_table.specs.Notices.{stopped_call}
 use Rattle.pulsar_acts.specs.View.{pause_for, pause_of}
@@ -54,7 +54,6 @@ use Rattle.pulsar_consumer.specs.Topic as reader
 use Rattle.pulsar_laws.proofs.calls.CausedLists.{IsAsker, in_alone, in_askers, in_flat, in_opened, in_told, step_map}
 use Rattle.pulsar_producer_table.specs.Asks.{draw_outcome, draw_said, grants_it, link_said, recall_said, turn_said}
 use Rattle.pulsar_links.specs.Gets.{given_from, not_found}
-use Rattle.pulsar_acts.specs.Rules.{gets}
 
 -- WHO IS TOLD AT ONCE
 

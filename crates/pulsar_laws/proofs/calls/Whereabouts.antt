@@ -19,7 +19,7 @@ use Rattle.pulsar_laws.proofs.Lists.{in_append}
 use Rattle.pulsar_laws.proofs.Cases.{cond_so, none_some, some_is}
 use Rattle.pulsar_producer_table.specs.Producers.{is_bare, numbers_at, timeout_at, topic_after}
 use Rattle.pulsar_acts.specs.View.{alarms_after, alarms_on, alarms_on_topic, alarms_over, alarms_rung, alarms_turned, alarms_waiting, base_after, base_on, clear_all, waits_from, waits_on, member_made}
-use Rattle.pulsar_links.specs.Seats.{asker_at, base_turned, nobody}
+use Rattle.pulsar_links.specs.Seats.{asker_at, base_turned, nobody, base_waiting}
 use Rattle.pulsar_links.proofs.Ringing.{is_this}
 use Rattle.pulsar_laws.proofs.calls.Same.{same_self, same_who}
 use Rattle.pulsar_laws.proofs.producers.Turns.{sum, sum_append}
@@ -36,9 +36,6 @@ use Rattle.pulsar_consumer_table.specs.declared.row.Sought.TheVariants.{Found, G
 use Rattle.pulsar_laws.proofs.consumers.Members.{CameFrom, after_holds}
 use Rattle.pulsar_links.specs.Asks as of_link
 use Rattle.pulsar_laws.proofs.links.Rows as rows
-use Rattle.pulsar_laws.proofs.RunWords.{begun_same}
-use Rattle.pulsar_laws.proofs.LinkWords.{Words}
-use Rattle.pulsar_links.specs.Seats.{base_waiting}
 
 -- what brings one somewhere
 abbrev pub goes_nowhere : Action → Bool

@@ -35,13 +35,12 @@ use Rattle.pulsar_run.specs.Things.{row_after, row_by}
 use Rattle.pulsar_acts.specs.Effects.{effects, retries_on}
 use Rattle.pulsar_acts.specs.Reading.{made_due, tells}
 use Rattle.pulsar_acts.specs.Rules.{breaks_at, failed_on, idle_act, keeps_alive, reads_on, served_on, waiters_of}
-use Rattle.pulsar_acts.specs.View.{addresses_after, alarms_after, alarms_on, base_on, calls_after, consumers_after, consumers_left, joins_some, member_made, member_of, pause_for, pause_on, producers_after, room_on, stand_after, started_after}
+use Rattle.pulsar_acts.specs.View.{addresses_after, alarms_after, alarms_on, base_on, calls_after, consumers_after, consumers_left, joins_some, member_made, member_of, pause_for, pause_on, producers_after, room_on, stand_after, started_after, address_given}
 use Rattle.pulsar_consumer.specs.Topic.{of_raw}
 use Rattle.pulsar_consumer_table.specs.Consumers as consumer
 use Rattle.pulsar_consumer_table.specs.Consumers.{Revived, member_by, over_rows}
 use Rattle.pulsar_consumer_table.specs.Notices.{due_to, heard_at, lost_at, revived_at, word_to}
 use Rattle.pulsar_acts.proofs.Linking.{asked_is, dialed_is, got_row, took_is}
-use Rattle.pulsar_acts.specs.View.{address_given}
 
 -- an act that reads a link
 abbrev pub is_read : LinkAct → Bool

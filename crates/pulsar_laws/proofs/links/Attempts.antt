@@ -8,14 +8,13 @@ use Rattle.pulsar_laws.proofs.LinkWords.{address_key, Change, is_reachable, IsOv
 use Rattle.pulsar_laws.proofs.Cases.{cond_so}
 use Rattle.pulsar_laws.specs.Laws.{base_of}
 use Rattle.pulsar_laws.specs.AddressLaws.{AttemptsFollow, Begun, Followed}
-use Rattle.pulsar_acts.specs.Rules.{tries_again}
+use Rattle.pulsar_acts.specs.Rules.{tries_again, gets}
 use Rattle.pulsar_acts.specs.View.{pause_after, pause_for, pause_of, pause_on, pause_rung}
 use Rattle.pulsar_links.specs.Seats.{is_retryable, pause_put}
 use Rattle.pulsar_calls.specs.declared.act.Outcome.TheVariants as outcome
 use Rattle.pulsar_client.proofs.Acts.{each_drop}
 use Rattle.pulsar_client.proofs.Raising.{IsRaised, OfAttempt, may, raises}
 use Rattle.pulsar_links.specs.Gets.{given_from, not_found}
-use Rattle.pulsar_acts.specs.Rules.{gets}
 
 -- WHAT IS NO ATTEMPT
 

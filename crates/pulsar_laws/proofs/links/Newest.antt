@@ -1,5 +1,5 @@
 -- What is seen of the clock and of the addresses is what the log's newest entries say.
-use Rattle.std.proofs.Common.{◌≡◌, ◌∙◌, ap, ℕ, List, [], ◌∷◌, refl, arith, Bool, true, false, cond, nat_le, ◌&&◌, Option, Some, None}
+use Rattle.std.proofs.Common.{◌≡◌, ◌∙◌, ap, ℕ, List, [], ◌∷◌, refl, arith, Bool, true, false, cond, nat_le, ◌&&◌, Option, Some, None, ◌++◌}
 use Rattle.std.proofs.lemmas.Bool.Decides.{nat_tests}
 use Rattle.std.proofs.lemmas.Grind.{common_steps}
 use Rattle.std.specs.Str.{bytes_eq}
@@ -10,10 +10,8 @@ use Rattle.pulsar_requests.specs.Waits.{later_of}
 use Rattle.pulsar_calls.specs.Content.{Ticked}
 use Rattle.pulsar_laws.specs.Laws.{ClockIs}
 use Rattle.pulsar_laws.specs.AddressLaws.{SeriesIsNewest, newest_turn, turn_of, turn_on, turn_over}
-use Rattle.pulsar_acts.specs.View.{base_on, waits_on}
+use Rattle.pulsar_acts.specs.View.{base_on, waits_on, address_given}
 use Rattle.pulsar_links.specs.Seats.{base_over, base_turned, nobody}
-use Rattle.pulsar_acts.specs.View.{address_given}
-use Rattle.std.proofs.Common.{◌++◌}
 
 -- THE CLOCK
 

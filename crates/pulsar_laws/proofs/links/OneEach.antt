@@ -13,13 +13,11 @@ use Rattle.pulsar_laws.proofs.Cases.{none_some, some_is}
 use Rattle.pulsar_laws.specs.Laws.{base_of}
 use Rattle.pulsar_laws.specs.AddressLaws.{Attempted, AttemptsFollow, Begun, OneLinkEach, names_link}
 use Rattle.pulsar_links.specs.Links.{arrival, change_at, change_by, change_in}
-use Rattle.pulsar_acts.specs.View.{base_on, is_to_follow, pause_for, pause_on, pause_rung, waits_on}
+use Rattle.pulsar_acts.specs.View.{base_on, is_to_follow, pause_for, pause_on, pause_rung, waits_on, address_given}
 use Rattle.pulsar_links.specs.Seats.{base_turned, is_for, may_retry, nobody, pause_put, pause_with}
 use Rattle.pulsar_links.specs.Asks.{Deed, IsAsked, IsClosed, IsDrained, IsFed, IsGot, IsOpened, IsPinged, IsRead, seat_by}
 use Rattle.pulsar_acts.proofs.Linking.{took_is}
 use Rattle.pulsar_laws.proofs.links.Rows.{after_holds, begun_holds}
-use Rattle.pulsar_laws.proofs.RunWords.{begun_same}
-use Rattle.pulsar_acts.specs.View.{address_given}
 use Rattle.pulsar_laws.proofs.links.Attempts.{is_dial}
 
 abbrev pub series_at : View → List ℕ → Series

@@ -12,7 +12,7 @@ use Rattle.pulsar_calls.specs.declared.act.Outcome.TheVariants as outcome
 use Rattle.pulsar_producer_table.specs.declared.table.Topic.{Topic}
 use Rattle.pulsar_producer_table.specs.Producers.{drawn, is_settled_at, link_at, next_batch_at, number_drawn, recalled, turn_taken}
 use Rattle.pulsar_producer_table.specs.Asks.{draw_outcome, draw_said, grants_it, link_said, recall_said, turn_said}
-use Rattle.pulsar_acts.specs.Rules.{number_said, says_to}
+use Rattle.pulsar_acts.specs.Rules.{number_said, says_to, gets}
 use Rattle.pulsar_consumer_table.specs.Asks.{recalled_said, sought_said}
 use Rattle.pulsar_acts.specs.Reading.{numbering_said}
 use Rattle.pulsar_consumer_table.specs.Consumers as consumer
@@ -24,7 +24,6 @@ use Rattle.pulsar_client.proofs.Raising.{IsRaised}
 use Rattle.pulsar_laws.proofs.Cases.{cond_so}
 use Rattle.pulsar_acts.specs.View.{asked_of}
 use Rattle.pulsar_links.specs.Gets.{given_from, not_found}
-use Rattle.pulsar_acts.specs.Rules.{gets}
 
 -- what a topic producer grants, by what is granted
 abbrev pub TopicGives : View → (number : ℕ) → News → TopicAsk → Type 0

@@ -21,7 +21,7 @@ use Rattle.pulsar_outgoing.specs.declared.news.News.TheVariants as news
 use Rattle.pulsar_producer_table.specs.Producers.{next_batch_at}
 use Rattle.pulsar_producer_table.specs.declared.table.Topic.{Topic}
 use Rattle.pulsar_links.specs.LinkRules.{told_at}
-use Rattle.pulsar_links.specs.Seats.{asker_at}
+use Rattle.pulsar_links.specs.Seats.{asker_at, base_waiting}
 use Rattle.pulsar_calls.specs.declared.act.Outcome.TheVariants as outcome
 use Rattle.pulsar_client.proofs.Raising.{IsRaised, raises}
 use Rattle.pulsar_plans.proofs.Arcs.{StaysSo, told_arc}
@@ -52,7 +52,6 @@ use Rattle.pulsar_laws.proofs.producers.Turns.{sum_append}
 use Rattle.pulsar_acts.proofs.Linking.{asked_is}
 use Rattle.pulsar_links.specs.Gets as of_address
 use Rattle.pulsar_links.specs.Gets.{given_from, not_found}
-use Rattle.pulsar_links.specs.Seats.{base_waiting}
 use Rattle.pulsar_acts.specs.View.{address_given}
 use Rattle.pulsar_acts.specs.Rules.{gets as gives}
 

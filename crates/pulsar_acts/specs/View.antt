@@ -23,7 +23,7 @@ use Rattle.pulsar_calls.specs.declared.act.Alarm.{Alarm}
 use Rattle.pulsar_calls.specs.declared.act.Alarm.TheVariants.{Retry, Wake, Batch, KeepAlive, CheckIdle}
 use Rattle.pulsar_calls.specs.declared.act.End.{End}
 use Rattle.pulsar_calls.specs.declared.act.LinkAct.{LinkAct}
-use Rattle.pulsar_calls.specs.declared.act.LinkAct.TheVariants.{Reads, Ends}
+use Rattle.pulsar_calls.specs.declared.act.LinkAct.TheVariants.{Opens, Reads, Drains, Pings, Ends}
 use Rattle.pulsar_calls.specs.declared.act.Makes.{Makes}
 use Rattle.pulsar_calls.specs.declared.act.Makes.TheVariants.{Nothing, Client, Consumer, RawConsumer, Producer}
 use Rattle.pulsar_calls.specs.declared.act.Outcome.{Outcome}
@@ -269,8 +269,13 @@ abbrev pub pause_of : Chosen → End → Place → Series → Option Pause
 pause_of o end p s = option_map (pause_with p) (may_retry o.connection.max_retries end s)
 
 abbrev pub pause_for : Chosen → LinkAct → Change → Place → Series → Option Pause
+pause_for o Opens change p s = None
+pause_for o Reads change p s = None
+pause_for o (Drains most) change p s = None
+pause_for o Pings change p s = None
+pause_for o (Ends end) Remains p s = None
+pause_for o (Ends end) Becomes p s = None
 pause_for o (Ends end) IsOver p s = pause_of o end p s
-pause_for o x change p s = None
 
 abbrev pub turned_by : Chosen → Addresses → (now link : ℕ) → LinkAct → Seat → Turned
 turned_by o known now l x seat =

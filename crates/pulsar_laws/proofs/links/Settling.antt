@@ -393,15 +393,22 @@ module _ (l place : ℕ) where
           length (told_ever s place (filter_map call_by past) []) ≤ length (told_ever s place (cons_option c calls) [])
       by None h = h
       by (Some act) h =
-          let told = option_to_list (told_in act (session.seen s (calls ++ [])) place) in
+          let told : List Fate = option_to_list (told_in act (session.seen s (calls ++ [])) place) in
           let l = length-append (told_ever s place calls []) told in
-          omega (arith, h, l)
+          let all_told : length (told_ever s place (filter_map call_by past) []) ≤ length (told_ever s place calls [] ++ told) = omega (arith, h, l) in
+          all_told
 
   -- what is done to it tells nothing else
   others_few : (o : Options) (log : List Entry) (es : List Deed) → Few o log →
       ((s : Setup) → dialed_with o l log ≡ Some s → length (all o log) ≤ length (told_ever s place (filter_map call_by (es ++ past o log)) []))
       × (dialed_with o l log ≡ None → length (all o log) ≤ 0)
-  others_few o log es k = (λ s d. let f = k.0 s d in let g = ever_more s es (past o log) in omega (arith, f, g), k.1)
+  others_few o log es k = (
+    λ s d.
+        let f : length (all o log) ≤ length (told_ever s place (filter_map call_by (past o log)) []) = k.0 s d in
+        let g = ever_more s es (past o log) in
+        omega (arith, f, g),
+    k.1,
+  )
 
   -- what a link is told, and the calls of its connection
   abbrev Told : Options → List Entry → List Settlement → List Deed → Type 0
@@ -433,8 +440,10 @@ module _ (l place : ℕ) where
         ≤ length (told_ever s place (call_at x now (Some seat) ++ calls_of o l log) []) =
         call_few s (calls_of o l log) seat.seen (settled_so x now seat.seen place) (call_of x now seat.seen)
         (m.same ∙ ap (λ t. session.seen t (calls_of o l log)) same) in
+        let most : length (told_at x now place (Some seat)) + length (all o log) ≤ length (told_ever s place (call_at x now (Some seat) ++ calls_of o l log) []) =
+        omega (arith, f, g) in
         subst (λ calls. length (told_at x now place (Some seat)) + length (all o log) ≤ length (told_ever s place calls []))
-        (sym (called_so x now seat (past o log))) (omega (arith, f, g)),
+        (sym (called_so x now seat (past o log))) most,
     λ d. absurd (none_some (sym d ∙ (alone o log l seat h).dialed)),
   )
 

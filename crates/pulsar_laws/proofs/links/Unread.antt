@@ -329,7 +329,7 @@ module _ (o : Options) (l : ℕ) (log : List Entry) (k : Reading o l log) where
       absurd
       (none_some (sym (took_broken c v.now (v.links.live l))
       ∙ sym (took_is v l x l ∙ ap (λ b. cond b (took_some x v.now (v.links.live l)) (v.links.live l)) (own_link l)) ∙ live))
-  own_act x y = absurd cc
+  own_act x y seat live = absurd cc
 
   to_link : (m : ℕ) (x : LinkAct) → first (agenda o log) ≡ Some (Comes (ToLink m x)) → Reading o l (Then (Comes (ToLink m x)) ∷ log)
   to_link m x f = elim (cases_Bool (is_done_by l (Comes (ToLink m x)))) [

@@ -38,7 +38,7 @@ use Rattle.pulsar_laws.proofs.links.Ending.{ended_so, started, up}
 use Rattle.pulsar_laws.proofs.links.Onward.{Follows, Upto, acts_done, done_on, follows, rests_below, rests_on, steps_on, upon, upto}
 use Rattle.pulsar_laws.proofs.links.Unread.{came_short, drawn_stage, moved_stage, none_parts, nothing_came, short_taken}
 use Rattle.pulsar_links.specs.Asks.{Deed, IsAsked, IsClosed, IsDrained, IsFed, IsGot, IsOpened, IsPinged, IsRead, seat_by}
-use Rattle.pulsar_acts.proofs.Linking.{fed_is, took_is}
+use Rattle.pulsar_acts.proofs.Linking.{fed_is as begun_is, took_is}
 use Rattle.pulsar_laws.proofs.links.Rows.{CameFrom, after_holds}
 
 -- READING COMES BY PARTS ALONE
@@ -453,7 +453,7 @@ module _ (o : Options) (l : ℕ) (a b : List ℕ) (older : List Entry) where
 
       fed_row : (j : ℕ) → live_begun (Bytes l b) j ((moved l (clocked v'.now) v').links.live j) ≡ (moved l (clocked v'.now) w).links.live j
       fed_row j =
-          fed_is l b j ((moved l (clocked v'.now) v').links.live j)
+          begun_is l b j ((moved l (clocked v'.now) v').links.live j)
           ∙ rows_with l v'.links.live (Some r.seat) (λ c row. on (seat_fed b) c (on (clocked v'.now) c row))
           (λ c row. on (clocked v'.now) c (on (holding all) c row)) r.row (ap Some fed_seat) (λ row. refl) j
 
@@ -566,7 +566,9 @@ module _ (o : Options) (l : ℕ) (a b : List ℕ) (older : List Entry) where
     opens_so : (seat : Seat) → v0.links.live l ≡ Some seat → is_open seat.seen.stage ≡ true → Reading []
     opens_so seat e opened = record {
       seat = seat_fed a seat;
-      row = ap (λ (v : View). v.links.live l) began ∙ own_row l (option_map (seat_fed a) (v0.links.live l)) (v0.links.live l) ∙ ap (option_map (seat_fed a)) e;
+      row =
+          ap (λ (v : View). v.links.live l) began ∙ begun_is l a l (v0.links.live l)
+          ∙ own_row l (option_map (seat_fed a) (v0.links.live l)) (v0.links.live l) ∙ ap (option_map (seat_fed a)) e;
       opened = ap (λ (s : Seen). is_open s.stage) (fed_is a) ∙ opened;
       sees =
           ap (λ c. cond c (begun_live (Bytes l (a ++ b)) v0) v0) live ∙ (λ i. record v0 { links = record { started = v0.links.started; live = λ k. rows k i } })
@@ -595,10 +597,10 @@ module _ (o : Options) (l : ℕ) (a b : List ℕ) (older : List Entry) where
 
         rows : (k : ℕ) → live_begun (Bytes l (a ++ b)) k (v0.links.live k) ≡ (other l bytes' (begun_live (Bytes l a) v0)).links.live k
         rows k =
-            fed_is l (a ++ b) k (v0.links.live k)
+            begun_is l (a ++ b) k (v0.links.live k)
             ∙ rows_with l v0.links.live (Some seat) (on (seat_fed (a ++ b))) (λ c row. on (holding bytes') c (on (seat_fed a) c row)) e (ap Some fed_both)
             (λ row. refl) k
-            ∙ ap (on (holding bytes') (k == l)) (sym (fed_is l a k (v0.links.live k)))
+            ∙ ap (on (holding bytes') (k == l)) (sym (begun_is l a k (v0.links.live k)))
 
     begin_at : (row : Option Seat) → v0.links.live l ≡ row → Phase []
     begin_at None e = shut both_begin (record { none = refl; shut = ap (is_at is_open) e })

@@ -141,7 +141,8 @@ module _ (P : Option Seat → Type 0) (v : View) (l : ℕ) where
   after_holds a born gone more h =
       after_so (λ b es row. P row) v l a born gone h (λ d c e. subst P e h) (λ d c seat e. more d c seat e (subst P e h))
 
-  pub begun_holds : (e : Heard) → ((piece : List ℕ) → e ≡ Bytes l piece → (seat : Seat) → v.links.live l ≡ Some seat → P (Some seat) → P (Some (seat_fed piece seat))) →
+  pub begun_holds : (e : Heard) →
+      ((piece : List ℕ) → e ≡ Bytes l piece → (seat : Seat) → v.links.live l ≡ Some seat → P (Some seat) → P (Some (seat_fed piece seat))) →
       P (v.links.live l) → P ((begun e v).links.live l)
   begun_holds (Bytes k piece) fed h =
       cond_when (λ (w : View). P (w.links.live l)) (is_live v (Bytes k piece)) (begun_live (Bytes k piece) v) v

@@ -413,7 +413,8 @@ module _ (l place : ℕ) where
   -- what a link is told, and the calls of its connection
   abbrev Told : Options → List Entry → List Settlement → List Deed → Type 0
   Told o log told es =
-      ((s : Setup) → dialed_with o l log ≡ Some s → length told + length (all o log) ≤ length (told_ever s place (filter_map call_by (es ++ past o log)) []))
+      ((s : Setup) → dialed_with o l log ≡ Some s →
+      length told + length (all o log) ≤ length (told_ever s place (filter_map call_by (es ++ past o log)) []))
       × (dialed_with o l log ≡ None → length told + length (all o log) ≤ 0)
 
   called_so : (x : LinkAct) (now : ℕ) (seat : Seat) (past : List Deed) →
@@ -429,7 +430,9 @@ module _ (l place : ℕ) where
 
   link_few : (o : Options) (log : List Entry) (x : LinkAct) (row : Option Seat) → (view o log).links.live l ≡ row → Few o log →
       Told o log (told_at x (view o log).now place row) (comes_by x (view o log).now row)
-  link_few o log x None h k = others_few o log (comes_by x (view o log).now None) k
+  link_few o log x None h k =
+      let z = others_few o log (comes_by x (view o log).now None) k in
+      (λ s d. let f = z.0 s d in omega (arith, f), λ d. let f = z.1 d in omega (arith, f))
   link_few o log x (Some seat) h k = (
     λ s d.
         let now : ℕ = (view o log).now in

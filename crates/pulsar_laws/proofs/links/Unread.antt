@@ -30,7 +30,7 @@ use Rattle.pulsar_wire.specs.declared.key.RequestKey.TheVariants as keys
 use Rattle.pulsar_session.specs.Link as session
 use Rattle.pulsar_calls.specs.declared.act.Arrival.TheVariants as arrivals
 use Rattle.pulsar_laws.proofs.links.Alone.{Made, alone}
-use Rattle.pulsar_links.specs.Asks.{Deed, IsAsked, IsClosed, IsDrained, IsFed, IsGot, IsOpened, IsPinged, IsRead, seat_by}
+use Rattle.pulsar_links.specs.Asks.{Deed, IsAsked, IsClosed, IsDrained, IsFed, IsGot, IsOpened, IsPinged, IsRead as ReadsIt, seat_by}
 use Rattle.pulsar_acts.proofs.Linking.{took_is}
 use Rattle.pulsar_laws.proofs.links.Rows.{CameFrom, IsDialed, after_holds}
 
@@ -267,7 +267,7 @@ drained_unread most now v = by (is_open v.stage)
 unread_by : (v : View) (l : ℕ) (a : Act) (d : Deed) → CameFrom v l a d → is_done_by l a ≡ false → (seat : Seat) →
     (seat_by d seat).seen.unread ≡ seat.seen.unread
 unread_by v l a (IsOpened now) c n seat = (opening seat.seen.stage (ticked now seat.seen) refl).unread
-unread_by v l a (IsRead now) c n seat = (let f : true ≡ false = sym (own_link l) ∙ sym (ap (is_done_by l) c.0) ∙ n in absurd cc)
+unread_by v l a (ReadsIt now) c n seat = (let f : true ≡ false = sym (own_link l) ∙ sym (ap (is_done_by l) c.0) ∙ n in absurd cc)
 unread_by v l a (IsDrained most now) c n seat = drained_unread most now seat.seen
 unread_by v l a (IsPinged now) c n seat = asked_unread now SendPing seat.seen
 unread_by v l a (IsAsked who now request) c n seat = asked_unread now request seat.seen

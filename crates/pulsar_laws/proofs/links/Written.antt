@@ -360,9 +360,9 @@ fresh_link l n o now p row ss e k = record {
 }
 
 -- one who gets it changes nothing of its connection
-got_row : (l n now : ℕ) (row : Option Seat) (ss : List Step) → Wrote l n row ss → Wrote l n (option_map (seat_got now) row) ss
-got_row l n now None ss k = k
-got_row l n now (Some r) ss k = record {
+got_same : (l n now : ℕ) (row : Option Seat) (ss : List Step) → Wrote l n row ss → Wrote l n (option_map (seat_got now) row) ss
+got_same l n now None ss k = k
+got_same l n now (Some r) ss k = record {
   places = k.places;
   left = k.left;
   whole = k.whole;
@@ -379,7 +379,7 @@ got_on l n now None row ss k = k
 got_on l n now (Some m) row ss k = either (l == m)
   where
     either : (b : Bool) → Wrote l n (cond b (option_map (seat_got now) row) row) ss
-    either true = got_row l n now row ss k
+    either true = got_same l n now row ss k
     either false = k
 
 -- and effects behind others that neither write nor queue a frame show nothing

@@ -44,4 +44,7 @@ returns-clause-sees c =
     let asked = c.in_ok-is_asked.ensures in
     let after = c.in_ok-notices.ensures.after ∙ (λ i. all_changed (closes (closed i) l (asked.asked i)) v.consumers) in
     on_ok_weaker c.tell.result
-    (λ told. λ i. record v { links = record { started = asked.started i; live = λ k. (asked.live k ∙ sym (asked_is v c.args.who l c.args.request k)) i }; consumers = after i }) c.tell.ensures
+    (λ told. λ i. record v {
+      links = record { started = asked.started i; live = λ k. (asked.live k ∙ sym (asked_is v c.args.who l c.args.request k)) i };
+      consumers = after i;
+    }) c.tell.ensures

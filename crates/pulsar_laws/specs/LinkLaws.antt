@@ -2,11 +2,11 @@
 -- in the log.
 use Rattle.std.specs.Prelude.{◌≡◌, ℕ, ◌≤◌, ◌==◌, ◌&&◌, ◌||◌, Bool, true, false, if◌then◌else◌, List, [], ◌∷◌, ◌++◌, length, map, Option, Some, None}
 use Rattle.std.specs.List.{flat_map}
-use Rattle.std.specs.Option.{is_some, option_to_list}
+use Rattle.std.specs.Option.{option_to_list}
 use Rattle.pulsar_run.specs.Laws.{In}
 use Rattle.pulsar_session.specs.Link.{Seen, due}
 use Rattle.pulsar_session.specs.Laws.{RequestOutcome as Fate, Replied, Ended, told_in}
-use Rattle.pulsar_links.specs.Seats.{Seat, closing, has_ended}
+use Rattle.pulsar_links.specs.Seats.{Seat, has_ended}
 use Rattle.pulsar_calls.specs.declared.act.Act.TheVariants.{Comes}
 use Rattle.pulsar_calls.specs.declared.act.End.TheVariants.{Overdue}
 use Rattle.pulsar_calls.specs.declared.act.LinkAct.{LinkAct}

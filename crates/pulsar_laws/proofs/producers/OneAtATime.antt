@@ -3,7 +3,7 @@ use Rattle.std.specs.Prelude.{bytes_eq}
 use Rattle.std.proofs.Common.{◌≡◌, ◌⊎◌, inl, inr, ◌∙◌, sym, ap, subst, ℕ, ◌+◌, ◌≤◌, ◌==◌, arith, List, [], ◌∷◌, ◌++◌, refl, Bool, true, false, ◌&&◌, cond, Option, Some, None, Result, Ok, Err}
 use Rattle.std.proofs.lemmas.Bool.{cases_Bool, eqb-true}
 use Rattle.std.specs.Option.{option_map}
-use Rattle.pulsar_laws.proofs.ActWords.{Act, Action, Alarm, Answers, Ask, Comes, Dials, Does, FindConsumer, Get, is_same, Notice, OfTopic, Outcome, Part, PassTurn, Procedure, Producer, Rest, Starts, StopAll, TakeBatch, Told, Verdict, Wait, Who, OfConsumer}
+use Rattle.pulsar_laws.proofs.ActWords.{Act, Action, Alarm, Answers, Ask, Comes, Dials, Does, FindConsumer, Get, is_same, Notice, OfTopic, Outcome, Part, PassTurn, Procedure, Producer, Rest, Starts, StopAll, TakeBatch, Told, Wait, Who, OfConsumer}
 use Rattle.pulsar_laws.proofs.PlanWords.{Batching, begins, Gives, Plan, PlanTransition, Stays, told}
 use Rattle.pulsar_laws.proofs.RunWords.{agenda, at_once, Begins, begun_same, does, Each, each_append, each_map, Entry, first_of, follows, follows_some, IsRun, notice, Options, performs, rest, rest_of, rules, stays, stays_some, Then, told_some, view, View}
 use Rattle.pulsar_laws.proofs.LinkWords.{answer_at, Base, Nobody, Pauses, place_of, Place, Runs, Seat, seat_asked, Series, Serves, Words}

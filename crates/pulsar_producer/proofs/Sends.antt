@@ -59,7 +59,7 @@ looks_none e m c (transition.Gives (Err f)) link s is = cc
 
 frame_of : (e : Errand) (d : Drawn) (m : ProducerMessageValues) (link : ℕ) (s : Send) → deeds_in (send_asks e d m) ≡ Sends link s ∷ []
     →
-        (d' : Drawn) × (m' : ProducerMessageValues) × (◌≡◌ {A = News} (Drew d) (Drew d')) × (send.Drawing m ≡ send.Drawing m') × (link ≡ d'.link) × (s ≡ send_of e d' m')
+    (d' : Drawn) × (m' : ProducerMessageValues) × (◌≡◌ {A = News} (Drew d) (Drew d')) × (send.Drawing m ≡ send.Drawing m') × (link ≡ d'.link) × (s ≡ send_of e d' m')
 frame_of e d m link s is = (d, m, refl, refl, cc, cc)
 
 in_waiting_none : (e : Errand) (m : ProducerMessageValues) (n : News) (link : ℕ) (s : Send) → deeds_in (in_waiting e m n) ≡ Sends link s ∷ [] → ⊥

@@ -1,17 +1,12 @@
 -- Those who wait at a topic producer: a call above all others goes behind them.
-use Rattle.std.proofs.Common.{◌≡◌, ◌∙◌, sym, ap, refl, ℕ, suc, ◌+◌, ◌<◌, ◌≤◌, ◌==◌, nat_lt, Bool, true, false, cond, List, [], ◌∷◌, ◌++◌, length, take, drop, get_or, append_assoc, arith}
-use Rattle.std.proofs.Math.ListN.{drop_of_length-le}
-use Rattle.std.proofs.Math.Seq.{drop-cons}
-use Rattle.std.proofs.lemmas.List.{take_more, take-append-drop}
+use Rattle.std.proofs.Common.{◌≡◌, sym, ap, refl, subst, ℕ, ◌<◌, ◌≤◌, ◌==◌, nat_lt, Bool, true, false, cond, List, [], ◌∷◌, ◌++◌, Result, Ok, Err, OnOk, OnErr, arith}
 use Rattle.std.proofs.lemmas.Bool.Decides.{nat_tests}
-use Rattle.std.specs.List.{insert}
 use Rattle.std.specs.Ordering.{match_ordering}
-use Rattle.std.specs.declared.cmp.Ordering.{Ordering}
 use Rattle.std.specs.declared.cmp.Ordering.TheVariants.{Less, Equal, Greater}
 use Rattle.pulsar_producer.specs.declared.multi_topic.content.Taker.{Taker}
 use Rattle.pulsar_producer.specs.declared.multi_topic.content.Taker.TheVariants.{Call, Copy}
 use Rattle.pulsar_producer.specs.Laws.{tickets}
-use Rattle.pulsar_producer.specs.Turns.{AreAtMost, beside, placed, rest_of}
+use Rattle.pulsar_producer.specs.Turns.{AreAtMost, placed}
 
 -- each of these is lower
 abbrev pub AreBelow : ℕ → List ℕ → Type 0
@@ -51,11 +46,6 @@ most_copy consumer key g [] all = tt
 most_copy consumer key g (Call u ∷ ws) all = (all.0, most_copy consumer key g ws all.1)
 most_copy consumer key g (Copy other more ∷ ws) all = most_copy consumer key g ws all
 
-pub most_rest : (g : ℕ) (ws : List Taker) → AreAtMost g ws → AreAtMost g (rest_of ws)
-most_rest g [] all = tt
-most_rest g (Call u ∷ ws) all = all.1
-most_rest g (Copy consumer key ∷ ws) all = all
-
 pub most_placed : (t g : ℕ) (ws : List Taker) → t ≤ g → AreAtMost g ws → AreAtMost g (placed t ws)
 most_placed t g [] le all = (le, tt)
 most_placed t g (Copy consumer key ∷ ws) le all = most_placed t g ws le all
@@ -67,32 +57,7 @@ most_placed t g (Call u ∷ ws) le all = by (nat_lt t u) (t == u) (most_placed t
     by false true more = all
     by false false more = (all.0, more)
 
--- WHERE A CALL GOES, looked for from the front
-
-module _ (t i : ℕ) (xs : List Taker) (x : Taker) (lt : i < length xs) (at : x ≡ get_or xs i x) (so_far : placed t xs ≡ take i xs ++ placed t (drop i xs)) where
-  rest_is : drop i xs ≡ x ∷ drop (i + 1) xs
-  rest_is =
-      let on : suc i ≡ i + 1 = omega arith in
-      drop-cons xs i x lt ∙ ap (λ y. y ∷ drop (suc i) xs) (sym at) ∙ ap (λ n. x ∷ drop n xs) on
-
-  goes : (o : Ordering) → beside t x ≡ o
-      → placed t xs ≡ take i xs ++ match_ordering o (Call t ∷ x ∷ drop (i + 1) xs) (x ∷ drop (i + 1) xs) (x ∷ placed t (drop (i + 1) xs))
-  goes o is =
-      so_far ∙ ap (λ ys. take i xs ++ placed t ys) rest_is
-      ∙ ap (λ r. take i xs ++ match_ordering r (Call t ∷ x ∷ drop (i + 1) xs) (x ∷ drop (i + 1) xs) (x ∷ placed t (drop (i + 1) xs))) is
-
-  pub spot_here : beside t x ≡ Less → placed t xs ≡ insert xs i (Call t)
-  spot_here is = goes Less is ∙ ap (λ ys. take i xs ++ Call t ∷ ys) (sym rest_is)
-
-  pub spot_same : beside t x ≡ Equal → placed t xs ≡ xs
-  spot_same is = goes Equal is ∙ ap (λ ys. take i xs ++ ys) (sym rest_is) ∙ take-append-drop i xs
-
-  pub spot_on : beside t x ≡ Greater → placed t xs ≡ take (i + 1) xs ++ placed t (drop (i + 1) xs)
-  spot_on is =
-      let more : take (i + 1) xs ≡ take i xs ++ x ∷ [] = take_more xs i x lt ∙ ap (λ y. take i xs ++ y ∷ []) (sym at) in
-      goes Greater is ∙ sym (append_assoc (take i xs) (x ∷ []) (placed t (drop (i + 1) xs))) ∙ ap (λ ys. ys ++ placed t (drop (i + 1) xs)) (sym more)
-
-pub spot_end : (t i : ℕ) (xs : List Taker) → length xs ≤ i → placed t xs ≡ take i xs ++ placed t (drop i xs) → placed t xs ≡ insert xs i (Call t)
-spot_end t i xs le so_far =
-    let none : drop i xs ≡ [] = drop_of_length-le xs le in
-    so_far ∙ ap (λ ys. take i xs ++ placed t ys) none ∙ ap (λ ys. take i xs ++ Call t ∷ ys) (sym none)
+pub most_either : {A E : Type 0} (r : Result A E) (t g : ℕ) (old new : List Taker) → t ≤ g → AreAtMost g old →
+    OnOk r (new ≡ placed t old) → OnErr r (new ≡ old) → AreAtMost g new
+most_either (Ok a) t g old new le all ok err = subst (AreAtMost g) (sym ok) (most_placed t g old le all)
+most_either (Err e) t g old new le all ok err = subst (AreAtMost g) (sym err) all

@@ -5,12 +5,12 @@ ghost use Rattle.pulsar_producer.specs.MultiPlans as meaning;
 
 use crate::building::{self, BuildingProducer, Builds};
 use crate::deed::Deed;
-use crate::multi_topic::deed::{MultiDeed, MultiNews, multi_failure};
-use pulsar_addresses::content::{Refusal, Text};
-use pulsar_outgoing::content::Parts;
 use crate::multi_topic::content::{
     Dispatch, Handing, Joining, Missing, MultiAsk, MultiSaid, UserMessage,
 };
+use crate::multi_topic::deed::{MultiDeed, MultiNews, multi_failure};
+use pulsar_addresses::content::{Refusal, Text};
+use pulsar_outgoing::content::Parts;
 use pulsar_outgoing::orders::ProducerOrder;
 use pulsar_searches::transition::Transition;
 use pulsar_searches::turn::Ways;
@@ -164,7 +164,12 @@ fn goes(order: ProducerOrder, message: UserMessage, step: Builds) -> Result<Disp
     }
 }
 
-fn stays(order: ProducerOrder, message: UserMessage, building: BuildingProducer, deed: Deed) -> Dispatches
+fn stays(
+    order: ProducerOrder,
+    message: UserMessage,
+    building: BuildingProducer,
+    deed: Deed,
+) -> Dispatches
     ensures { result ≡ meaning.send_builds order message (Transition.Stays building deed) }
 {
     Transition::Stays(

@@ -194,7 +194,7 @@ IsToldSo o w d e older =
 abbrev pub ComesLate : Options → Who → Deed → Entry → List Entry → Type 0
 ComesLate o w d e older =
     (asked : Asked) × (said : List (Option ℕ)) × (e ≡ Then (Comes (Calls asked said))) × (w ≡ Call (2 ^ 64 - 1))
-        × (lacks_tickets (view o older).calls.drawn (shares asked) ≡ true)
+    × (lacks_tickets (view o older).calls.drawn (shares asked) ≡ true)
     × (d ≡ Answered (fails Exhausted))
 
 -- Each action of a plan, and its verdict, comes right behind the start of the plan or the outcome that leads to it. So it stands in the

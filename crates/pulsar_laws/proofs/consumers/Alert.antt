@@ -283,7 +283,7 @@ module _ (once : EndsOnce) (o : Options) (log : List Entry) (t : ℕ) (was : Ale
       let u : t ≡ x.1 = eqb-true t x.1 (ap (λ y. t == ticket_of y) (sym x.2) ∙ d) in
       let s : w ≡ Consumer x.0 t = x.2 ∙ ap (Consumer x.0) (sym u) in
       subst (λ y. IsAlert o (Then (Does y (OfConsumer (Revive j))) ∷ log) m.seen.number t) (sym s) (by x.0 (subst (λ y. IsRun o (Then (Does y (OfConsumer
-          (Revive j))) ∷ log)) s run))
+      (Revive j))) ∷ log)) s run))
     where
       by : (n : ℕ) → IsRun o (Then (Does (Consumer n t) (OfConsumer (Revive j))) ∷ log) →
           IsAlert o (Then (Does (Consumer n t) (OfConsumer (Revive j))) ∷ log) m.seen.number t

@@ -128,7 +128,7 @@ module _ (once : EndsOnce) (o : Options) (log : List Entry) (n t l m p : ℕ) (r
       ∙ row_done (view o took) t (Told told_so) _ ((view o took).consumers.rows t) (done_to o t took)
       (asked_there o x.older n t told_so x.was_due.member x.was_due.is_there)
       ∙ row_done (view o x.older) t (Does (Consumer n t) (OfConsumer TakeFlow)) x.was_due.member ((view o x.older).consumers.rows t)
-          (done_to o t x.older) x.was_due.is_there
+      (done_to o t x.older) x.was_due.is_there
       ∙ ap (λ b. deeds_do (cond b (FlowTaken ∷ []) []) x.was_due.member ++ done_to o t x.older) (eq-eqb t t refl)
 
   -- its permits count as taken

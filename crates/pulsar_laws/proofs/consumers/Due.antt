@@ -354,7 +354,7 @@ module _ (o : Options) (log : List Entry) (t : ℕ) (m : Member) (there : (view 
       due_append m.seen.number t (again_at (v.consumers.rows t)) (due_at t (option_map (revived l url) (v.consumers.rows t)))
       (subst (λ row. In (due_to_plan m.seen.number t) (map Told (due_at t (option_map (revived l url) row)))) (sym there) i) in
       inr (inl (subst (λ x. In (due_to_plan m.seen.number t) (map Told (again_at (v.consumers.rows x) ++ due_at x (option_map (revived l url)
-          (v.consumers.rows x)))))
+      (v.consumers.rows x)))))
       (eqb-true t (ticket_of who) e) j))
     where
       seen_number : (url : Option Parts) → (revived l url m).seen.number ≡ m.seen.number

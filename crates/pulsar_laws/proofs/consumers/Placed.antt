@@ -344,7 +344,7 @@ is_placed once o log n t l m p run = led (led_by o n t log (Ask l (words.SendFlo
     due_here : (older : List Entry) →
         log ≡ Then (Told (notice (Consumer n t) (outcome.Word (word.Flow l p)))) ∷ Then (Does (Consumer n t) (OfConsumer TakeFlow)) ∷ older →
         IsRun o (Then (Told (notice (Consumer n t) (outcome.Word (word.Flow l p)))) ∷ Then (Does (Consumer n t) (OfConsumer TakeFlow)) ∷ older) →
-            IsPlaced o log n t l m p
+        IsPlaced o log n t l m p
     due_here older is r =
         let e : outcome.Word (flow_said (flow_at ((view o older).consumers.rows t))) ≡ outcome.Word (word.Flow l p) =
         ap said (some_is (sym (told_flow o older n t) ∙ r.1)) in

@@ -362,7 +362,7 @@ module _ (o : Options) (log : List Entry) (t : ℕ) where
       (append-nil (loss_does l (closing end (view o log).now ((view o log).links.live l))))
   kept_by (Does who (OfConsumer (Revive l))) m n run was is =
       again_rides o log (Does who (OfConsumer (Revive l))) t m n was is l (revives_ready o log who l run) (λ end k at. absurd cc) (λ k h. by
-          (t == ticket_of who) k h)
+      (t == ticket_of who) k h)
     where
       by : (b : Bool) (k : ℕ) → link_of (applied (deeds_do (cond b (Revived l (url_at ((view o log).links.live l)) ∷ []) []) m) m.seen) ≡ Some k →
           (link_of m.seen ≡ Some k) ⊎ ((k ≡ l) × IsLive (view o log) l)

@@ -102,7 +102,7 @@ Pending o log t =
 abbrev Follows : Options → List Entry → (ticket : ℕ) → Act → Type 0
 Follows o log t a =
     ((n l p : ℕ) × (older : List Entry) × (flow_at ((view o older).consumers.rows t) ≡ Some (l, p))
-        × (log ≡ Then (Does (Consumer n t) (OfConsumer TakeFlow)) ∷ older)
+    × (log ≡ Then (Does (Consumer n t) (OfConsumer TakeFlow)) ∷ older)
     × (a ≡ Told (notice (Consumer n t) (outcome.Word (word.Flow l p)))))
     ⊎ ((n l p : ℕ) × (a ≡ Does (Consumer n t) (Ask l (words.SendFlow n p))))
 
@@ -114,7 +114,7 @@ follows_next o log t run a fits (n, l, p, older, flow, inl is) =
     (Told (notice (Consumer n t) (outcome.Word (word.Flow l p))), sym fits ∙ ap (λ y. first (agenda o y)) is ∙ x, inl (n, l, p, older, flow, is, refl))
 follows_next o log t run a fits (n, l, p, older, flow, inr is) =
     let r : IsRun o (Then (Told (notice (Consumer n t) (outcome.Word (word.Flow l p)))) ∷ Then (Does (Consumer n t) (OfConsumer TakeFlow)) ∷ older) = subst
-        (IsRun o) is run
+    (IsRun o) is run
     in
     let x = (flows_are_asked_lem o older n t l p r.0 flow).1 in
     (Does (Consumer n t) (Ask l (words.SendFlow n p)), sym fits ∙ ap (λ y. first (agenda o y)) is ∙ x, inr (n, l, p, refl))
@@ -136,7 +136,7 @@ module _ (once : EndsOnce) (o : Options) (log : List Entry) (n t l m p : ℕ) (r
     asked_settled : Every (Settled o t) log → (s : Setup) → made_with t log ≡ Some s → asked_since s (done_to o t log) ≤ permits_of (flows_since o t log) + p
     asked_settled k s made =
         let r : IsRun o (Then (Told (told_so once o log n t l m p run.0 x)) ∷ Then (Does (Consumer n t) (OfConsumer TakeFlow)) ∷ x.older) = subst
-            (IsRun o) x.is_behind run.0
+        (IsRun o) x.is_behind run.0
         in
         let e : Every (Settled o t) (Then (Told (told_so once o log n t l m p run.0 x)) ∷ Then (Does (Consumer n t) (OfConsumer TakeFlow)) ∷ x.older) = subst
         (Every (Settled o t)) x.is_behind k in

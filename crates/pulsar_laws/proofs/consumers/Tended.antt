@@ -66,7 +66,7 @@ flow_is_none (Some f) h = absurd cc
 
 took_none : (o : Options) (older : List Entry) (n t : ℕ) (m : Member) →
     (view o (Then (Does (Consumer n t) (OfConsumer TakeFlow)) ∷ older)).consumers.rows t ≡ Some m →
-        flow_at ((view o older).consumers.rows t) ≡ None → is_due m.seen ≡ true → ⊥
+    flow_at ((view o older).consumers.rows t) ≡ None → is_due m.seen ≡ true → ⊥
 took_none o older n t m is none h = by ((view o older).consumers.rows t) refl none
   where
     by : (row : Option Member) → (view o older).consumers.rows t ≡ row → flow_at row ≡ None → ⊥
@@ -97,10 +97,10 @@ module _ (once : EndsOnce) (o : Options) (log : List Entry) (t : ℕ) (was : Ten
     lives_due l older run there =
         let r : IsRun o (Then (Does who (OfConsumer (Revive l))) ∷ older) = subst (IsRun o) there run in
         let now : (view o (Then (Does who (OfConsumer (Revive l))) ∷ older)).consumers.rows t ≡ Some n = subst (λ y. (view o y).consumers.rows t
-            ≡ Some n) there is in
+        ≡ Some n) there is in
         subst (λ y. Tells o n.seen.number t y) (sym there)
         (by r now (row_from o older t once (Does who (OfConsumer (Revive l))) (consumer_ticket o (Then (Does who (OfConsumer
-            (Revive l))) ∷ older) t n r now) r))
+        (Revive l))) ∷ older) t n r now) r))
       where
         by : IsRun o (Then (Does who (OfConsumer (Revive l))) ∷ older) → (view o (Then (Does who (OfConsumer (Revive l))) ∷ older)).consumers.rows t ≡ Some n →
             RowFrom o older (Does who (OfConsumer (Revive l))) t → Tells o n.seen.number t (Then (Does who (OfConsumer (Revive l))) ∷ older)
@@ -110,7 +110,7 @@ module _ (once : EndsOnce) (o : Options) (log : List Entry) (t : ℕ) (was : Ten
         by r now (IsKept m e row how did) =
             let same : row.row ≡ n = some_is (sym row.is_it ∙ now) in
             let seen : n.seen ≡ applied (does_to (view o older) t m (Does who (OfConsumer (Revive l)))) m.seen = sym (ap (λ (y : Member). y.seen) same)
-                ∙ row.seen in
+            ∙ row.seen in
             let number : m.seen.number ≡ n.seen.number =
             sym (ap (λ (s : Seen). s.number) seen ∙ applied_number (does_to (view o older) t m (Does who (OfConsumer (Revive l)))) m.seen) in
             let own : (t == t) ≡ true = eq-eqb t t refl in
@@ -165,11 +165,11 @@ module _ (once : EndsOnce) (o : Options) (log : List Entry) (t : ℕ) (was : Ten
     begins_due p run =
         let k : IsMadeBy o log n.seen.number t = begins_made o log n.seen.number t p run in
         let now : (view o (Then (Answers (Call t) k.verdict) ∷ k.older)).consumers.rows t ≡ Some n = subst (λ y. (view o y).consumers.rows t
-            ≡ Some n) k.there is in
+        ≡ Some n) k.there is in
         let i = built_due (view o k.older) t k.verdict k.joining n k.made now due in
         left_behind o log n.seen.number t (Starts who p) run (λ same. absurd cc)
         (subst (λ y. Tells o n.seen.number t y) (sym k.there) (arises (due_to_plan n.seen.number t) o (Then (Answers (Call t) k.verdict)) k.older (inr
-            (inl i))))
+        (inl i))))
 
     -- whatever is done, it is to be told so
     kept_on : (a : Act) (p : Plan) → IsRun o (Then a ∷ log) → (view o (Then a ∷ log)).stand who ≡ Some p → is_resting p ≡ true →

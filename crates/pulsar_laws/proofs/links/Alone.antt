@@ -113,17 +113,17 @@ module _ (o : Options) where
       let start : Option Setup = dialed_with o l log in
       after_so (λ born acts row. Is (dialed_last born start) (filter_map call_by (since_act born acts (past log l))) row) v l a
       (λ new d seat h.
-          subst (λ (t : Seat). Made (Some new.seen.setup) [] t.seen) (some_is h)
-          (subst (λ (t : Seat). Made (Some t.seen.setup) [] t.seen) d.is_it (record {
-            setup = setup v.chosen v.links.started v.now d.place;
-            dialed = refl;
-            same = refl;
-            live = refl;
-          })))
+      subst (λ (t : Seat). Made (Some new.seen.setup) [] t.seen) (some_is h)
+      (subst (λ (t : Seat). Made (Some t.seen.setup) [] t.seen) d.is_it (record {
+        setup = setup v.chosen v.links.started v.now d.place;
+        dialed = refl;
+        same = refl;
+        live = refl;
+      })))
       (λ end seat h. absurd (none_some h)) (alone log l) (λ d c none seat h. absurd (none_some h))
       (λ d c old e seat h.
-          subst (λ (t : Seat). Made start (cons_option (call_by d) (calls_of o l log)) t.seen) (some_is h)
-          (did_more v l a start (calls_of o l log) old (alone log l old e) d c))
+      subst (λ (t : Seat). Made start (cons_option (call_by d) (calls_of o l log)) t.seen) (some_is h)
+      (did_more v l a start (calls_of o l log) old (alone log l old e) d c))
 
 pub links_alone_lem : LinksAlone
 links_alone_lem o log l seat h = let k : Made (dialed_with o l log) (calls_of o l log) seat.seen = alone o log l seat h in (k.setup, k.dialed, k.same)

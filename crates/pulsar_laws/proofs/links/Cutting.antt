@@ -321,7 +321,7 @@ module _ (o : Options) (l : ℕ) (a b : List ℕ) (older : List Entry) where
     last : rest (agenda o (acts ++ two)) ≡ only []
     last =
         last_read l (agenda o (acts ++ two)).now (agenda o (acts ++ two)).here (agenda o (acts ++ two)).behind (agenda o
-            (acts ++ two)).parts r.quiet r.parts_left
+        (acts ++ two)).parts r.quiet r.parts_left
         (ap first (sym k.left) ∙ h)
 
     there_row : (other l all v').links.live l ≡ Some (holding all r.seat)
@@ -718,6 +718,11 @@ pieces_dont_matter_lem o newer older l a b es whole =
       first,
       second,
       n.done ∙ ap (arranged effect_below) k.done,
-      record { log = n.xs ++ q; run = f.run; rests = rests_on o n.xs (n.acts ++ one) q f rests; same = ◌∙◌ {b = since ++ cut (steps o n.old)} whole_is
-          (sym all) },
+      record {
+        log = n.xs ++ q;
+        run = f.run;
+        rests = rests_on o n.xs (n.acts ++ one) q f rests;
+        same = ◌∙◌ {b = since ++ cut (steps o n.old)} whole_is
+            (sym all);
+      },
     )

@@ -444,7 +444,7 @@ module _ (l place : ℕ) where
         call_few s (calls_of o l log) seat.seen (settled_so x now seat.seen place) (call_of x now seat.seen)
         (m.same ∙ ap (λ t. session.seen t (calls_of o l log)) same) in
         let most : length (told_at x now place (Some seat)) + length (all o log) ≤ length (told_ever s place (call_at x now
-            (Some seat) ++ calls_of o l log) []) =
+        (Some seat) ++ calls_of o l log) []) =
         omega (arith, f, g) in
         subst (λ calls. length (told_at x now place (Some seat)) + length (all o log) ≤ length (told_ever s place calls []))
         (sym (called_so x now seat (past o log))) most,

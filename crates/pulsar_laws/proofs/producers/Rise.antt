@@ -162,6 +162,6 @@ numbers_of_all_frames_rise_lem o newer older x y n r s run first second =
     let one : IsNextBehind o (x ∷ older) n r = next_behind o older x n r (run_behind o newer (x ∷ older) run1) first in
     let a : IsDrawnBefore o log n s = drawn_before o log y n s run second in
     let b = behind_two x (Then (Told a.told)) (Then (Does a.who (OfTopic a.drawn Draw))) newer older a.behind
-        (asks_frame x older n r first) refl refl a.there in
+    (asks_frame x older n r first) refl refl a.there in
     let run3 : IsRun o (Then (Told a.told) ∷ Then (Does a.who (OfTopic a.drawn Draw)) ∷ a.behind) = subst (IsRun o) a.there run1 in
     rise_from o x older a.behind n n one.row a.before r s run3.0.0 b one.is_it one.next refl a.was a.number

@@ -28,7 +28,7 @@ use Rattle.pulsar_searches.specs.declared.turn.Ways.{Ways}
 use Rattle.pulsar_frame.specs.Reply.{Reply as Content, is_body}
 use Rattle.pulsar_links.specs.Alarms.{ringing, rings}
 use Rattle.pulsar_calls.specs.declared.act.Act.{Act}
-use Rattle.pulsar_calls.specs.declared.act.Act.TheVariants.{Comes, Starts, Told, Does, Answers, Dials}
+use Rattle.pulsar_calls.specs.declared.act.Act.TheVariants.{Comes, Starts, Told, Does, Answers}
 use Rattle.pulsar_calls.specs.declared.act.Action.{Action}
 use Rattle.pulsar_calls.specs.declared.act.Action.TheVariants.{OfTopic, Get, Ask, Number, Hold, Shut, TakeNumber, Tell, TellAll, StopAll, Rest, OfConsumer}
 use Rattle.pulsar_calls.specs.declared.act.ConsumerAsk.TheVariants.{Find as FindConsumer, TakeFlow, Recall as RecallConsumer, Revive, Fail as FailConsumer}

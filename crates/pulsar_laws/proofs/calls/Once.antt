@@ -4,7 +4,7 @@ use Rattle.std.proofs.Common.{◌≡◌, ℕ, suc, ◌+◌, ◌-◌, ◌^◌, �
 use Rattle.std.proofs.lemmas.Bool.{cases_Bool}
 use Rattle.std.proofs.lemmas.Bool.Decides.{nat_tests}
 use Rattle.std.proofs.lemmas.Grind.{common_steps}
-use Rattle.pulsar_laws.proofs.ActWords.{Act, Action, Answers, Asked, Call, Calls, Comes, Consumer, Does, Heard, is_same, lacks_tickets, Makes, Notice, Outcome, Procedure, Producer, CallRefusal, Rest, shares, Starts, Told, Verdict, Who}
+use Rattle.pulsar_laws.proofs.ActWords.{Act, Action, Answers, Asked, Call, Calls, Comes, Consumer, Does, Heard, is_same, lacks_tickets, Makes, Notice, Outcome, Procedure, Producer, CallRefusal, Rest, shares, Starts, Told, Who}
 use Rattle.pulsar_laws.proofs.PlanWords.{begins, Errand, Gives, Plan, PlanTransition, Stays, told, Ways}
 use Rattle.pulsar_laws.proofs.RunWords.{agenda, at_once, Begins, begun_same, called, Chosen, counted, does, Each, EndsOnce, Entry, first, first_case, follows, follows_some, is_served, IsRun, left_with, Options, parts_of, rest, shares_of, shares_unless, start_of, starts, StartsIn, stays, stays_some, Then, told_some, view, View, ways_of, why_no_sends}
 use Rattle.pulsar_messages.specs.Claims.{is_spent}

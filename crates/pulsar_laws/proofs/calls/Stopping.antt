@@ -6,10 +6,10 @@ use Rattle.std.proofs.lemmas.Bool.{cases_Bool, eqb-true}
 use Rattle.std.proofs.lemmas.Bool.Decides.{nat_tests}
 use Rattle.std.specs.List.{filter_map, flat_map}
 use Rattle.std.specs.Option.{option_map, is_some}
-use Rattle.pulsar_laws.proofs.ActWords.{Act, Action, Alarm, Answers, Ask, Asked, Batch, below, Bytes, Call, CallRefusal, Calls, CheckIdle, Comes, Dials, Does, Drains, Ends, FindConsumer, Get, Heard, is_same, KeepAlive, lacks_tickets, LinkAct, Makes, next_advice, Nothing, Notice, numbers_from, OfTopic, Opens, opens, Outcome, Part, Pings, Polls, Procedure, Reads, Retry, Rings, shares, Starts, StopAll, Stops, TakeBatch, Tell, TellAll, Told, ToLink, Wait, Wake, Who, OfConsumer}
+use Rattle.pulsar_laws.proofs.ActWords.{Act, Action, Alarm, Answers, Ask, Asked, Batch, below, Call, CallRefusal, Calls, CheckIdle, Comes, Dials, Does, Drains, Ends, FindConsumer, Get, Heard, is_same, KeepAlive, lacks_tickets, LinkAct, Makes, next_advice, Nothing, Notice, numbers_from, OfTopic, Opens, opens, Outcome, Part, Pings, Polls, Procedure, Reads, Retry, Rings, shares, Starts, StopAll, Stops, TakeBatch, Tell, TellAll, Told, ToLink, Wait, Wake, Who, OfConsumer}
 use Rattle.pulsar_laws.proofs.PlanWords.{Batching, fails, Plan, verdict, Ways}
-use Rattle.pulsar_laws.proofs.RunWords.{after, agenda, Agenda, arranged, asks_raw, asks_topics, at_once, Begins, begun, begun_live, begun_same, builds_with, called, causes, checks, Chosen, closes, consumers_after, Each, each_append, each_either, each_flat, each_map, Entry, first, first_case, first_of, flushes, follows_some, from_base, gathers, In, is_live, IsRun, joins, left_with, link_got, live_begun, lost_on, may_call, none_now, notice, Options, over_each, parts_of, procedure_for, produces, rest, rest_of, rules, searches, sends, shares_unless, starts, stays_some, stopped_on, tells, Then, Tickets, told_some, turned_by, unless_refused, view, View, ways_of, why_no_sends}
-use Rattle.pulsar_laws.proofs.LinkWords.{address_key, Addresses, arrival_at, Base, closing, Exhausted, got_at, Nobody, over_links, Pause, Pauses, Place, Reply, rings, Runs, Seat, Series, Serves, stop_act, tells_asker, took_some}
+use Rattle.pulsar_laws.proofs.RunWords.{after, agenda, Agenda, arranged, asks_raw, asks_topics, at_once, Begins, begun, begun_same, builds_with, called, causes, checks, Chosen, closes, consumers_after, Each, each_append, each_either, each_flat, each_map, Entry, first, first_case, first_of, flushes, follows_some, from_base, gathers, In, IsRun, joins, left_with, lost_on, may_call, none_now, notice, Options, over_each, parts_of, procedure_for, produces, rest, rest_of, rules, searches, sends, shares_unless, starts, stays_some, stopped_on, tells, Then, Tickets, told_some, turned_by, unless_refused, view, View, ways_of, why_no_sends}
+use Rattle.pulsar_laws.proofs.LinkWords.{address_key, Addresses, arrival_at, Base, closing, Exhausted, Nobody, over_links, Pause, Pauses, Place, Reply, rings, Runs, Seat, Series, Serves, stop_act, tells_asker, took_some}
 use Rattle.pulsar_session.specs.Link.{ends}
 use Rattle.pulsar_calls.specs.declared.act.Makes.TheVariants.{Client, Consumer, Producer, RawConsumer}
 use Rattle.pulsar_links.specs.Alarms.{clear}

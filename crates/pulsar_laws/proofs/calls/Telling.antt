@@ -1,7 +1,7 @@
 -- A part of a call tells once what became of it, and so the call is told it once at most.
 use Rattle.std.proofs.Common.{◌≡◌, inl, inr, ◌∙◌, sym, ap, subst, ℕ, ◌+◌, ◌<◌, ◌≤◌, ◌==◌, arith, List, [], ◌∷◌, ◌++◌, refl, map, Bool, true, false, cond, Option, Some, None}
 use Rattle.std.proofs.lemmas.Bool.{cases_Bool, eqb-true}
-use Rattle.pulsar_laws.proofs.ActWords.{Act, Call, Comes, Consumer, Does, Notice, OfTopic, Outcome, Part, PassTurn, Procedure, Producer, Share, Starts, Tell, TellAll, Told, Verdict, Who, below, is_same}
+use Rattle.pulsar_laws.proofs.ActWords.{Act, Call, Comes, Consumer, Does, Notice, OfTopic, Outcome, Part, PassTurn, Procedure, Producer, Share, Starts, Tell, TellAll, Told, Who, below, is_same}
 use Rattle.pulsar_laws.proofs.PlanWords.{action_of, begins, Deed, Gives, Plan, PlanTransition, Stays, told}
 use Rattle.pulsar_laws.proofs.RunWords.{agenda, arranged, at_once, Begins, begun_same, causes, counted, Each, each_append, Entry, first_of, IsRun, joins, notice, Options, performs, put_all, rest, rest_of, rules, start_of, stays, stays_some, Then, told_some, view, View}
 use Rattle.pulsar_calls.specs.declared.act.Outcome.TheVariants as outcome

@@ -8,9 +8,9 @@ use Rattle.std.specs.Option.{option_map}
 use Rattle.std.specs.Ordering.{match_ordering}
 use Rattle.std.specs.declared.cmp.Ordering.{Ordering}
 use Rattle.std.specs.declared.cmp.Ordering.TheVariants.{Less, Equal, Greater}
-use Rattle.pulsar_laws.proofs.ActWords.{Act, Action, Alarm, Answers, Arrival, Ask, Batch, Bytes, CheckIdle, Comes, Dials, Does, Drains, Ends, FindConsumer, Flush, Get, Heard, is_same, KeepAlive, LinkAct, Makes, OfTopic, Opens, Pings, Reads, Retry, Rings, Shut, StopAll, Store, ToLink, turn_of, Wait, Wake, Who, OfConsumer}
-use Rattle.pulsar_laws.proofs.RunWords.{after, begun, begun_live, Chosen, consumers_after, Each, In, is_live, link_got, live_begun, setup_of, turned, Turned, View, begun_same}
-use Rattle.pulsar_laws.proofs.LinkWords.{Addresses, Base, Becomes, Change, Fault, got_at, is_body, IsOver, Nobody, Pause, Pauses, Remains, Reply, rings, Runs, Seat, seat_asked, seat_fed, seat_got, Series, Serves, took_end, took_some, url_at, Words}
+use Rattle.pulsar_laws.proofs.ActWords.{Act, Action, Alarm, Answers, Arrival, Ask, Batch, CheckIdle, Comes, Dials, Does, FindConsumer, Flush, Get, Heard, is_same, KeepAlive, Makes, OfTopic, Retry, Rings, Shut, StopAll, Store, ToLink, turn_of, Wait, Wake, Who, OfConsumer}
+use Rattle.pulsar_laws.proofs.RunWords.{after, begun, Chosen, consumers_after, Each, In, setup_of, turned, Turned, View, begun_same}
+use Rattle.pulsar_laws.proofs.LinkWords.{Base, Becomes, Change, Fault, is_body, IsOver, Nobody, Pause, Pauses, Remains, Reply, rings, Runs, Seat, Series, Serves, url_at, Words}
 use Rattle.pulsar_producer.specs.Topic as topic
 use Rattle.pulsar_producer.specs.Topic.{Act as TopicAct}
 use Rattle.pulsar_producer_table.specs.declared.table.Topic.{Topic}

@@ -5,7 +5,7 @@ use Rattle.std.proofs.lemmas.Bool.Decides.{nat_tests}
 use Rattle.std.specs.Prelude.{pos, ◌/◌, ◌%◌}
 use Rattle.std.specs.Int.{w64, cast_unsigned}
 use Rattle.std.specs.Option.{option_map}
-use Rattle.pulsar_laws.proofs.ActWords.{Act, Action, Ask, Consumer, Does, is_same, Notice, Outcome, Procedure, Starts, TakeFlow, Told, Verdict, Who, OfConsumer}
+use Rattle.pulsar_laws.proofs.ActWords.{Act, Action, Ask, Consumer, Does, is_same, Notice, Outcome, Procedure, Starts, TakeFlow, Told, Who, OfConsumer}
 use Rattle.pulsar_laws.proofs.PlanWords.{begins, Gives, Plan, PlanTransition, Serving, Stays, told, Ways}
 use Rattle.pulsar_laws.proofs.RunWords.{agenda, Begins, begun_same, EndsOnce, Entry, first, follows, follows_some, IsRun, notice, Options, stays, stays_some, Then, told_some, view}
 use Rattle.pulsar_laws.proofs.LinkWords.{answer_at, Seat, Words}
@@ -133,7 +133,8 @@ server_asks b l p q k r is h = absurd cc
 
 abbrev pub Takes : Options → List Entry → (n t : ℕ) → Type 0
 Takes o log n t =
-    (first (agenda o log) ≡ Some (Does (Consumer n t) (OfConsumer TakeFlow))) ⊎ ((older : List Entry) × (log ≡ Then (Does (Consumer n t) (OfConsumer TakeFlow)) ∷ older))
+    (first (agenda o log) ≡ Some (Does (Consumer n t) (OfConsumer TakeFlow))) ⊎ ((older : List Entry)
+        × (log ≡ Then (Does (Consumer n t) (OfConsumer TakeFlow)) ∷ older))
 
 abbrev pub TakesAt : Options → List Entry → (n t : ℕ) → Type 0
 TakesAt o log n t = (p : Plan) → (view o log).stand (Consumer n t) ≡ Some p → is_taking p ≡ true → Takes o log n t
@@ -143,7 +144,8 @@ pub told_flow : (o : Options) (older : List Entry) (n t : ℕ) →
     first (agenda o (Then (Does (Consumer n t) (OfConsumer TakeFlow)) ∷ older))
     ≡ Some (Told (notice (Consumer n t) (outcome.Word (flow_said (flow_at ((view o older).consumers.rows t))))))
 told_flow o older n t =
-    first_at o older (Does (Consumer n t) (OfConsumer TakeFlow)) (Told (notice (Consumer n t) (outcome.Word (flow_said (flow_at ((view o older).consumers.rows t)))))) refl
+    first_at o older (Does (Consumer n t) (OfConsumer TakeFlow)) (Told (notice (Consumer n t) (outcome.Word (flow_said (flow_at
+        ((view o older).consumers.rows t)))))) refl
 
 abbrev said : Act → Outcome
 said (Told n) = n.outcome
@@ -224,7 +226,8 @@ told_run o log n t m run was = λ p stood h. elim (cases_Bool (is_same (Consumer
     other p e stood h = elim (was p stood h) [
       | inl f ↦ (let g : Told m ≡ Does (Consumer n t) (OfConsumer TakeFlow) = some_is (sym run.1 ∙ f) in absurd cc)
       | inr k ↦
-          (let f : first (agenda o (Then (Does (Consumer n t) (OfConsumer TakeFlow)) ∷ k.0)) ≡ Some (Told m) = subst (λ x. first (agenda o x) ≡ Some (Told m)) k.1 run.1 in
+          (let f : first (agenda o (Then (Does (Consumer n t) (OfConsumer TakeFlow)) ∷ k.0)) ≡ Some (Told m) = subst (λ x. first (agenda o x)
+              ≡ Some (Told m)) k.1 run.1 in
           let g : m.who ≡ Consumer n t = some_is (ap heard (some_is (sym f ∙ told_flow o k.0 n t))) in
           let d : true ≡ false = sym (ap (is_same (Consumer n t)) g ∙ same_self (Consumer n t)) ∙ e in
           absurd cc)
@@ -365,7 +368,8 @@ is_placed once o log n t l m p run = led (led_by o n t log (Ask l (words.SendFlo
         elim (takes_run o k.older n t r.0 k.before k.stood taking) [
           | inl f ↦ (let g : Told (notice (Consumer n t) k.outcome) ≡ Does (Consumer n t) (OfConsumer TakeFlow) = some_is (sym r.1 ∙ f) in absurd cc)
           | inr older ↦
-              (let there : log ≡ Then (Told (notice (Consumer n t) (outcome.Word (word.Flow l p)))) ∷ Then (Does (Consumer n t) (OfConsumer TakeFlow)) ∷ older.0 =
+              (let there : log ≡ Then (Told (notice (Consumer n t) (outcome.Word (word.Flow l p)))) ∷ Then (Does (Consumer n t)
+                  (OfConsumer TakeFlow)) ∷ older.0 =
               k.is_there
               ∙ ap (λ y. Then (Told (notice (Consumer n t) y)) ∷ k.older) u
               ∙ ap (λ y. Then (Told (notice (Consumer n t) (outcome.Word (word.Flow l p)))) ∷ y) older.1 in

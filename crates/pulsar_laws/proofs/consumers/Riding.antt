@@ -1,10 +1,10 @@
 -- The link of a live subscription has not ended, and it is ready where the consumer was built.
 use Rattle.std.proofs.Common.{◌≡◌, ◌⊎◌, inl, inr, ◌∙◌, sym, ap, subst, ℕ, ◌+◌, ◌==◌, List, [], ◌∷◌, ◌++◌, refl, Bool, true, false, ◌&&◌, cond, Option, Some, None, append-nil, eq-eqb, nat_lt}
-use Rattle.std.proofs.lemmas.Bool.{cases_Bool, eqb-true}
+use Rattle.std.proofs.lemmas.Bool.{cases_Bool}
 use Rattle.std.specs.Option.{is_some, option_map}
-use Rattle.pulsar_laws.proofs.ActWords.{Act, Answers, Arrival, Ask, Bytes, Call, Comes, Dials, Does, Drains, End, Ends, Get, Heard, is_same, LinkAct, Makes, Opens, Pings, Reads, Revive, ticket_of, ToLink, Who, OfConsumer}
-use Rattle.pulsar_laws.proofs.RunWords.{after, Begins, begun, begun_live, EndsOnce, Entry, is_live, IsRun, link_got, live_begun, member_on, Options, Then, view, View}
-use Rattle.pulsar_laws.proofs.LinkWords.{closed_by, closing, Failure, Fault, got_at, is_body, Reply, Seat, seat_asked, seat_fed, seat_got, took_end, took_some, url_at}
+use Rattle.pulsar_laws.proofs.ActWords.{Act, Answers, Arrival, Call, Comes, Does, End, Ends, Heard, is_same, Makes, Revive, ticket_of, ToLink, Who, OfConsumer}
+use Rattle.pulsar_laws.proofs.RunWords.{after, Begins, begun, EndsOnce, Entry, IsRun, member_on, Options, Then, view, View}
+use Rattle.pulsar_laws.proofs.LinkWords.{closing, Failure, Fault, is_body, Reply, Seat, url_at}
 use Rattle.url.specs.Parts.{Parts}
 use Rattle.pulsar_frame.specs.Items.{Item}
 use Rattle.pulsar_session.specs.Link.{is_ready}

@@ -3,9 +3,9 @@ use Rattle.std.proofs.Common.{◌≡◌, ◌⊎◌, inl, inr, ◌∙◌, sym, ap
 use Rattle.std.proofs.lemmas.Bool.{cases_Bool}
 use Rattle.std.proofs.lemmas.Bool.Decides.{nat_tests}
 use Rattle.std.specs.Option.{is_none, option_map}
-use Rattle.pulsar_laws.proofs.ActWords.{Act, Ask, below, Bytes, Comes, Dials, Does, Drains, Ends, Get, LinkAct, Notice, Opens, Part, Pings, Reads, Shown, Told, ToLink}
-use Rattle.pulsar_laws.proofs.RunWords.{after, agenda, arranged, at_once, Begins, begun_live, Chosen, Each, each_append, each_map, Entry, first, first_of, further, is_live, IsRun, live_begun, link_got, Options, put_all, rest, rest_of, rules, Then, turned, turned_by, view, View}
-use Rattle.pulsar_laws.proofs.LinkWords.{arrival_at, ConnectionError, Fault, got_at, is_numbered, Seat, seat_asked, seat_fed, seat_got, SendPing, took_end, took_some, Words}
+use Rattle.pulsar_laws.proofs.ActWords.{Act, below, Bytes, Comes, Dials, Ends, Notice, Part, Reads, Shown, Told, ToLink}
+use Rattle.pulsar_laws.proofs.RunWords.{after, agenda, arranged, at_once, Begins, begun_live, Each, each_append, each_map, Entry, first, first_of, further, is_live, IsRun, live_begun, Options, put_all, rest, rest_of, rules, Then, turned, turned_by, view, View}
+use Rattle.pulsar_laws.proofs.LinkWords.{arrival_at, ConnectionError, Fault, is_numbered, Seat, seat_fed, SendPing, took_some, Words}
 use Rattle.pulsar_frame.specs.Frame.{Front, Short, Refused, Whole, front}
 use Rattle.pulsar_session.specs.declared.states.Stage.{Stage}
 use Rattle.pulsar_session.specs.declared.states.Stage.TheVariants.{Dialing, Handshaking, Ready, Over}
@@ -19,7 +19,7 @@ use Rattle.pulsar_calls.specs.declared.act.End.TheVariants.{Broken}
 use Rattle.pulsar_calls.specs.Order.{effect_below}
 use Rattle.pulsar_calls.specs.Steps.{Step}
 use Rattle.pulsar_links.specs.Links.{arrives}
-use Rattle.pulsar_links.specs.Seats.{Addresses, seat_read}
+use Rattle.pulsar_links.specs.Seats.{seat_read}
 use Rattle.pulsar_consumer_table.specs.Consumers as consumer
 use Rattle.pulsar_acts.specs.Effects.{effects}
 use Rattle.pulsar_acts.specs.Rules.{breaks_at, reads_on}

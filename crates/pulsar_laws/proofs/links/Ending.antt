@@ -2,10 +2,10 @@
 use Rattle.std.proofs.Common.{◌≡◌, ◌∙◌, sym, ap, ℕ, ◌+◌, ◌≤◌, ◌==◌, ◌&&◌, ◌||◌, List, [], ◌∷◌, refl, arith, map, Bool, true, false, cond, nat_le, nat_lt, Option, Some, None, inl, inr, ◌⊎◌}
 use Rattle.std.proofs.lemmas.Bool.{cases_Bool}
 use Rattle.std.proofs.lemmas.Bool.Decides.{nat_tests}
-use Rattle.std.specs.Option.{is_none, is_some, option_map}
-use Rattle.pulsar_laws.proofs.ActWords.{Ask, Bytes, Comes, Dials, Does, Ends, Get, Heard, LinkAct, numbers_from, Overdue, Part, Rings, ToLink, Act}
-use Rattle.pulsar_laws.proofs.RunWords.{Begins, begun_same, dialed, Entry, In, is_live, link_got, live_begun, Options, parts, Then, View, view}
-use Rattle.pulsar_laws.proofs.LinkWords.{closed_by, Fault, got_at, over_links, Seat, seat_asked, seat_fed, seat_got, took_end, took_some}
+use Rattle.std.specs.Option.{is_none, is_some}
+use Rattle.pulsar_laws.proofs.ActWords.{Comes, Dials, Ends, LinkAct, numbers_from, Overdue, Part, Rings, ToLink, Act}
+use Rattle.pulsar_laws.proofs.RunWords.{Begins, begun_same, dialed, Entry, In, is_live, Options, parts, Then, View, view}
+use Rattle.pulsar_laws.proofs.LinkWords.{over_links, Seat}
 use Rattle.pulsar_session.specs.Link.{due}
 use Rattle.pulsar_calls.specs.Content.{Ticked}
 use Rattle.pulsar_links.specs.Alarms.{ringing}

@@ -5,9 +5,9 @@ use Rattle.std.proofs.lemmas.Slice.Eq.{bytes_eq-Decides}
 use Rattle.std.specs.List.{list_any}
 use Rattle.std.specs.Option.{option_map}
 use Rattle.std.specs.Str.{bytes_eq}
-use Rattle.pulsar_laws.proofs.ActWords.{Act, Alarm, Arrival, Ask, Batch, Bytes, CheckIdle, Comes, Dials, Does, Drains, Ends, Get, Heard, KeepAlive, LinkAct, Opens, Pings, Reads, Retry, Rings, StopAll, ToLink, Wake, Who}
-use Rattle.pulsar_laws.proofs.RunWords.{after, Begins, begun, begun_live, Chosen, dialed, Entry, is_live, IsRun, link_got, live_begun, Options, Then, Turned, turned, turned_by, view, View, begun_same}
-use Rattle.pulsar_laws.proofs.LinkWords.{address_key, Base, Becomes, Change, closed_by, Fault, got_at, is_reachable, IsOver, Nobody, Pause, Pauses, Place, Remains, rings, Runs, Seat, seat_asked, seat_fed, seat_got, Series, Serves, took, took_end, took_some, Words}
+use Rattle.pulsar_laws.proofs.ActWords.{Act, Alarm, Arrival, Ask, Batch, CheckIdle, Comes, Dials, Does, Drains, Ends, Get, Heard, KeepAlive, LinkAct, Opens, Pings, Reads, Retry, Rings, StopAll, ToLink, Wake, Who}
+use Rattle.pulsar_laws.proofs.RunWords.{after, Begins, begun, Chosen, dialed, Entry, IsRun, Options, Then, Turned, turned, turned_by, view, View, begun_same}
+use Rattle.pulsar_laws.proofs.LinkWords.{address_key, Base, Becomes, Change, closed_by, Fault, is_reachable, IsOver, Nobody, Pause, Pauses, Place, Remains, rings, Runs, Seat, Series, Serves, took, took_end, took_some, Words}
 use Rattle.pulsar_calls.specs.declared.act.Arrival.TheVariants.{Readied}
 use Rattle.pulsar_laws.proofs.Cases.{none_some, some_is}
 use Rattle.pulsar_laws.specs.Laws.{base_of}
@@ -15,7 +15,7 @@ use Rattle.pulsar_laws.specs.AddressLaws.{Attempted, AttemptsFollow, Begun, OneL
 use Rattle.pulsar_links.specs.Links.{arrival, change_at, change_by, change_in}
 use Rattle.pulsar_acts.specs.View.{base_on, is_to_follow, pause_for, pause_on, pause_rung, waits_for, waits_on}
 use Rattle.pulsar_links.specs.Seats.{base_turned, is_for, may_retry, nobody, pause_put, pause_with}
-use Rattle.pulsar_links.specs.Asks.{Deed, IsAsked, IsClosed, IsDrained, IsFed, IsGot, IsOpened, IsPinged, IsRead, seat_by}
+use Rattle.pulsar_links.specs.Asks.{Deed, IsFed, seat_by}
 use Rattle.pulsar_acts.proofs.Linking.{took_is}
 use Rattle.pulsar_laws.proofs.links.Rows.{after_holds, begun_holds}
 use Rattle.pulsar_laws.proofs.links.Attempts.{is_dial}

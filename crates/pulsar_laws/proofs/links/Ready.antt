@@ -1,10 +1,9 @@
 -- What is kept of a link by all that is done to it; and that one which was ready is so until it ends.
-use Rattle.std.proofs.Common.{◌≡◌, ◌∙◌, sym, ap, subst, ℕ, ◌+◌, List, ◌∷◌, refl, drop, arith, nat_lt, Bool, true, false, ◌++◌, cond, ◌==◌, Option, Some, None, Result, Ok, Err}
+use Rattle.std.proofs.Common.{◌≡◌, ◌∙◌, sym, ap, subst, ℕ, ◌+◌, List, ◌∷◌, refl, drop, arith, nat_lt, Bool, true, false, ◌++◌, ◌==◌, Option, Some, None, Result, Ok, Err}
 use Rattle.std.proofs.lemmas.Bool.Decides.{nat_tests}
-use Rattle.std.specs.Option.{option_map}
-use Rattle.pulsar_laws.proofs.ActWords.{Act, Ask, Bytes, Comes, Dials, Does, Drains, Ends, Get, Heard, LinkAct, Opens, Pings, Reads, ToLink, Who}
-use Rattle.pulsar_laws.proofs.RunWords.{after, Begins, begun_live, begun_same, calls_of, Entry, is_live, link_got, live_begun, Options, Then, view, View}
-use Rattle.pulsar_laws.proofs.LinkWords.{answer_at, closed_by, ConnectionError, Fault, got_at, is_numbered, Seat, seat_asked, seat_fed, seat_got, SendPing, took, took_end, took_some, Words}
+use Rattle.pulsar_laws.proofs.ActWords.{Act, Dials}
+use Rattle.pulsar_laws.proofs.RunWords.{Begins, begun_same, calls_of, Entry, Options, Then, view, View}
+use Rattle.pulsar_laws.proofs.LinkWords.{answer_at, ConnectionError, is_numbered, Seat, SendPing, Words}
 use Rattle.pulsar_frame.specs.Frame.{Front, Short, Refused, Whole, front}
 use Rattle.pulsar_requests.specs.Waits.{places}
 use Rattle.pulsar_session.specs.declared.states.Asked.{Asked as Placed}

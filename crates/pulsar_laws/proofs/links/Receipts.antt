@@ -2,11 +2,10 @@
 use Rattle.std.proofs.Common.{◌≡◌, inl, inr, ◌∙◌, sym, ap, subst, ℕ, ◌+◌, ◌≤◌, ◌==◌, arith, List, [], ◌∷◌, ◌++◌, refl, filter, length, Bool, true, false, ◌&&◌, cond, Option, Some, None}
 use Rattle.std.proofs.lemmas.Bool.{cases_Bool, eqb-true}
 use Rattle.std.specs.List.{list_any}
-use Rattle.std.specs.Option.{option_map}
-use Rattle.pulsar_laws.proofs.ActWords.{Act, Action, Ask, Bytes, Call, Comes, Dials, Does, Drains, Ends, Get, Heard, is_same, LinkAct, Opens, Pings, Procedure, Reads, Share, Starts, ToLink, Who}
+use Rattle.pulsar_laws.proofs.ActWords.{Act, Action, Ask, Call, Does, Heard, is_same, Procedure, Share, Starts, Who}
 use Rattle.pulsar_laws.proofs.PlanWords.{Errand, Ways}
-use Rattle.pulsar_laws.proofs.RunWords.{Begins, begun_live, calls_of, Cause, counted, Each, Entry, In, InThisStep, is_live, IsRun, link_got, live_begun, Options, start_of, started, Then, view, View}
-use Rattle.pulsar_laws.proofs.LinkWords.{closed_by, got_at, is_body, Reply, Seat, seat_asked, seat_fed, seat_got, SendPing, took, took_end, took_some, Words}
+use Rattle.pulsar_laws.proofs.RunWords.{Begins, calls_of, Cause, counted, Each, Entry, In, InThisStep, IsRun, Options, start_of, started, Then, view, View}
+use Rattle.pulsar_laws.proofs.LinkWords.{is_body, Reply, Seat, SendPing, Words}
 use Rattle.pulsar_wire.specs.At.{flag_at, uint64_at}
 use Rattle.pulsar_wire.specs.Command.{BodyValues}
 use Rattle.pulsar_wire.specs.Field.{◌>>=◌}

@@ -6,9 +6,9 @@ use Rattle.pulsar_laws.proofs.ActWords.{Act, Ask, Bytes, Comes, Dials, Does, Dra
 use Rattle.pulsar_laws.proofs.RunWords.{after, begun, begun_live, begun_same, dialed, is_live, link_got, rules, View}
 use Rattle.pulsar_laws.proofs.LinkWords.{closing, Fault, Place, Seat, seat_fed}
 use Rattle.pulsar_acts.specs.Things.{links}
-use Rattle.pulsar_acts.specs.View.{is_at, link_acts, link_born, link_gone, link_heard, live_begun}
+use Rattle.pulsar_acts.specs.View.{is_at, link_acts, link_born, link_gone, link_heard}
 use Rattle.pulsar_links.specs.Asks.{Deed, IsAsked, IsClosed, IsDrained, IsFed, IsGot, IsOpened, IsPinged, IsRead, comes_by, got_by, is_end, seat_by}
-use Rattle.pulsar_run.specs.Things.{Keeps, along, row_after, row_by}
+use Rattle.pulsar_run.specs.Things.{Keeps, row_after, row_by}
 use Rattle.pulsar_session.specs.Link.{feeds, is_open}
 use Rattle.pulsar_laws.proofs.Cases.{cond_when, some_is}
 

@@ -5,7 +5,7 @@ use Rattle.std.proofs.lemmas.Bool.Decides.{nat_tests}
 use Rattle.std.proofs.lemmas.Grind.{common_steps, flat_map-append}
 use Rattle.std.specs.List.{cons_option, filter_map, flat_map}
 use Rattle.std.specs.Option.{is_some, option_map, option_to_list}
-use Rattle.pulsar_laws.proofs.ActWords.{Answers, Ask, Bytes, Call, Comes, Consumer, Dials, Does, Drains, End, Ends, LinkAct, Opens, Pings, Polls, Producer, Queued, Reads, Said, Shown, ToLink, Who}
+use Rattle.pulsar_laws.proofs.ActWords.{Answers, Ask, Call, Comes, Consumer, Dials, Does, Drains, End, Ends, LinkAct, Opens, Pings, Polls, Producer, Queued, Reads, Said, Shown, ToLink, Who}
 use Rattle.pulsar_laws.proofs.RunWords.{Begins, calls_of, Chosen, Each, Entry, Options, rules, Then, turned, Turned, view, View, dialed}
 use Rattle.pulsar_laws.proofs.LinkWords.{closed_by, Fault, Pause, Seat, Words}
 use Rattle.pulsar_frame.specs.Frame.{Front, Short, Refused, Whole, front}
@@ -38,7 +38,7 @@ use Rattle.pulsar_consumer_table.specs.Consumers.{Member, polled, polled_so}
 use Rattle.pulsar_incoming.specs.declared.polled.Polled.{Polled}
 use Rattle.pulsar_incoming.specs.declared.polled.Polled.TheVariants as poll
 use Rattle.pulsar_acts.specs.Effects.{ends as ends_said, retries, retries_on}
-use Rattle.pulsar_acts.specs.View.{setup, link_acts, link_heard}
+use Rattle.pulsar_acts.specs.View.{link_acts, link_heard}
 use Rattle.pulsar_run.specs.Run.{in_order, steps_done, with_effects}
 use Rattle.pulsar_laws.specs.Laws.{call_at, dialed_last, dialed_with}
 use Rattle.pulsar_run.specs.Things.{since, since_act}

@@ -1,10 +1,9 @@
 -- At the end of a step no whole frame of a link is left unread: what came is read on, until less than a frame is in front, or the link ends.
 use Rattle.std.proofs.Common.{◌≡◌, ◌⊎◌, inl, inr, ◌∙◌, sym, ap, subst, ℕ, List, ◌∷◌, ◌++◌, refl, drop, Bool, true, false, cond, ◌==◌, Option, Some, None, Result, Ok, Err, append-nil, []}
 use Rattle.std.proofs.lemmas.Bool.{cases_Bool, eqb-true, eq-eqb}
-use Rattle.std.specs.Option.{option_map}
-use Rattle.pulsar_laws.proofs.ActWords.{Act, Arrival, Ask, Bytes, Comes, Dials, Does, Drains, End, Ends, Get, Heard, LinkAct, Notice, Opens, Part, Pings, Reads, ToLink, Who}
-use Rattle.pulsar_laws.proofs.RunWords.{agenda, at_once, Begins, begun_live, calls_of, dialed, Entry, first, first_of, further, In, is_live, IsRun, link_got, live_begun, none_now, Options, rest, rest_of, rules, Then, view, View, after}
-use Rattle.pulsar_laws.proofs.LinkWords.{arrival_at, closed_by, ConnectionError, Fault, got_at, is_numbered, Place, Seat, seat_asked, seat_got, SendPing, took_end, took_some, Words}
+use Rattle.pulsar_laws.proofs.ActWords.{Act, Arrival, Bytes, Comes, Dials, Ends, Heard, LinkAct, Notice, Part, Reads, ToLink, Who}
+use Rattle.pulsar_laws.proofs.RunWords.{agenda, at_once, Begins, begun_live, calls_of, dialed, Entry, first, first_of, further, In, is_live, IsRun, live_begun, none_now, Options, rest, rest_of, rules, Then, view, View, after}
+use Rattle.pulsar_laws.proofs.LinkWords.{arrival_at, ConnectionError, Fault, is_numbered, Place, Seat, SendPing, took_some, Words}
 use Rattle.pulsar_wire.specs.declared.key.RequestKey.{RequestKey}
 use Rattle.pulsar_frame.specs.Frame.{Front, Short, Refused, Whole, cut, front}
 use Rattle.pulsar_frame.specs.Key.{key}

@@ -2,7 +2,7 @@
 -- call says, and others together only what becomes of a batch; none but a Stop ends every link; and a send that is a part of another call has
 -- reported once it is queued.
 use Rattle.std.proofs.Common.{◌≡◌, ℕ, List, ◌∷◌, map, refl, Bool, true, false, ◌&&◌, Option, Some, None, []}
-use Rattle.pulsar_laws.proofs.ActWords.{Action, Ask, Find, Notice, OfTopic, Outcome, PassTurn, Procedure, Share, Shut, StopAll, Store, TakeBatch, Tell, TellAll, Verdict}
+use Rattle.pulsar_laws.proofs.ActWords.{Action, Ask, Find, Notice, OfTopic, Outcome, PassTurn, Procedure, Share, Shut, StopAll, Store, TakeBatch, Tell, TellAll}
 use Rattle.pulsar_laws.proofs.PlanWords.{action_of, Batches, Batching, begins, BuildingProducer as Build, Deed, Errand, Fate, Gives, Leaving, News, Plan, PlanTransition, ProducerOrder, Reporting, Sending as Send, Stays, Stored, Storing, told, told_to, verdict, Visiting, Ways}
 use Rattle.pulsar_producer.specs.Batching.{is_sent_send}
 use Rattle.pulsar_frame.specs.Batch.{EntryValues}

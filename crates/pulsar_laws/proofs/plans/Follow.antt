@@ -1,8 +1,8 @@
 -- Plans follow their outcomes.
 use Rattle.std.proofs.Common.{◌≡◌, ℕ, ◌∙◌, sym, ap, subst, ◌+◌, ◌-◌, ◌^◌, List, [], ◌∷◌, ◌++◌, refl, arith, drop, Bool, true, false, cond, Option, Some, None, inl, inr, append-nil, append_assoc}
 use Rattle.std.proofs.lemmas.Bool.{cases_Bool}
-use Rattle.pulsar_laws.proofs.ActWords.{Act, Action, Answers, Asked, Call, Calls, Comes, Does, is_same, lacks_tickets, Makes, Notice, Outcome, Part, Procedure, Rest, shares, Starts, Told, Verdict, Who}
-use Rattle.pulsar_laws.proofs.PlanWords.{begins, Gives, Plan, PlanTransition, Stays, told, Ways}
+use Rattle.pulsar_laws.proofs.ActWords.{Act, Action, Answers, Asked, Call, Calls, Comes, Does, is_same, lacks_tickets, Makes, Notice, Outcome, Part, Procedure, Rest, shares, Starts, Told, Who}
+use Rattle.pulsar_laws.proofs.PlanWords.{begins, Gives, PlanTransition, Stays, told, Ways}
 use Rattle.pulsar_laws.proofs.RunWords.{agenda, Answered, at_once, Begins, begun_same, called, does, Each, each_append, each_map, Entry, first, first_case, follows, follows_some, is_served, IsRun, left_with, none_now, Options, performs, rest, started, starts, StartsIn, stays, stays_some, Then, told_some, view, View, ways_of}
 use Rattle.pulsar_laws.specs.Laws.{AnswersOnce, Deed, PlansFollow, acted, course, deed_of, deeds, outcomes, verdicts_in}
 use Rattle.pulsar_client.proofs.Acts.{each_drop, starts_in}

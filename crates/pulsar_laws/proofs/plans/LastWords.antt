@@ -1,6 +1,6 @@
 -- What one is told last: that the client is stopped, or what became of a batch; and what a plan does then.
 use Rattle.std.proofs.Common.{◌≡◌, ◌⊎◌, inl, inr, ◌∙◌, sym, ap, subst, ℕ, ◌+◌, List, ◌∷◌, ◌++◌, refl, map, Bool, true, false, Option, Some, None, [], Ok, Err}
-use Rattle.pulsar_laws.proofs.ActWords.{Act, Answers, Call, Comes, Does, Ends, Makes, Nothing, Notice, OfTopic, Outcome, Part, Procedure, Rest, Share, Starts, Stops, TakeBatch, Tell, TellAll, ToLink, Told, Verdict, Who}
+use Rattle.pulsar_laws.proofs.ActWords.{Act, Answers, Call, Comes, Does, Ends, Makes, Nothing, Notice, OfTopic, Outcome, Part, Procedure, Rest, Share, Starts, Stops, TakeBatch, Tell, TellAll, ToLink, Told, Who}
 use Rattle.pulsar_laws.proofs.PlanWords.{Batches, batches_on, Batching, Errand, Gives, Leaving, Member, Plan, PlanTransition, Reporting, Sending as Send, Stays, Stored, Storing, told, told_to, verdict, Visiting, Ways}
 use Rattle.pulsar_laws.proofs.RunWords.{Each, each_append, each_map, each_rest, follows, follows_some, rest_of, stays, stays_some, told_some}
 use Rattle.pulsar_laws.proofs.LinkWords.{Failure, OfConnection}

@@ -1,6 +1,6 @@
 -- What one does comes right behind the start of its plan, or the outcome that leads to it.
 use Rattle.std.proofs.Common.{◌≡◌, ◌⊎◌, inl, inr, ◌∙◌, sym, ap, subst, ℕ, ◌-◌, ◌^◌, List, [], ◌∷◌, ◌++◌, refl, Bool, true, false, cond, Option, Some, None}
-use Rattle.pulsar_laws.proofs.ActWords.{Act, Action, Answers, Asked, Call, Calls, Comes, Does, lacks_tickets, Notice, Procedure, Rest, shares, Starts, Told, Verdict, Who}
+use Rattle.pulsar_laws.proofs.ActWords.{Act, Action, Answers, Asked, Call, Calls, Comes, Does, lacks_tickets, Notice, Procedure, Rest, shares, Starts, Told, Who}
 use Rattle.pulsar_laws.proofs.PlanWords.{begins, fails, Gives, Plan, PlanTransition, Stays, told}
 use Rattle.pulsar_laws.proofs.RunWords.{agenda, Answered, at_once, Begins, Each, each_map, Entry, first_case, follows, follows_some, is_served, IsRun, left_with, Options, performs, rest, starts, Then, told_some, view, View, ways_of}
 use Rattle.pulsar_laws.proofs.LinkWords.{Exhausted}

@@ -1,6 +1,6 @@
 -- Only the plan of a consumer serves one, and only that takes flows, and subscribes a consumer again, where it is told a reply.
 use Rattle.std.proofs.Common.{◌≡◌, inl, inr, ◌∙◌, sym, ap, subst, ℕ, List, ◌∷◌, refl, Bool, true, false, Some}
-use Rattle.pulsar_laws.proofs.ActWords.{Action, Call, Consumer, Does, Outcome, Procedure, Producer, Revive, TakeFlow, Told, Verdict, Who, OfConsumer}
+use Rattle.pulsar_laws.proofs.ActWords.{Action, Call, Consumer, Does, Outcome, Procedure, Producer, Revive, TakeFlow, Told, Who, OfConsumer}
 use Rattle.pulsar_laws.proofs.PlanWords.{action_of, Deed, Plan, PlanTransition, Stays, told}
 use Rattle.pulsar_laws.proofs.RunWords.{Entry, IsRun, notice, Options, Then, view}
 use Rattle.pulsar_laws.proofs.LinkWords.{Reply}

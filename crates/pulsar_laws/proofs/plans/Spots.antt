@@ -1,6 +1,6 @@
 -- Along a run, one whose plan reports does so next, and no plan stands where a queued part of a call has not reported.
 use Rattle.std.proofs.Common.{◌≡◌, ◌∙◌, sym, ap, subst, ℕ, List, ◌∷◌, ◌++◌, refl, Bool, true, false, ◌&&◌, cond, Option, Some, None, []}
-use Rattle.pulsar_laws.proofs.ActWords.{Act, Action, Ask, Does, Find, Hold, Notice, OfTopic, Outcome, Part, PassTurn, Procedure, Rest, Shut, Starts, StopAll, Store, TakeBatch, Tell, TellAll, Told, Verdict, Who, is_same}
+use Rattle.pulsar_laws.proofs.ActWords.{Act, Action, Ask, Does, Find, Hold, Notice, OfTopic, Outcome, Part, PassTurn, Procedure, Rest, Shut, Starts, StopAll, Store, TakeBatch, Tell, TellAll, Told, Who, is_same}
 use Rattle.pulsar_laws.proofs.PlanWords.{begins, Gives, Plan, PlanTransition, Stays, told}
 use Rattle.pulsar_laws.proofs.RunWords.{agenda, Agenda, at_once, Begins, begun_same, does, Entry, first, first_of, follows, follows_some, IsRun, none_now, Options, rest, rules, stays, stays_some, tells, Then, told_some, view, View}
 use Rattle.pulsar_laws.proofs.LinkWords.{answer_at, told_at}

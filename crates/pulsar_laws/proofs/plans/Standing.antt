@@ -2,7 +2,7 @@
 -- where its procedure begins so and each outcome keeps it.
 use Rattle.std.proofs.Common.{◌≡◌, inl, inr, ◌∙◌, sym, ap, subst, ℕ, ◌≤◌, arith, List, [], ◌∷◌, refl, Bool, true, false, cond, Option, Some, None}
 use Rattle.std.proofs.lemmas.Bool.{cases_Bool}
-use Rattle.pulsar_laws.proofs.ActWords.{Act, Action, Answers, Call, Consumer, is_same, Outcome, Procedure, Producer, Starts, Told, Verdict, Who}
+use Rattle.pulsar_laws.proofs.ActWords.{Act, Action, Answers, Call, Consumer, is_same, Outcome, Procedure, Producer, Starts, Told, Who}
 use Rattle.pulsar_laws.proofs.PlanWords.{begins, Gives, Plan, PlanTransition, Stays, told, Ways}
 use Rattle.pulsar_laws.proofs.RunWords.{agenda, at_once, Begins, begun_same, counted, Each, each_append, each_first, each_map, each_rest, Entry, is_served, IsRun, notice, Options, rest, start_of, started, stays, stays_some, Then, told_some, view, View, ways_of}
 use Rattle.pulsar_calls.specs.declared.act.Procedure.TheVariants as procedure

@@ -1,7 +1,7 @@
 -- The frame of a batch is queued at most once.
 use Rattle.std.proofs.Common.{◌≡◌, ◌⊎◌, inl, inr, ◌∙◌, sym, ap, subst, ℕ, ◌+◌, ◌≤◌, arith, List, [], ◌∷◌, refl, Bool, true, false, ◌&&◌, cond, Option, Some, None, Result, Ok, Err}
 use Rattle.std.proofs.lemmas.Bool.{cases_Bool}
-use Rattle.pulsar_laws.proofs.ActWords.{Act, Action, Does, Notice, OfTopic, Outcome, Procedure, Producer, Starts, TakeBatch, Told, Verdict, Who, is_same}
+use Rattle.pulsar_laws.proofs.ActWords.{Act, Action, Does, Notice, OfTopic, Outcome, Procedure, Producer, Starts, TakeBatch, Told, Who, is_same}
 use Rattle.pulsar_laws.proofs.PlanWords.{Batches, Batching, begins, Deed, Errand, Gives, Member, News, news_of, Plan, PlanTransition, Sending as Send, Stays, told, Ways}
 use Rattle.pulsar_laws.proofs.RunWords.{Begins, begun_same, Entry, IsRun, notice, Options, stays, stays_some, Then, told_some, view}
 use Rattle.pulsar_laws.proofs.LinkWords.{Fault}

@@ -2,7 +2,7 @@
 use Rattle.std.proofs.Common.{◌≡◌, ◌⊎◌, inl, inr, ◌∙◌, sym, ap, subst, ℕ, ◌+◌, ◌≤◌, ◌==◌, arith, List, ◌∷◌, refl, Bool, true, false, cond, Option, Some, None}
 use Rattle.std.proofs.lemmas.Bool.{cases_Bool, eqb-true}
 use Rattle.std.proofs.lemmas.Bool.Decides.{nat_tests}
-use Rattle.pulsar_laws.proofs.ActWords.{Action, Call, Consumer, Does, OfTopic, Outcome, PassTurn, Procedure, Producer, Rest, Share, Starts, TakeTurn, Told, Verdict, Who, is_same, turn_of as taken_as}
+use Rattle.pulsar_laws.proofs.ActWords.{Action, Call, Consumer, Does, OfTopic, Outcome, PassTurn, Procedure, Producer, Rest, Share, Starts, TakeTurn, Told, Who, is_same, turn_of as taken_as}
 use Rattle.pulsar_laws.proofs.PlanWords.{Batches, Batching, begins, Errand, Gives, Leaving, Member, Plan, PlanTransition, Reporting, Sending as Send, Stays, told, Visiting, Ways}
 use Rattle.pulsar_laws.proofs.RunWords.{counted, Entry, In, IsRun, notice, Options, start_of, started, stays, stays_some, Then, told_some, view}
 use Rattle.pulsar_messages.specs.Claims.{is_spent}

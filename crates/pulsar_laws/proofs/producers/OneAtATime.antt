@@ -5,7 +5,7 @@ use Rattle.std.proofs.lemmas.Bool.{cases_Bool, eqb-true}
 use Rattle.std.specs.Option.{option_map}
 use Rattle.pulsar_laws.proofs.ActWords.{Act, Action, Alarm, Answers, Ask, Comes, Dials, Does, FindConsumer, Get, is_same, Notice, OfTopic, Outcome, Part, PassTurn, Procedure, Producer, Rest, Starts, StopAll, TakeBatch, Told, Wait, Who, OfConsumer}
 use Rattle.pulsar_laws.proofs.PlanWords.{Batching, begins, Gives, Plan, PlanTransition, Stays, told}
-use Rattle.pulsar_laws.proofs.RunWords.{agenda, at_once, Begins, begun_same, does, Each, each_append, Entry, first_of, follows_some, IsRun, link_got, notice, Options, performs, rest, rest_of, rules, stays, stays_some, Then, told_some, view, View}
+use Rattle.pulsar_laws.proofs.RunWords.{agenda, at_once, Begins, begun_same, does, Each, each_append, Entry, first_of, follows_some, IsRun, notice, Options, performs, rest, rest_of, rules, stays, stays_some, Then, told_some, view, View}
 use Rattle.pulsar_laws.proofs.LinkWords.{answer_at, Base, Nobody, Pauses, place_of, Place, Runs, Seat, seat_asked, Series, Serves, Words}
 use Rattle.pulsar_addresses.specs.Address.{address_key, is_reachable}
 use Rattle.pulsar_exchange.specs.Request.{is_awaited}

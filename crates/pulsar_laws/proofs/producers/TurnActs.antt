@@ -6,7 +6,7 @@ use Rattle.std.specs.BTreeSet.{insert_key}
 use Rattle.std.specs.Option.{option_map}
 use Rattle.std.specs.Ordering.{match_ordering, nat_cmp}
 use Rattle.std.specs.declared.cmp.Ordering.TheVariants.{Less, Equal, Greater}
-use Rattle.pulsar_laws.proofs.ActWords.{Act, Call, is_same, Notice, Procedure, Producer, Starts, Told, Verdict, Who}
+use Rattle.pulsar_laws.proofs.ActWords.{Act, Call, is_same, Notice, Procedure, Producer, Starts, Told, Who}
 use Rattle.pulsar_laws.proofs.PlanWords.{Batching, begins, Gives, Leaving, Plan, PlanTransition, Stays, told}
 use Rattle.pulsar_laws.proofs.RunWords.{counted, Entry, In, IsRun, Options, start_of, stays, stays_some, Then, told_some, view}
 use Rattle.pulsar_producer.specs.Topic as topic

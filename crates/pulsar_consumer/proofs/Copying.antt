@@ -32,6 +32,15 @@ pub property_inserted : {Z : Type 0} (k v : String Z) (es : List (String Z × St
 property_inserted k v [] = refl
 property_inserted k v (e ∷ es) = inserted_next k v e es (by_text k e.0) refl (property_inserted k v es)
 
+-- a property whose texts have these bytes is put
+pub put_one : {Z : Type 0} (k v : String Z) (name value : List ℕ) (es more : List (String Z × String Z)) → more ≡ insert_entry by_text es k v →
+    string_bytes k ≡ name → string_bytes v ≡ value → map property more ≡ with_property name value (map property es)
+put_one k v name value es more is n w =
+    ap (λ xs. map property xs) is
+    ∙ property_inserted k v es
+    ∙ ap (λ x. with_property x (string_bytes v) (map property es)) n
+    ∙ ap (λ x. with_property name x (map property es)) w
+
 -- whether there is one of a name
 found_next : {Z : Type 0} (name : List ℕ) (e : String Z × String Z) (es : List (String Z × String Z)) (b : Bool) →
     is_at (slice_cmp nat_cmp name) (string_bytes e.0) ≡ b →

@@ -89,7 +89,7 @@ fn put_all(properties: &mut BTreeMap<String, String>, given: Vec<KeyValue>) -> R
     Ok(())
 }
 
-#[tactic(auto, using(crate::proofs::Copying::property_inserted))]
+#[tactic(auto, using(crate::proofs::Copying::put_one))]
 fn put(properties: &mut BTreeMap<String, String>, pair: &KeyValue) -> Result<(), NoMemory>
     ensures { OnOk result (map property properties.new.entries
         ≡ meaning.with_property (string_bytes pair.now.key) (string_bytes pair.now.value) (map property properties.old.entries)) }

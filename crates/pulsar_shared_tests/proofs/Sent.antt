@@ -77,30 +77,25 @@ use Rattle.pulsar_links.proofs.links.Links.TheSendSync as tables-Links
 use Rattle.pulsar_wire.proofs.commands.ids.MessageIdData.TheSendSync as wire-MessageIdData
 
 pub wire-Error-field_send : IsSend (wire-Error.the_field).row
-wire-Error-field_send = search (knot.send-Error, knot.send-ProducerError, wire-ConnectionError.the_field_send, wire-ConsumerError.the_field_send,
-    wire-ServiceDiscoveryError.the_field_send, wire-AuthenticationError.the_field_send, heap.Vec-send, heap.Box-send, heap.frees, heap.send,
-        maps.String-send, sendable) depth 20 fits 20000
+wire-Error-field_send = search (knot.send-Error, knot.send-ProducerError, wire-ConnectionError.the_field_send, wire-ConsumerError.the_field_send, wire-ServiceDiscoveryError.the_field_send, wire-AuthenticationError.the_field_send, heap.Vec-send, heap.Box-send, heap.frees, heap.send, maps.String-send, sendable) depth 20 fits 20000
 
 pub wire-Error-send : IsSend wire-Error.the_row
 wire-Error-send = as_row_send wire-Error.the_field wire-Error-field_send
 
 pub link-Unread-field_send : IsSend (link-Unread.the_field).row
-link-Unread-field_send = search (wire-Error-send, wire-Error-field_send, wire-MessageIdData.the_send, wire-MessageIdData.the_field_send,
-    frame-Payload.the_send, frame-Payload.the_field_send, heap.crosses, maps.crosses, sendable) depth 30 fits 20000
+link-Unread-field_send = search (wire-Error-send, wire-Error-field_send, wire-MessageIdData.the_send, wire-MessageIdData.the_field_send, frame-Payload.the_send, frame-Payload.the_field_send, heap.crosses, maps.crosses, sendable) depth 30 fits 20000
 
 pub link-Unread-send : IsSend link-Unread.the_row
 link-Unread-send = as_row_send link-Unread.the_field link-Unread-field_send
 
 pub calls-Effect-field_send : IsSend (calls-Effect.the_field).row
-calls-Effect-field_send = search (calls-Answer.the_send, calls-Answer.the_field_send, wire-Error-send, wire-Error-field_send, calls-Handed.the_send,
-    calls-Handed.the_field_send, calls-Settlement.the_send, calls-Settlement.the_field_send, heap.crosses, maps.crosses, sendable) depth 30 fits 20000
+calls-Effect-field_send = search (calls-Answer.the_send, calls-Answer.the_field_send, wire-Error-send, wire-Error-field_send, calls-Handed.the_send, calls-Handed.the_field_send, calls-Settlement.the_send, calls-Settlement.the_field_send, heap.crosses, maps.crosses, sendable) depth 30 fits 20000
 
 pub calls-Effect-send : IsSend calls-Effect.the_row
 calls-Effect-send = as_row_send calls-Effect.the_field calls-Effect-field_send
 
 pub consumer-Unread-field_send : IsSend (consumer-Unread.the_field).row
-consumer-Unread-field_send = search (link-Unread-send, link-Unread-field_send, link-Unread-send, link-Unread-field_send, heap.crosses, maps.crosses,
-    sendable) depth 30 fits 20000
+consumer-Unread-field_send = search (link-Unread-send, link-Unread-field_send, link-Unread-send, link-Unread-field_send, heap.crosses, maps.crosses, sendable) depth 30 fits 20000
 
 pub consumer-Unread-send : IsSend consumer-Unread.the_row
 consumer-Unread-send = as_row_send consumer-Unread.the_field consumer-Unread-field_send
@@ -112,15 +107,13 @@ pub consumer-Frame-send : IsSend consumer-Frame.the_row
 consumer-Frame-send = as_row_send consumer-Frame.the_field consumer-Frame-field_send
 
 pub consumer-ConsumerEngine-field_send : IsSend (consumer-ConsumerEngine.the_field).row
-consumer-ConsumerEngine-field_send = search (consumer-Frame-send, consumer-Frame-field_send, consumer-Live.the_send, consumer-Unread-send,
-    consumer-Unread-field_send, heap.crosses, maps.crosses, sendable) depth 30 fits 20000
+consumer-ConsumerEngine-field_send = search (consumer-Frame-send, consumer-Frame-field_send, consumer-Live.the_send, consumer-Unread-send, consumer-Unread-field_send, heap.crosses, maps.crosses, sendable) depth 30 fits 20000
 
 pub consumer-ConsumerEngine-send : IsSend consumer-ConsumerEngine.the_row
 consumer-ConsumerEngine-send = as_row_send consumer-ConsumerEngine.the_field consumer-ConsumerEngine-field_send
 
 pub consumer-TopicConsumer-field_send : IsSend (consumer-TopicConsumer.the_field).row
-consumer-TopicConsumer-field_send = search (consumer-ConsumerEngine-send, consumer-ConsumerEngine-field_send, consumer-Ending.the_send,
-    consumer-Ending.the_field_send, consumer-Settings.the_send, plans-Text.the_send, heap.crosses, maps.crosses, sendable) depth 30 fits 20000
+consumer-TopicConsumer-field_send = search (consumer-ConsumerEngine-send, consumer-ConsumerEngine-field_send, consumer-Ending.the_send, consumer-Ending.the_field_send, consumer-Settings.the_send, plans-Text.the_send, heap.crosses, maps.crosses, sendable) depth 30 fits 20000
 
 pub consumer-TopicConsumer-send : IsSend consumer-TopicConsumer.the_row
 consumer-TopicConsumer-send = as_row_send consumer-TopicConsumer.the_field consumer-TopicConsumer-field_send
@@ -132,15 +125,13 @@ pub consumer-Consumer-send : IsSend consumer-Consumer.the_row
 consumer-Consumer-send = as_row_send consumer-Consumer.the_field consumer-Consumer-field_send
 
 pub consumer_table-ConsumerRow-field_send : IsSend (consumer_table-ConsumerRow.the_field).row
-consumer_table-ConsumerRow-field_send = search (consumer-Consumer-send, consumer-Consumer-field_send, calls-Who.the_send, calls-Who.the_field_send,
-    heap.crosses, maps.crosses, sendable) depth 30 fits 20000
+consumer_table-ConsumerRow-field_send = search (consumer-Consumer-send, consumer-Consumer-field_send, calls-Who.the_send, calls-Who.the_field_send, heap.crosses, maps.crosses, sendable) depth 30 fits 20000
 
 pub consumer_table-ConsumerRow-send : IsSend consumer_table-ConsumerRow.the_row
 consumer_table-ConsumerRow-send = as_row_send consumer_table-ConsumerRow.the_field consumer_table-ConsumerRow-field_send
 
 pub consumer_table-Consumers-field_send : IsSend (consumer_table-Consumers.the_field).row
-consumer_table-Consumers-field_send = search (consumer_table-ConsumerRow-send, consumer_table-ConsumerRow-field_send, consumer_table-Numbers.the_send,
-    consumer_table-Numbers.the_field_send, heap.crosses, maps.crosses, sendable) depth 30 fits 20000
+consumer_table-Consumers-field_send = search (consumer_table-ConsumerRow-send, consumer_table-ConsumerRow-field_send, consumer_table-Numbers.the_send, consumer_table-Numbers.the_field_send, heap.crosses, maps.crosses, sendable) depth 30 fits 20000
 
 pub consumer_table-Consumers-send : IsSend consumer_table-Consumers.the_row
 consumer_table-Consumers-send = as_row_send consumer_table-Consumers.the_field consumer_table-Consumers-field_send
@@ -152,24 +143,19 @@ pub plans-Refusal-send : IsSend plans-Refusal.the_row
 plans-Refusal-send = as_row_send plans-Refusal.the_field plans-Refusal-field_send
 
 pub producer-Sending-field_send : IsSend (producer-Sending.the_field).row
-producer-Sending-field_send = search (plans-Command.the_send, plans-Command.the_field_send, plans-Looking.the_send, plans-Looking.the_field_send,
-    plans-Making.the_send, plans-Making.the_field_send, producer-Outgoing.the_send, plans-Refusal-send, plans-Refusal-field_send, heap.crosses, maps.crosses,
-        sendable) depth 30 fits 20000
+producer-Sending-field_send = search (plans-Command.the_send, plans-Command.the_field_send, plans-Looking.the_send, plans-Looking.the_field_send, plans-Making.the_send, plans-Making.the_field_send, producer-Outgoing.the_send, plans-Refusal-send, plans-Refusal-field_send, heap.crosses, maps.crosses, sendable) depth 30 fits 20000
 
 pub producer-Sending-send : IsSend producer-Sending.the_row
 producer-Sending-send = as_row_send producer-Sending.the_field producer-Sending-field_send
 
 pub producer-Batching-field_send : IsSend (producer-Batching.the_field).row
-producer-Batching-field_send = search (producer-Members.the_send, producer-Sending-send, producer-Sending-field_send, heap.crosses, maps.crosses, sendable)
-    depth 30 fits 20000
+producer-Batching-field_send = search (producer-Members.the_send, producer-Sending-send, producer-Sending-field_send, heap.crosses, maps.crosses, sendable) depth 30 fits 20000
 
 pub producer-Batching-send : IsSend producer-Batching.the_row
 producer-Batching-send = as_row_send producer-Batching.the_field producer-Batching-field_send
 
 pub producer-Building-field_send : IsSend (producer-Building.the_field).row
-producer-Building-field_send = search (plans-Command.the_send, plans-Command.the_field_send, producer-Left.the_send, plans-Making.the_send,
-    plans-Making.the_field_send, plans-Naming.the_send, plans-Naming.the_field_send, producer-Part.the_send, producer-Part.the_field_send,
-        producer-Parts.the_send, plans-Refusal-send, plans-Refusal-field_send, heap.crosses, maps.crosses, sendable) depth 30 fits 20000
+producer-Building-field_send = search (plans-Command.the_send, plans-Command.the_field_send, producer-Left.the_send, plans-Making.the_send, plans-Making.the_field_send, plans-Naming.the_send, plans-Naming.the_field_send, producer-Part.the_send, producer-Part.the_field_send, producer-Parts.the_send, plans-Refusal-send, plans-Refusal-field_send, heap.crosses, maps.crosses, sendable) depth 30 fits 20000
 
 pub producer-Building-send : IsSend producer-Building.the_row
 producer-Building-send = as_row_send producer-Building.the_field producer-Building-field_send
@@ -181,16 +167,7 @@ pub calls-Failures-send : IsSend calls-Failures.the_row
 calls-Failures-send = as_row_send calls-Failures.the_field calls-Failures-field_send
 
 pub procedures-Plan-field_send : IsSend (procedures-Plan.the_field).row
-procedures-Plan-field_send = search (procedures-At.the_send, procedures-At.the_field_send, producer-Batching-send, producer-Batching-field_send,
-    producer-Building-send, producer-Building-field_send, consumer-Order.the_send, consumer-Order.the_field_send, consumer-Building.the_send,
-        consumer-Building.the_field_send, producer-Errand.the_send, producer-Errand.the_field_send, plans-Refusal-send, plans-Refusal-field_send,
-            calls-Failures-send, calls-Failures-field_send, calls-Numbers.the_send, consumer-Order.the_send, consumer-Order.the_field_send,
-                link-Request.the_send, calls-Round.the_send, calls-Round.the_field_send, calls-Says.the_send, calls-Says.the_field_send,
-                    searches-SearchPlan.the_send, calls-Boxed.the_send, producer-Sending-send, producer-Sending-field_send, procedures-Service.the_send,
-                        procedures-Service.the_field_send, calls-Share.the_send, calls-Share.the_field_send, procedures-Wanted.the_send,
-                            procedures-Wanted.the_field_send, plans-Ways.the_send, plans-Ways.the_field_send, producer-Order.the_send,
-                                producer-Order.the_field_send, consumer-Order.the_send, consumer-Order.the_field_send, heap.crosses, maps.crosses, sendable)
-                                    depth 30 fits 20000
+procedures-Plan-field_send = search (procedures-At.the_send, procedures-At.the_field_send, producer-Batching-send, producer-Batching-field_send, producer-Building-send, producer-Building-field_send, consumer-Order.the_send, consumer-Order.the_field_send, consumer-Building.the_send, consumer-Building.the_field_send, producer-Errand.the_send, producer-Errand.the_field_send, plans-Refusal-send, plans-Refusal-field_send, calls-Failures-send, calls-Failures-field_send, calls-Numbers.the_send, consumer-Order.the_send, consumer-Order.the_field_send, link-Request.the_send, calls-Round.the_send, calls-Round.the_field_send, calls-Says.the_send, calls-Says.the_field_send, searches-SearchPlan.the_send, calls-Boxed.the_send, producer-Sending-send, producer-Sending-field_send, procedures-Service.the_send, procedures-Service.the_field_send, calls-Share.the_send, calls-Share.the_field_send, procedures-Wanted.the_send, procedures-Wanted.the_field_send, plans-Ways.the_send, plans-Ways.the_field_send, producer-Order.the_send, producer-Order.the_field_send, consumer-Order.the_send, consumer-Order.the_field_send, heap.crosses, maps.crosses, sendable) depth 30 fits 20000
 
 pub procedures-Plan-send : IsSend procedures-Plan.the_row
 procedures-Plan-send = as_row_send procedures-Plan.the_field procedures-Plan-field_send
@@ -202,17 +179,13 @@ pub procedures-Plans-send : IsSend procedures-Plans.the_row
 procedures-Plans-send = as_row_send procedures-Plans.the_field procedures-Plans-field_send
 
 pub acts-Tables-field_send : IsSend (acts-Tables.the_field).row
-acts-Tables-field_send = search (tables-Addresses.the_send, tables-Addresses.the_field_send, tables-Alarms.the_send, consumer_table-Consumers-send,
-    consumer_table-Consumers-field_send, tables-Links.the_send, tables-Links.the_field_send, procedures-Plans-send, procedures-Plans-field_send,
-        producer_table-Producers.the_send, producer_table-Producers.the_field_send, acts-Settings.the_send, acts-Settings.the_field_send, heap.crosses,
-            maps.crosses, sendable) depth 30 fits 20000
+acts-Tables-field_send = search (tables-Addresses.the_send, tables-Addresses.the_field_send, tables-Alarms.the_send, consumer_table-Consumers-send, consumer_table-Consumers-field_send, tables-Links.the_send, tables-Links.the_field_send, procedures-Plans-send, procedures-Plans-field_send, producer_table-Producers.the_send, producer_table-Producers.the_field_send, acts-Settings.the_send, acts-Settings.the_field_send, heap.crosses, maps.crosses, sendable) depth 30 fits 20000
 
 pub acts-Tables-send : IsSend acts-Tables.the_row
 acts-Tables-send = as_row_send acts-Tables.the_field acts-Tables-field_send
 
 pub calls-Said-field_send : IsSend (calls-Said.the_field).row
-calls-Said-field_send = search (calls-Answer.the_send, calls-Answer.the_field_send, wire-Error-send, wire-Error-field_send, heap.crosses, maps.crosses,
-    sendable) depth 30 fits 20000
+calls-Said-field_send = search (calls-Answer.the_send, calls-Answer.the_field_send, wire-Error-send, wire-Error-field_send, heap.crosses, maps.crosses, sendable) depth 30 fits 20000
 
 pub calls-Said-send : IsSend calls-Said.the_row
 calls-Said-send = as_row_send calls-Said.the_field calls-Said-field_send
@@ -233,9 +206,7 @@ pumps-Receipt-send = as_row_send pumps-Receipt.the_field pumps-Receipt-field_sen
 module _ (D : RattleType) (g : Ghosts D.Denot) (entries : Sends (table_of D.Denot g)) (vtable : IsSend D) where
   client-ClientOptions-send : IsSend (client-ClientOptions.the_row D g)
   client-ClientOptions-send = let policy = heap.dyn_box_send D g entries vtable in
-      declared_send (client-ClientOptions.the_type D g) (search (as_row_send, policy, messages-Authentication.the_send, heap.crosses, maps.crosses, sendable)
-          depth 30 fits 20000)
+      declared_send (client-ClientOptions.the_type D g) (search (as_row_send, policy, messages-Authentication.the_send, heap.crosses, maps.crosses, sendable) depth 30 fits 20000)
 
   pub client-Pulsar-send : IsSend (client-Pulsar.the_row D g)
-  client-Pulsar-send = declared_send (client-Pulsar.the_type D g) (search
-      (as_row_send, client-ClientOptions-send, acts-Tables-field_send, client-Answers-field_send, heap.crosses, maps.crosses, sendable) depth 30 fits 20000)
+  client-Pulsar-send = declared_send (client-Pulsar.the_type D g) (search (as_row_send, client-ClientOptions-send, acts-Tables-field_send, client-Answers-field_send, heap.crosses, maps.crosses, sendable) depth 30 fits 20000)

@@ -292,7 +292,7 @@ module _ (o : Options) (u : ℕ) (f : Failure) where
       ∙ ap (λ r. stays_some (told_some r (outcome.Granted news.Done))) s in
       let next : first g ≡ Some the_end =
       ap (λ (r : Option Plan). first_of rules (follows_some (Call u) (told_some r (outcome.Granted news.Done)) ++ (rest
-          (agenda o log)).now) g.here g.behind g.parts) s in
+      (agenda o log)).now) g.here g.behind g.parts) s in
       let y : queues_at o u log (Told done) ≡ 0 = ap (λ t. cond t 1 0) (and_false (is_same (Call u) (Call u))) in
       (IsDue here next, omega (arith, z, y))
 

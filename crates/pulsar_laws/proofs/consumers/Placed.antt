@@ -134,7 +134,7 @@ server_asks b l p q k r is h = absurd cc
 abbrev pub Takes : Options → List Entry → (n t : ℕ) → Type 0
 Takes o log n t =
     (first (agenda o log) ≡ Some (Does (Consumer n t) (OfConsumer TakeFlow))) ⊎ ((older : List Entry)
-        × (log ≡ Then (Does (Consumer n t) (OfConsumer TakeFlow)) ∷ older))
+    × (log ≡ Then (Does (Consumer n t) (OfConsumer TakeFlow)) ∷ older))
 
 abbrev pub TakesAt : Options → List Entry → (n t : ℕ) → Type 0
 TakesAt o log n t = (p : Plan) → (view o log).stand (Consumer n t) ≡ Some p → is_taking p ≡ true → Takes o log n t
@@ -145,7 +145,7 @@ pub told_flow : (o : Options) (older : List Entry) (n t : ℕ) →
     ≡ Some (Told (notice (Consumer n t) (outcome.Word (flow_said (flow_at ((view o older).consumers.rows t))))))
 told_flow o older n t =
     first_at o older (Does (Consumer n t) (OfConsumer TakeFlow)) (Told (notice (Consumer n t) (outcome.Word (flow_said (flow_at
-        ((view o older).consumers.rows t)))))) refl
+    ((view o older).consumers.rows t)))))) refl
 
 abbrev said : Act → Outcome
 said (Told n) = n.outcome
@@ -227,7 +227,7 @@ told_run o log n t m run was = λ p stood h. elim (cases_Bool (is_same (Consumer
       | inl f ↦ (let g : Told m ≡ Does (Consumer n t) (OfConsumer TakeFlow) = some_is (sym run.1 ∙ f) in absurd cc)
       | inr k ↦
           (let f : first (agenda o (Then (Does (Consumer n t) (OfConsumer TakeFlow)) ∷ k.0)) ≡ Some (Told m) = subst (λ x. first (agenda o x)
-              ≡ Some (Told m)) k.1 run.1 in
+          ≡ Some (Told m)) k.1 run.1 in
           let g : m.who ≡ Consumer n t = some_is (ap heard (some_is (sym f ∙ told_flow o k.0 n t))) in
           let d : true ≡ false = sym (ap (is_same (Consumer n t)) g ∙ same_self (Consumer n t)) ∙ e in
           absurd cc)
@@ -369,7 +369,7 @@ is_placed once o log n t l m p run = led (led_by o n t log (Ask l (words.SendFlo
           | inl f ↦ (let g : Told (notice (Consumer n t) k.outcome) ≡ Does (Consumer n t) (OfConsumer TakeFlow) = some_is (sym r.1 ∙ f) in absurd cc)
           | inr older ↦
               (let there : log ≡ Then (Told (notice (Consumer n t) (outcome.Word (word.Flow l p)))) ∷ Then (Does (Consumer n t)
-                  (OfConsumer TakeFlow)) ∷ older.0 =
+              (OfConsumer TakeFlow)) ∷ older.0 =
               k.is_there
               ∙ ap (λ y. Then (Told (notice (Consumer n t) y)) ∷ k.older) u
               ∙ ap (λ y. Then (Told (notice (Consumer n t) (outcome.Word (word.Flow l p)))) ∷ y) older.1 in

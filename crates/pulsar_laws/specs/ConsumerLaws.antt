@@ -149,6 +149,13 @@ abbrev pub items_given : ℕ → List Step → List Item
 items_given t [] = []
 items_given t (s ∷ h) = items_given t h ++ flat_map (given_by t) s.effects
 
+-- the effect of its next poll: it gives the first of what is left; where nothing is, it finds the end if the consumer has ended, and else nothing
+abbrev pub shows_next : (ticket : ℕ) → (topic : List ℕ) → (left : List Item) → (ended : Option Ending) → Shown
+shows_next t topic (Given id size metadata payload ∷ left) ended = Hands t topic id size metadata payload
+shows_next t topic (Faulty fault ∷ left) ended = Faults t fault
+shows_next t topic [] (Some why) = FindsEnd t
+shows_next t topic [] None = FindsNothing t
+
 -- The polls of a consumer give just the items of its arrivals, in order, each once and without gap: behind what they gave stands what is left. What
 -- arrives are the messages that come for its number on the link of its live subscription, and why it could not be subscribed again. Its next
 -- poll gives the first that is left; where none is left it gives the end if it has ended, and else nothing.
@@ -157,6 +164,7 @@ PollsFollow = (o : Options) (log : List Entry) (t : ℕ) (m : Member) → IsRun 
     (s : Setup) × (left : List Item) × (made_with t log ≡ Some s)
     × (items_given t (steps o log) ++ left ≡ items_of (arrivals s (done_to o t log)))
     × (reader.polled m.seen ≡ polled_from (first_of left) m.seen.ended)
+    × (consumer.polled t m ≡ shows_next t m.seen.topic left m.seen.ended)
 
 -- A consumer is polled where the user asks for it, and that is the one effect of that step.
 abbrev pub PollsAreAnswered : Type 0

@@ -30,11 +30,12 @@ use Rattle.url.specs.Parts.{Parts}
 use Rattle.pulsar_consumer.specs.Frames.{frame_in}
 use Rattle.pulsar_consumer.specs.Topic.{Act as Done, Lives, Hears, Loses, Fails, Ends as Over, Polls as Polled, Asks, Seen, Setup, first_of as first_item, lives_on, polled_from, seen}
 use Rattle.pulsar_consumer.specs.Laws.{given, given_by as given_in, item_in, left}
+use Rattle.pulsar_incoming.specs.declared.polled.Ending.{Ending}
 use Rattle.pulsar_incoming.specs.declared.polled.Ending.TheVariants.{Closed, TopicEnded}
 use Rattle.pulsar_incoming.specs.declared.polled.Polled.{Polled as Answer}
 use Rattle.pulsar_consumer.proofs.Histories.{polls_give_arrivals, polls_give_the_next}
 use Rattle.pulsar_consumer_table.specs.Consumers.{Arrives, ClientStops, CloseAsked, Deed, FlowTaken, IsPolled, IsSought, LinkEnds, Member, NotRevived, Revived, is_closed_by, polled, polled_so}
-use Rattle.pulsar_laws.specs.ConsumerLaws.{PollsAreAnswered, PollsFollow, arrival_does, deed_does, deeds_do, does_to, done_to, frame_does, given_by, items_given, loss_does, made_with, subscription_does}
+use Rattle.pulsar_laws.specs.ConsumerLaws.{PollsAreAnswered, PollsFollow, arrival_does, deed_does, deeds_do, does_to, done_to, frame_does, given_by, items_given, loss_does, made_with, shows_next, subscription_does}
 use Rattle.pulsar_laws.proofs.consumers.Lone.{IsKept, IsMade, IsNone, RowFrom, StandsSo, begun_rows, consumers_alone_lem, did_so, row_from}
 use Rattle.pulsar_laws.proofs.consumers.Members.{CameFrom}
 use Rattle.pulsar_consumer.specs.Topic as reader
@@ -375,15 +376,26 @@ module _ (once : EndsOnce) (o : Options) (t : ℕ) (un : is_spent t ≡ false) w
       gives_on a log (row_from o log t once a un run) run (gives log run.0)
       (λ m e. consumers_alone_lem once o log t m run.0 e)
 
+-- and its effect is that of what is left, or of its end
+shows_left : (t : ℕ) (topic : List ℕ) (items : List Item) (why : Option Ending) →
+    polled_so t topic (polled_from (first_item items) why) ≡ shows_next t topic items why
+shows_left t topic (Given id size metadata payload ∷ items) why = refl
+shows_left t topic (Faulty fault ∷ items) why = refl
+shows_left t topic [] (Some why) = refl
+shows_left t topic [] None = refl
+
 pub polls_follow_lem : EndsOnce → PollsFollow
 polls_follow_lem once o log t m run e =
     let k = consumers_alone_lem once o log t m run e in
     let h : List Done = done_to o t log in
     let g : (s : Setup) → made_with t log ≡ Some s → items_given t (steps o log) ≡ given s h =
-    subst (Given' o log t) e (gives once o t (consumer_ticket o log t m run e) log run) in (
+    subst (Given' o log t) e (gives once o t (consumer_ticket o log t m run e) log run) in
+    let next : reader.polled m.seen ≡ polled_from (first_item (left k.0 h)) m.seen.ended =
+    ap reader.polled k.2 ∙ polls_give_the_next k.0 h ∙ ap (λ x. polled_from (first_item (left k.0 h)) x.ended) (sym k.2) in (
       k.0,
       left k.0 h,
       k.1,
       ap (λ x. x ++ left k.0 h) (g k.0 k.1) ∙ polls_give_arrivals k.0 h,
-      ap reader.polled k.2 ∙ polls_give_the_next k.0 h ∙ ap (λ x. polled_from (first_item (left k.0 h)) x.ended) (sym k.2),
+      next,
+      ap (polled_so t m.seen.topic) next ∙ shows_left t m.seen.topic (left k.0 h) m.seen.ended,
     )

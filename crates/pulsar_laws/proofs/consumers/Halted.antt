@@ -26,6 +26,7 @@ use Rattle.pulsar_laws.proofs.calls.Sources.{step_runs}
 use Rattle.pulsar_laws.proofs.calls.Stopping.{over_run}
 use Rattle.pulsar_laws.proofs.calls.Tellers.{causes_told_lem}
 use Rattle.pulsar_laws.proofs.consumers.Members.{Gone}
+use Rattle.pulsar_laws.proofs.producers.BatchTold.{cut_same, told_same}
 use Rattle.pulsar_laws.specs.BatchLaws.{TellsBatch}
 use Rattle.pulsar_laws.specs.CauseLaws.{Cause, IsToldByBatch}
 use Rattle.pulsar_laws.specs.Laws.{ended_as, stopped}
@@ -155,8 +156,8 @@ module _ (o : Options) (n t : ℕ) where
   not_batch u e older (m, ns, is, listed, tells) = by tells
     where
       by : TellsBatch o m ns older → ⊥
-      by (items, x, before, under, there, inl (f, fate, same)) = not_reported u _ ns same listed
-      by (items, x, before, under, there, inr (over, same)) = not_reported u _ ns same listed
+      by (items, x, before, under, there, inl (f, fate, same)) = not_reported u _ ns (same ∙ told_same 0 _ f items) listed
+      by (items, x, before, under, there, inr (over, same)) = not_reported u _ ns (same ∙ cut_same items) listed
 
   stopped_so : (u : Outcome) (e : Entry) (older : List Entry) → overrides u ≡ true → IsRun o (e ∷ older) → Cause o who u e older → stopped (e ∷ older) ≡ true
   stopped_so outcome.Cut e older h run k = halts o e older k.0 k.1 run k.4 (cut_end k.1 _ k.7.3)

@@ -1,5 +1,5 @@
 -- What those of a batch are told.
-use Rattle.std.proofs.Common.{◌≡◌, ◌⊎◌, inl, inr, ◌∙◌, sym, ap, subst, ℕ, List, ◌∷◌, refl, length, map, Bool, true, false, cond, Option, Some, None, Result, Ok, Err}
+use Rattle.std.proofs.Common.{◌≡◌, ◌⊎◌, inl, inr, ◌∙◌, sym, ap, subst, ℕ, ◌+◌, List, [], ◌∷◌, refl, length, map, Bool, true, false, cond, Option, Some, None, Result, Ok, Err}
 use Rattle.std.proofs.lemmas.Bool.{cases_Bool}
 use Rattle.pulsar_laws.proofs.ActWords.{Action, Does, Notice, Outcome, Producer, Rest, TellAll, Told}
 use Rattle.pulsar_laws.proofs.PlanWords.{Batches, Batching, Command, Errand, Fate, Heard, Looking, Making, Member, News, news_in, news_of, overrides, SearchTransition, Sending as Send, Served, told_to, Ways}
@@ -7,21 +7,24 @@ use Rattle.pulsar_laws.proofs.RunWords.{Entry, IsRun, notice, Options, Then, vie
 use Rattle.pulsar_laws.proofs.LinkWords.{Failure, Fault, Place, Reply}
 use Rattle.pulsar_messages.specs.Content.{ProducerMessageValues}
 use Rattle.pulsar_frame.specs.Reply.{Reply as Content, is_body}
+use Rattle.pulsar_wire.specs.Row.{Values}
+use Rattle.pulsar_wire.specs.Rows.{send_receipt}
 use Rattle.pulsar_wire.specs.declared.key.RequestKey.TheVariants as keys
 use Rattle.pulsar_searches.specs.Plans as search
 use Rattle.pulsar_searches.specs.Replies.{unexpected}
 use Rattle.pulsar_searches.specs.declared.turn.SearchOutcome.TheVariants as heard
-use Rattle.pulsar_outgoing.specs.Batch.{batch_of, cut_report, entries_in, member_of, receipt_fate, reports}
+use Rattle.pulsar_outgoing.specs.Batch.{batch_of, cut_report, entries_in, member_of, receipt_fate, receipt_or_lost, report_at, reports, reports_from}
 use Rattle.pulsar_producer.specs.Batching.{is_sent_send}
 use Rattle.pulsar_producer.specs.Plans as produce
 use Rattle.pulsar_producer.specs.Plans.{Sent, fault_told, not_drawn, not_queued, receipt, send_looks, send_makes}
-use Rattle.pulsar_outgoing.specs.Storage.{Item}
+use Rattle.pulsar_outgoing.specs.Storage.{Flush, Item, SingleMessage}
 use Rattle.pulsar_producer.specs.declared.batching.Batching.TheVariants as batching
+use Rattle.pulsar_outgoing.specs.declared.batch.Fate.TheVariants as fate
 use Rattle.pulsar_outgoing.specs.declared.news.News.TheVariants as news
 use Rattle.pulsar_producer.specs.declared.sending.Sending.TheVariants as send
 use Rattle.pulsar_calls.specs.declared.act.Outcome.TheVariants as outcome
 use Rattle.pulsar_laws.proofs.Cases.{cond_so}
-use Rattle.pulsar_laws.specs.BatchLaws.{AskedSince, asked_last, IsFateOf, MembersAreTold, frames_queued, under_way}
+use Rattle.pulsar_laws.specs.BatchLaws.{AskedSince, asked_last, batch_told, cut_told, fate_by, IsFateOf, item_told, MembersAreTold, frames_queued, under_way}
 use Rattle.pulsar_laws.proofs.producers.BatchQueued.{queued_once}
 use Rattle.pulsar_laws.proofs.plans.Batched.{Comes, IsSettling, Unsent, tells_where}
 use Rattle.pulsar_laws.proofs.producers.BatchFailing.{Kept, KeepsSo, Why, fails_so, is_told_news, kept_run, never_told}
@@ -146,6 +149,35 @@ gives_sent w e s u r h = elim (cases_Bool (is_sent s)) [
   | inr q ↦ (let f : false ≡ true = sym (unsent_gives w e s (news_of u) q) ∙ ap gives_ok h in absurd cc)
 ]
 
+-- WHAT EACH IS TOLD is what the reports of its batch say
+
+one_same : (i n : ℕ) (f : Fate) (x : Item) → item_told i n f x ≡ told_to (report_at i n f (member_of x))
+one_same i n (fate.Receipt receipt) (SingleMessage ticket e) = refl
+one_same i n (fate.Failed f) (SingleMessage ticket e) = refl
+one_same i n fate.Halted (SingleMessage ticket e) = refl
+one_same i n fate.Flushed (SingleMessage ticket e) = refl
+one_same i n (fate.Receipt receipt) (Flush ticket) = refl
+one_same i n (fate.Failed f) (Flush ticket) = refl
+one_same i n fate.Halted (Flush ticket) = refl
+one_same i n fate.Flushed (Flush ticket) = refl
+
+pub told_same : (i n : ℕ) (f : Fate) (items : List Item) → batch_told i n f items ≡ map told_to (reports_from i n f (map member_of items))
+told_same i n f [] = refl
+told_same i n f (x ∷ xs) =
+    ap (λ y. y ∷ batch_told (i + 1) n f xs) (one_same i n f x) ∙ ap (λ ys. told_to (report_at i n f (member_of x)) ∷ ys) (told_same (i + 1) n f xs)
+
+one_cut : (x : Item) → cut_told x ≡ told_to (cut_report (member_of x))
+one_cut (SingleMessage ticket e) = refl
+one_cut (Flush ticket) = refl
+
+pub cut_same : (items : List Item) → map cut_told items ≡ map told_to (map cut_report (map member_of items))
+cut_same [] = refl
+cut_same (x ∷ xs) = ap (λ y. y ∷ map cut_told xs) (one_cut x) ∙ ap (λ ys. told_to (cut_report (member_of x)) ∷ ys) (cut_same xs)
+
+receipt_same : (r : Option (Values send_receipt)) → receipt_or_lost r ≡ fate_by r
+receipt_same (Some receipt) = refl
+receipt_same None = refl
+
 -- THE LAW
 
 abbrev notices_in : List Notice → Action → List Notice
@@ -176,7 +208,7 @@ module _ (o : Options) (log : List Entry) (n : ℕ) (ns : List Notice) (run : Is
       let k = receipt_bears older q.0 (there ∙ ap (λ x. Then (Told (notice (Producer n) x)) ∷ older) q.1) body in
       let once : frames_queued o n log ≡ 1 =
       ap (frames_queued o n) there ∙ queued_once o older n u w e ms c s r stood (gives_sent w e s u h.0 h.1) in
-      inl (q.0, k.0, q.1, body, k.1, k.2, once, h.2 ∙ ap receipt_fate (sym q.2))
+      inl (q.0, k.0, q.1, body, k.1, k.2, once, h.2 ∙ ap receipt_fate (sym q.2) ∙ receipt_same q.0.content.receipt)
 
   unsent_fate : (items : List Item) (u : Outcome) (f : Fate) → Unsent items f → IsFateOf o n log items u f
   unsent_fate items u f (inl h) = inr (inr (inr (inr h)))
@@ -184,8 +216,8 @@ module _ (o : Options) (log : List Entry) (n : ℕ) (ns : List Notice) (run : Is
 
   abbrev IsTold : List Item → Outcome → Type 0
   IsTold items u =
-      ((f : Fate) × IsFateOf o n log items u f × (ns ≡ map told_to (reports (length (entries_in items)) f (map member_of items))))
-      ⊎ ((overrides u ≡ true) × (ns ≡ map told_to (map cut_report (map member_of items))))
+      ((f : Fate) × IsFateOf o n log items u f × (ns ≡ batch_told 0 (length (entries_in items)) f items))
+      ⊎ ((overrides u ≡ true) × (ns ≡ map cut_told items))
 
   told_from : (older : List Entry) (u : Outcome) (w : Ways) (e : Errand) (b : Batches) → log ≡ Then (Told (notice (Producer n) u)) ∷ older →
       IsRun o (Then (Told (notice (Producer n) u)) ∷ older) → (view o older).stand (Producer n) ≡ Some (Batching w e b) →
@@ -196,12 +228,12 @@ module _ (o : Options) (log : List Entry) (n : ℕ) (ns : List Notice) (run : Is
   told_from older u w e batching.Taking there r stood p s own kept k = (
     k.0,
     ap (under_way o n) there ∙ some_batch o older n u k.0 (was_done o older n batching.Taking u p r.1) k.2,
-    inl (k.1, unsent_fate k.0 u k.1 k.3, ap (notices_in ns) k.4),
+    inl (k.1, unsent_fate k.0 u k.1 k.3, ap (notices_in ns) k.4 ∙ sym (told_same 0 (length (entries_in k.0)) k.1 k.0)),
   )
   told_from older u w e (batching.Sending ms c x) there r stood p s own kept (inl k) = (
     s.0,
     ap (under_way o n) there ∙ s.1,
-    inr (k.0, ap (notices_in ns) k.1 ∙ ap (λ y. map told_to (map cut_report y)) s.2.0),
+    inr (k.0, ap (notices_in ns) k.1 ∙ ap (λ y. map told_to (map cut_report y)) s.2.0 ∙ sym (cut_same s.0)),
   )
   told_from older u w e (batching.Sending ms c x) there r stood p s own kept (inr k) = (
     s.0,
@@ -209,7 +241,8 @@ module _ (o : Options) (log : List Entry) (n : ℕ) (ns : List Notice) (run : Is
     inl (
       k.0,
       fate_of older s.0 u w e ms c x k.0 s.2.2 there stood own s.2.3 (kept s.2.2) k.1,
-      ap (notices_in ns) k.2 ∙ ap (λ y. map told_to (reports c k.0 y)) s.2.0 ∙ ap (λ y. map told_to (reports y k.0 (map member_of s.0))) s.2.1,
+      ap (notices_in ns) k.2 ∙ ap (λ y. map told_to (reports c k.0 y)) s.2.0 ∙ ap (λ y. map told_to (reports y k.0 (map member_of s.0))) s.2.1
+          ∙ sym (told_same 0 (length (entries_in s.0)) k.0 s.0),
     ),
   )
 

@@ -9,6 +9,7 @@ pub mod EachOnce
 pub mod Flushing
 pub mod Keepers
 pub mod Limits
+pub mod MadeLast
 pub mod Numbering
 pub mod Drawing
 pub mod Free

@@ -31,6 +31,7 @@ use Rattle.pulsar_producer.specs.Topic as topic
 use Rattle.pulsar_producer.specs.Topic.{Act as TopicAct}
 use Rattle.pulsar_outgoing.specs.Batch.{batch_of}
 use Rattle.pulsar_outgoing.specs.declared.content.Built.{Built}
+use Rattle.pulsar_outgoing.specs.declared.replies.Given.{Given}
 use Rattle.pulsar_outgoing.specs.declared.storage.Limits.{Limits}
 use Rattle.pulsar_outgoing.specs.declared.news.News.TheVariants as news
 use Rattle.pulsar_outgoing.specs.declared.orders.Errand.{Errand}
@@ -40,9 +41,10 @@ use Rattle.pulsar_producer.specs.declared.batching.Batching.{Batching}
 use Rattle.pulsar_producer.specs.declared.batching.Batching.TheVariants as batching
 use Rattle.pulsar_searches.specs.declared.turn.Ways.{Ways}
 use Rattle.pulsar_calls.specs.declared.act.Act.{Act}
-use Rattle.pulsar_calls.specs.declared.act.Act.TheVariants.{Told, Does}
+use Rattle.pulsar_calls.specs.declared.act.Act.TheVariants.{Answers, Does, Told}
 use Rattle.pulsar_calls.specs.declared.act.Action.TheVariants.{OfTopic, Ask}
-use Rattle.pulsar_calls.specs.declared.act.TopicAsk.TheVariants.{PassTurn}
+use Rattle.pulsar_calls.specs.declared.act.TopicAsk.TheVariants.{PassTurn, Remake}
+use Rattle.pulsar_calls.specs.declared.act.Makes.{Makes}
 use Rattle.pulsar_calls.specs.declared.act.Makes.TheVariants as makes
 use Rattle.pulsar_calls.specs.declared.act.Share.{Share}
 use Rattle.pulsar_calls.specs.declared.act.Outcome.{Outcome}
@@ -109,6 +111,30 @@ abbrev pub TopicsAlone : Type 0
 TopicsAlone = (o : Options) (log : List Entry) (n : ℕ) (t : Topic) → IsRun o log → (view o log).producers.topics n ≡ Some t →
     (b : Built) × (limits : Limits) × (b.number ≡ n)
     × (t.seen ≡ topic.seen (record { built = b; first_number = o.chosen.first_number; limits = limits }) (acts_on o n log))
+
+-- with what one of a number is built: its link, and what its broker says of it; of several the last
+abbrev pub built_in : (number : ℕ) → List Built → (before : Option (ℕ × Given)) → Option (ℕ × Given)
+built_in n [] before = before
+built_in n (b ∷ bs) before = built_in n bs (if n == b.number then Some (b.link, b.given) else before)
+
+abbrev pub built_by : (number : ℕ) → Makes → (before : Option (ℕ × Given)) → Option (ℕ × Given)
+built_by n makes.Nothing before = before
+built_by n makes.Client before = before
+built_by n (makes.Consumer j) before = before
+built_by n (makes.RawConsumer l made) before = before
+built_by n (makes.Producer b) before = built_in n b.parts before
+
+-- with what the topic producer of a number was made last: with its newest remaking since it was built, else as it was built
+abbrev pub made_last : (number : ℕ) → List Entry → Option (ℕ × Given)
+made_last n [] = None
+made_last n (Then (Answers who verdict) ∷ log) = built_by n verdict.makes (made_last n log)
+made_last n (Then (Does who (OfTopic m (Remake r))) ∷ log) = if n == m then Some (r.link, r.given) else made_last n log
+made_last n (_ ∷ log) = made_last n log
+
+-- The link of a topic producer, its name and the version of its schema are those with which it was made last.
+abbrev pub AsMadeLast : Type 0
+AsMadeLast = (o : Options) (log : List Entry) (n : ℕ) (t : Topic) → (view o log).producers.topics n ≡ Some t →
+    made_last n log ≡ Some (t.seen.link, t.seen.given)
 
 -- No other topic producer has the number of a new one, and none that was drawn before is as great: so none is drawn twice. And it is none that a raw call
 -- has named before, where the first number of the options has 64 bits, as its type says: one of 2^64 is the number of the first topic producer, also where

@@ -89,7 +89,8 @@ stop_arises o l (Then b) older (inl i) =
 stop_arises o l (Then b) older (inr (inl i)) = (let f : true ≡ false = in_each NotHalt (Comes (ToLink l (Ends Stops))) _ i (told_not _) in absurd cc)
 stop_arises o l (Then b) older (inr (inr (inl i))) = (let f : true ≡ false = one_not (Comes (ToLink l (Ends Stops))) _ i in absurd cc)
 stop_arises o l (Then b) older (inr (inr (inr i))) =
-    (let f : true ≡ false = in_each NotHalt (Comes (ToLink l (Ends Stops))) (map Comes (further (view o older) b)) i (further_not (view o older) b) in absurd cc)
+    (let f : true ≡ false = in_each NotHalt (Comes (ToLink l (Ends Stops))) (map Comes (further (view o older) b)) i (further_not
+    (view o older) b) in absurd cc)
 
 -- what is stopped stays so
 stopped_more : (a : Act) (log : List Entry) → stopped log ≡ true → stopped (Then a ∷ log) ≡ true

@@ -1,0 +1,1 @@
+exec(open('/work/tools/try_edits.py').read().replace("T=[('pulsar_links'","T=[('pulsar_consumer_table','one_that_waits_is_told_of_an_end','table::Consumers::finds')]\nT0=[('pulsar_links'").replace("{e}.edit'","{e}'+('.edit.md' if c=='pulsar_plans' else '.edit')"))

@@ -25,7 +25,7 @@ use Rattle.pulsar_producer.specs.Batching as batches
 use Rattle.pulsar_producer.specs.Plans as produce
 use Rattle.pulsar_producer.specs.Plans.{Builds, Sent}
 use Rattle.pulsar_producer.specs.Topic as topic
-use Rattle.pulsar_producer.specs.Topic.{Act as TopicAct, Closes, Cuts, Draws, Flushes, Halts, Passes, Remakes, Seen, Stores, Takes, TakesBatch, cuts, is_settled, left_of, stores, takes_in}
+use Rattle.pulsar_producer.specs.Topic.{Act as TopicAct, Cuts, Draws, Flushes, Remakes, Seen, Stores, Takes, TakesBatch, cuts, is_settled, left_of, stores, takes_in}
 use Rattle.pulsar_producer.specs.declared.batching.Batching.TheVariants as batching
 use Rattle.pulsar_producer.specs.declared.batching.Goes.{Goes}
 use Rattle.pulsar_producer.specs.declared.building.BuildingProducer.TheVariants as build
@@ -412,15 +412,13 @@ act_given (Takes t) v g k = takes v.holder
     takes : (x : Option ℕ) → IsText (takes_in x t v).given.name
     takes None = k
     takes (Some u) = k
-act_given Passes v g k = k
 act_given Draws v g k = cond_so (λ (z : Seen). IsText z.given.name) (is_spent v.next) v (record v { next = v.next + 1 }) k k
 act_given (Remakes l x) v g k = g
-act_given Closes v g k = k
 act_given (Stores t e) v g k = stores_given (SingleMessage t e) v k
 act_given (Flushes t) v g k = cond_so (λ (z : Seen). IsText z.given.name) (is_settled v) v (stores (FlushItem t) v) k (stores_given (FlushItem t) v k)
 act_given Cuts v g k = cond_so (λ (z : Seen). IsText z.given.name) (is_nothing v.storage.items) v (cuts v) k k
 act_given TakesBatch v g k = left_given v.cut v k
-act_given Halts v g k = k
+act_given _ v g k = k
 
 all_given : (ds : List TopicAct) (v : Seen) → Each ActNamed ds → IsText v.given.name → IsText (all_after ds v).given.name
 all_given [] v g k = k

@@ -14,7 +14,7 @@ use Rattle.pulsar_calls.specs.declared.act.Makes.{Makes}
 use Rattle.pulsar_calls.specs.declared.act.Makes.TheVariants.{Nothing, Client, Consumer, RawConsumer, Producer}
 use Rattle.pulsar_calls.specs.declared.act.Part.TheVariants.{ToLink}
 use Rattle.pulsar_calls.specs.declared.act.TopicAsk.{TopicAsk}
-use Rattle.pulsar_calls.specs.declared.act.TopicAsk.TheVariants.{TakeTurn, PassTurn, Draw, Recall, Remake, Find, Store, Flush, TakeBatch}
+use Rattle.pulsar_calls.specs.declared.act.TopicAsk.TheVariants.{TakeTurn, PassTurn, Draw, Recall, Remake, Find, Store, Flush, TakeBatch, Quieten}
 use Rattle.pulsar_calls.specs.declared.act.Who.{Who}
 use Rattle.pulsar_calls.specs.declared.act.Who.TheVariants as who
 use Rattle.pulsar_calls.specs.Who.{rank}
@@ -103,6 +103,7 @@ fills Find = false
 fills (Store e) = true
 fills Flush = true
 fills TakeBatch = false
+fills Quieten = false
 
 -- and where what a topic producer stores waits from its first message on
 abbrev pub waiting_from : (number : ℕ) → (was_bare : Bool) → View → View

@@ -281,6 +281,8 @@ pub enum TopicAsk {
     Flush,
     /// Its next batch.
     TakeBatch,
+    /// To give its turn to nobody, until it is made again.
+    Quieten,
 }
 
 /// What is asked of a consumer: by the ticket that it names, or by the one that serves it.

@@ -27,7 +27,7 @@ pub use Rattle.pulsar_calls.specs.declared.act.CallRefusal.{CallRefusal}
 pub use Rattle.pulsar_calls.specs.declared.act.Round.TheVariants.{Checks, Flushes}
 pub use Rattle.pulsar_calls.specs.declared.act.Share.{Share}
 pub use Rattle.pulsar_calls.specs.declared.act.TopicAsk.{TopicAsk}
-pub use Rattle.pulsar_calls.specs.declared.act.TopicAsk.TheVariants.{Draw, Find, Flush, PassTurn, Recall, Remake, Store, TakeBatch, TakeTurn}
+pub use Rattle.pulsar_calls.specs.declared.act.TopicAsk.TheVariants.{Draw, Find, Flush, PassTurn, Recall, Remake, Store, TakeBatch, Quieten, TakeTurn}
 pub use Rattle.pulsar_calls.specs.declared.act.Verdict.{Verdict}
 pub use Rattle.pulsar_calls.specs.declared.act.Who.{Who}
 pub use Rattle.pulsar_calls.specs.declared.act.Who.TheVariants.{Call, Consumer, Producer}

@@ -32,7 +32,7 @@ use Rattle.pulsar_calls.specs.declared.act.Act.TheVariants.{Comes, Starts, Told,
 use Rattle.pulsar_calls.specs.declared.act.Action.{Action}
 use Rattle.pulsar_calls.specs.declared.act.Action.TheVariants.{OfTopic, Get, Ask, Number, Hold, Shut, TakeNumber, Tell, TellAll, StopAll, Rest, OfConsumer}
 use Rattle.pulsar_calls.specs.declared.act.ConsumerAsk.TheVariants.{Find as FindConsumer, TakeFlow, Recall as RecallConsumer, Revive, Fail as FailConsumer}
-use Rattle.pulsar_calls.specs.declared.act.TopicAsk.TheVariants.{TakeTurn, PassTurn, Draw, Recall, Remake, Find, Store, Flush, TakeBatch}
+use Rattle.pulsar_calls.specs.declared.act.TopicAsk.TheVariants.{TakeTurn, PassTurn, Draw, Recall, Remake, Find, Store, Flush, TakeBatch, Quieten}
 use Rattle.pulsar_calls.specs.declared.act.Alarm.{Alarm}
 use Rattle.pulsar_calls.specs.declared.act.Alarm.TheVariants.{Retry, Wake, Batch, KeepAlive, CheckIdle}
 use Rattle.pulsar_calls.specs.declared.act.Arrival.TheVariants.{Readied}
@@ -349,6 +349,7 @@ GrantsSo news.Done (Hold l n) v = Unit {0}
 GrantsSo news.Done (Shut t) v = Unit {0}
 GrantsSo (news.HasBatch items) (OfTopic n TakeBatch) v = next_batch_at (v.producers.topics n) ≡ items
 GrantsSo news.Done (OfTopic n (Store e)) v = Unit {0}
+GrantsSo news.Done (OfTopic n Quieten) v = Unit {0}
 GrantsSo news.Done (OfTopic n Flush) v = is_settled_at (v.producers.topics n) ≡ true
 GrantsSo news.Done (Tell n) v = Unit {0}
 GrantsSo news.Done (TellAll ns) v = Unit {0}

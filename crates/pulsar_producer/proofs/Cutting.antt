@@ -6,7 +6,7 @@ use Rattle.std.specs.Option.{option_to_list}
 use Rattle.pulsar_messages.specs.Claims.{is_spent}
 use Rattle.pulsar_producer.specs.BatchLaws.{BatchesInOrder, CutInTime, FlushIsLast, ItemsInOrder, batches_dropped, cut_by, is_full, items_dropped, joined, stored_by, taken_by, taken_of, without_last}
 use Rattle.pulsar_outgoing.specs.Storage.{Item, SingleMessage, Flush, Storage, is_ready, pushed}
-use Rattle.pulsar_producer.specs.Topic.{Act, Takes, Passes, Draws, Remakes, Closes, Stores, Flushes, Cuts, TakesBatch, Halts, Seen, after, cuts, flushes, is_settled, left_of, next_of, seen, stores, takes_in}
+use Rattle.pulsar_producer.specs.Topic.{Act, Takes, Passes, Draws, Remakes, Closes, Stores, Flushes, Cuts, TakesBatch, Quietens, Halts, Seen, after, cuts, flushes, is_settled, left_of, next_of, seen, stores, takes_in}
 use Rattle.pulsar_outgoing.specs.Storage.{is_nothing}
 use Rattle.pulsar_outgoing.specs.declared.storage.Limits.{Limits}
 use Rattle.pulsar_producer.proofs.Storages.{NotYet, draws_storage, flush_full, left_storage, limits_stay, not_yet, split_last, takes_storage}
@@ -70,6 +70,7 @@ queue_step (Takes t) v xs = queue_kept xs v.cut [] [] (after (Takes t) v).cut (a
 queue_step Passes v xs = queue_kept xs v.cut [] [] v.cut (append-nil v.cut)
 queue_step Draws v xs = queue_kept xs v.cut [] [] (after Draws v).cut (append-nil v.cut ∙ sym (draws_cut (is_spent v.next) v _ refl))
 queue_step (Remakes l g) v xs = queue_kept xs v.cut [] [] v.cut (append-nil v.cut)
+queue_step Quietens v xs = queue_kept xs v.cut [] [] v.cut (append-nil v.cut)
 queue_step Closes v xs = queue_kept xs v.cut [] [] v.cut (append-nil v.cut)
 queue_step (Stores t e) v xs = queue_kept xs v.cut (cut_by (Stores t e) v) [] (after (Stores t e) v).cut (stores_cut (SingleMessage t e) v)
 queue_step (Flushes t) v xs = queue_kept xs v.cut (cut_by (Flushes t) v) [] (after (Flushes t) v).cut (flushes_cut t v)
@@ -132,6 +133,7 @@ items_step (Takes t) v ts = items_same (ts ++ v.cut) v.storage.items (after (Tak
 items_step Passes v ts = items_same (ts ++ v.cut) v.storage.items v.storage.items refl
 items_step Draws v ts = items_same (ts ++ v.cut) v.storage.items (after Draws v).storage.items (ap (λ s. s.items) (draws_storage (is_spent v.next) v _ refl))
 items_step (Remakes l g) v ts = items_same (ts ++ v.cut) v.storage.items v.storage.items refl
+items_step Quietens v ts = items_same (ts ++ v.cut) v.storage.items v.storage.items refl
 items_step Closes v ts =
     append-nil _ ∙ but_last (joined (ts ++ v.cut)) v.storage.items ∙ ap joined (sym (append-nil _ ∙ whole (ts ++ v.cut))) ∙ sym (append-nil _)
 items_step (Stores t e) v ts =
@@ -197,6 +199,7 @@ cut_here (Takes t) v b k is = absurd cc
 cut_here Passes v b k is = absurd cc
 cut_here Draws v b k is = absurd cc
 cut_here (Remakes l g) v b k is = absurd cc
+cut_here Quietens v b k is = absurd cc
 cut_here Closes v b k is = absurd cc
 cut_here TakesBatch v b k is = absurd cc
 cut_here Halts v b k is = absurd cc

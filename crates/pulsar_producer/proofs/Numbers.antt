@@ -3,7 +3,7 @@ use Rattle.std.proofs.Common.{◌≡◌, ◌∙◌, sym, ap, refl, ℕ, ◌+◌,
 use Rattle.std.specs.Option.{is_some}
 use Rattle.pulsar_messages.specs.Claims.{is_spent}
 use Rattle.pulsar_outgoing.specs.Storage.{SingleMessage}
-use Rattle.pulsar_producer.specs.Topic.{Act, Takes, Passes, Draws, Remakes, Closes, Stores, Flushes, Cuts, TakesBatch, Halts, Seen, Setup, after, drawn, passes, seen, takes_in}
+use Rattle.pulsar_producer.specs.Topic.{Act, Takes, Passes, Draws, Remakes, Closes, Stores, Flushes, Cuts, TakesBatch, Quietens, Halts, Seen, Setup, after, drawn, passes, seen, takes_in}
 use Rattle.pulsar_producer.specs.Laws.{NumbersCount, NumbersRise, RefusedSpendsItsNumber, draws_of, given_by}
 use Rattle.pulsar_producer.proofs.Untouched.{stores_keeps, flushes_keeps, cuts_keeps, takes_batch_keeps}
 
@@ -21,6 +21,7 @@ next_after (Takes t) v = takes_next v.holder t v ∙ sym (add-zero v.next)
 next_after Passes v = sym (add-zero v.next)
 next_after Draws v = draws_next (is_spent v.next) v
 next_after (Remakes l g) v = sym (add-zero v.next)
+next_after Quietens v = sym (add-zero v.next)
 next_after Closes v = sym (add-zero v.next)
 next_after (Stores t e) v = (stores_keeps (SingleMessage t e) v).0 ∙ sym (add-zero v.next)
 next_after (Flushes t) v = (flushes_keeps t v).0 ∙ sym (add-zero v.next)

@@ -5,7 +5,7 @@ use Rattle.pulsar_messages.specs.Claims.{is_spent}
 use Rattle.pulsar_wire.specs.Sink.{capped}
 use Rattle.pulsar_producer.specs.BatchLaws.{NeverReady, StoredIsNotReady, is_full, is_positive}
 use Rattle.pulsar_outgoing.specs.Storage.{Item, SingleMessage, Flush, Storage, ends_in_flush, is_ready, pushed, reaches}
-use Rattle.pulsar_producer.specs.Topic.{Act, Takes, Passes, Draws, Remakes, Closes, Stores, Flushes, Cuts, TakesBatch, Halts, Seen, Setup, after, cuts, is_settled, left_of, seen, stores, takes_in}
+use Rattle.pulsar_producer.specs.Topic.{Act, Takes, Passes, Draws, Remakes, Closes, Stores, Flushes, Cuts, TakesBatch, Quietens, Halts, Seen, Setup, after, cuts, is_settled, left_of, seen, stores, takes_in}
 use Rattle.pulsar_outgoing.specs.Storage.{is_nothing}
 use Rattle.pulsar_outgoing.specs.declared.storage.Limits.{Limits}
 
@@ -37,6 +37,7 @@ limits_after (Takes t) v = ap (λ s. s.limits) (takes_storage v.holder t v)
 limits_after Passes v = refl
 limits_after Draws v = ap (λ s. s.limits) (draws_storage (is_spent v.next) v _ refl)
 limits_after (Remakes l g) v = refl
+limits_after Quietens v = refl
 limits_after Closes v = refl
 limits_after (Stores t e) v = stores_limits (SingleMessage t e) v
 limits_after (Flushes t) v = limits_if (is_settled v) v v (stores (Flush t) v) refl (stores_limits (Flush t) v)
@@ -96,6 +97,7 @@ yet_after (Takes t) v k = subst NotYet (sym (takes_storage v.holder t v)) k
 yet_after Passes v k = k
 yet_after Draws v k = subst NotYet (sym (draws_storage (is_spent v.next) v _ refl)) k
 yet_after (Remakes l g) v k = k
+yet_after Quietens v k = k
 yet_after Closes v k = none_yet v.storage.limits
 yet_after (Stores t e) v k = stores_yet (SingleMessage t e) v k
 yet_after (Flushes t) v k = yet_if (is_settled v) v (stores (Flush t) v) k (stores_yet (Flush t) v k)

@@ -7,7 +7,7 @@ use Rattle.std.specs.declared.cmp.Ordering.{Ordering}
 use Rattle.std.specs.declared.cmp.Ordering.TheVariants.{Less, Equal, Greater}
 use Rattle.pulsar_messages.specs.Claims.{is_spent}
 use Rattle.pulsar_outgoing.specs.Storage.{Item, SingleMessage, Flush, is_nothing, is_ready, pushed}
-use Rattle.pulsar_producer.specs.Topic.{Act, Takes, Passes, Draws, Remakes, Closes, Stores, Flushes, Cuts, TakesBatch, Halts, Seen, Setup, after, cuts, fresh, is_settled, left_of, rest_of, stores, takes_in}
+use Rattle.pulsar_producer.specs.Topic.{Act, Takes, Passes, Draws, Remakes, Closes, Stores, Flushes, Cuts, TakesBatch, Quietens, Halts, Seen, Setup, after, cuts, fresh, is_settled, left_of, rest_of, stores, takes_in}
 
 -- LISTS
 
@@ -38,6 +38,7 @@ module _ (T : ℕ → Type 0) (P : Item → Type 0) where
   BringsSo Passes = Unit {0}
   BringsSo Draws = Unit {0}
   BringsSo (Remakes l g) = Unit {0}
+  BringsSo Quietens = Unit {0}
   BringsSo Closes = Unit {0}
   BringsSo (Stores t e) = P (SingleMessage t e)
   BringsSo (Flushes t) = P (Flush t)
@@ -82,6 +83,7 @@ module _ (T : ℕ → Type 0) (P : Item → Type 0) where
   users_so Passes v p k = (rest_so v.waiting k.0, k.1, k.2)
   users_so Draws v p k = either_so (is_spent v.next) v (record v { next = v.next + 1 }) k k
   users_so (Remakes l g) v p k = k
+  users_so Quietens v p k = k
   users_so Closes v p k = (k.0, tt, k.2)
   users_so (Stores t e) v p k = stores_so (SingleMessage t e) v p k
   users_so (Flushes t) v p k = either_so (is_settled v) v (stores (Flush t) v) k (stores_so (Flush t) v p k)

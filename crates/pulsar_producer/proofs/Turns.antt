@@ -9,7 +9,7 @@ use Rattle.std.specs.Ordering.{match_ordering, nat_cmp}
 use Rattle.std.specs.declared.cmp.Ordering.TheVariants.{Less, Equal, Greater}
 use Rattle.pulsar_messages.specs.Claims.{is_spent}
 use Rattle.pulsar_outgoing.specs.Storage.{SingleMessage}
-use Rattle.pulsar_producer.specs.Topic.{Act, Takes, Passes, Draws, Remakes, Closes, Stores, Flushes, Cuts, TakesBatch, Halts, Seen, Setup, after, first_of, is_free, rest_of, seen, takes_in}
+use Rattle.pulsar_producer.specs.Topic.{Act, Takes, Passes, Draws, Remakes, Closes, Stores, Flushes, Cuts, TakesBatch, Quietens, Halts, Seen, Setup, after, first_of, is_free, rest_of, seen, takes_in}
 use Rattle.pulsar_producer.specs.Laws.{AreAbove, LowestIsNext, NobodyWaitsForFree, OneAtATime, WaitsInLine, gives_turn, is_listed, keeps, turn_if}
 use Rattle.pulsar_producer.proofs.Untouched.{stores_keeps, flushes_keeps, cuts_keeps, takes_batch_keeps}
 
@@ -25,6 +25,7 @@ leaves_turn (Stores t e) = true
 leaves_turn (Flushes t) = true
 leaves_turn Cuts = true
 leaves_turn TakesBatch = true
+leaves_turn Quietens = true
 leaves_turn Halts = true
 
 abbrev pub SameTurn : Seen → Seen → Type 0
@@ -39,6 +40,7 @@ turn_stays (Takes t) v h = absurd cc
 turn_stays Passes v h = absurd cc
 turn_stays Draws v h = draws_stays (is_spent v.next) v _ (refl, refl)
 turn_stays (Remakes l g) v h = (refl, refl)
+turn_stays Quietens v h = (refl, refl)
 turn_stays Closes v h = (refl, refl)
 turn_stays (Stores t e) v h = let k = stores_keeps (SingleMessage t e) v in (k.1, k.2)
 turn_stays (Flushes t) v h = let k = flushes_keeps t v in (k.1, k.2)

@@ -13,7 +13,7 @@ use Rattle.pulsar_searches.specs.declared.turn.Ways.{Ways}
 use Rattle.pulsar_outgoing.specs.Batch.{batch_of, entry_of, placed, placed_id, report_at, reports}
 use Rattle.pulsar_producer.specs.Batching.{begins, halted, told}
 use Rattle.pulsar_outgoing.specs.Storage.{Item, SingleMessage, Flush, is_ready, pushed}
-use Rattle.pulsar_producer.specs.Topic.{Act, Takes, Passes, Draws, Remakes, Closes, Stores, Flushes, Cuts, TakesBatch, Halts, Seen, Setup, is_settled, next_batch, seen, unsent_tickets}
+use Rattle.pulsar_producer.specs.Topic.{Act, Takes, Passes, Draws, Remakes, Closes, Stores, Flushes, Cuts, TakesBatch, Quietens, Halts, Seen, Setup, is_settled, next_batch, seen, unsent_tickets}
 use Rattle.pulsar_outgoing.specs.Storage.{is_nothing, ticket_of}
 use Rattle.pulsar_outgoing.specs.declared.batch.Fate.{Fate}
 use Rattle.pulsar_outgoing.specs.declared.batch.Member.{Member}
@@ -60,6 +60,7 @@ stored_by (Remakes l g) v = []
 stored_by Closes v = []
 stored_by Cuts v = []
 stored_by TakesBatch v = []
+stored_by Quietens v = []
 stored_by Halts v = []
 
 -- the batch that an act cuts: behind the message that makes it ready, behind a flush, or by its time
@@ -74,11 +75,13 @@ cut_by Draws v = []
 cut_by (Remakes l g) v = []
 cut_by Closes v = []
 cut_by TakesBatch v = []
+cut_by Quietens v = []
 cut_by Halts v = []
 
 -- the batch that an act takes
 abbrev pub taken_by : Act → Seen → List (List Item)
 taken_by TakesBatch v = option_to_list (next_batch v)
+taken_by Quietens v = []
 taken_by (Stores t e) v = []
 taken_by (Flushes t) v = []
 taken_by Cuts v = []
@@ -100,6 +103,7 @@ items_dropped (Stores t e) v = 0
 items_dropped (Flushes t) v = 0
 items_dropped Cuts v = 0
 items_dropped TakesBatch v = 0
+items_dropped Quietens v = 0
 items_dropped (Takes t) v = 0
 items_dropped Passes v = 0
 items_dropped Draws v = 0
@@ -112,6 +116,7 @@ batches_dropped (Stores t e) v = 0
 batches_dropped (Flushes t) v = 0
 batches_dropped Cuts v = 0
 batches_dropped TakesBatch v = 0
+batches_dropped Quietens v = 0
 batches_dropped (Takes t) v = 0
 batches_dropped Passes v = 0
 batches_dropped Draws v = 0

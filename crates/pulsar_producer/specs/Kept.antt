@@ -16,4 +16,5 @@ seen_of i =
       storage = i.storage;
       cut = i.cut.items;
       is_under_way = i.is_under_way;
+      is_quiet = i.is_quiet;
     }

@@ -7,7 +7,7 @@ use Rattle.pulsar_messages.specs.Content.{ProducerMessageValues}
 use Rattle.pulsar_searches.specs.declared.turn.Ways.{Ways}
 use Rattle.pulsar_producer.specs.Plans.{Sent, send_of, send_told}
 use Rattle.pulsar_producer.specs.Routing.{Policy, Routed, IsRouted, chosen, count}
-use Rattle.pulsar_producer.specs.Topic.{Act, Takes, Passes, Draws, Remakes, Closes, Stores, Flushes, Cuts, TakesBatch, Halts, Seen, Setup, drawn, is_free, next_holder, seen}
+use Rattle.pulsar_producer.specs.Topic.{Act, Takes, Passes, Draws, Remakes, Closes, Stores, Flushes, Cuts, TakesBatch, Quietens, Halts, Seen, Setup, drawn, is_free, next_holder, seen}
 use Rattle.pulsar_producer.specs.declared.deed.Deed.{Deed}
 use Rattle.pulsar_producer.specs.declared.deed.Deed.TheVariants.{Does, TakesTurn, Sends, PassesTurn, Recalls, Numbers, ClosesProducer, Settles, Rests}
 use Rattle.pulsar_producer.specs.declared.deed.Deed.TheVariants as deed
@@ -44,6 +44,7 @@ given_by (Stores t e) v = 0
 given_by (Flushes t) v = 0
 given_by Cuts v = 0
 given_by TakesBatch v = 0
+given_by Quietens v = 0
 given_by Halts v = 0
 
 abbrev pub draws_of : Setup → List Act → ℕ
@@ -76,6 +77,7 @@ gives_turn (Stores t e) v = None
 gives_turn (Flushes t) v = None
 gives_turn Cuts v = None
 gives_turn TakesBatch v = None
+gives_turn Quietens v = None
 gives_turn Halts v = None
 
 -- each of these is greater
@@ -107,6 +109,7 @@ keeps (Stores t e) = true
 keeps (Flushes t) = true
 keeps Cuts = true
 keeps TakesBatch = true
+keeps Quietens = true
 keeps Halts = true
 
 -- One has the turn at a time: who has it keeps it until it is passed on, and meanwhile nobody is given it.

@@ -35,6 +35,8 @@ pub data Act : Type 0 where
   Cuts : Act
   -- the next batch is to be sent
   TakesBatch : Act
+  -- nobody has its turn, until it is made again
+  Quietens : Act
   -- the client is stopped
   Halts : Act
 
@@ -48,7 +50,7 @@ pub record Setup : Type 0 where
 
 -- Its topic, its own number, its link, and what its broker says of it; the number of the next message; who has its turn, and the tickets
 -- of those that wait for theirs, the lowest first; whether it is closed; what it stores; the batches that were cut and wait; and whether
--- one is under way.
+-- one is under way; and whether it is quiet.
 pub record Seen : Type 0 where
   pub topic : List ℕ
   pub number : ℕ
@@ -61,6 +63,7 @@ pub record Seen : Type 0 where
   pub storage : Storage
   pub cut : List (List Item)
   pub is_under_way : Bool
+  pub is_quiet : Bool
 
 abbrev pub fresh : Setup → Seen
 fresh s =
@@ -76,6 +79,7 @@ fresh s =
       storage = empty s.limits;
       cut = [];
       is_under_way = false;
+      is_quiet = false;
     }
 
 -- TURNS. One has it at a time, and then the lowest ticket of those that wait.
@@ -165,12 +169,13 @@ abbrev pub after : Act → Seen → Seen
 after (Takes ticket) v = takes_in v.holder ticket v
 after Passes v = passes v
 after Draws v = draws v
-after (Remakes link given) v = record v { link = link; given = given }
+after (Remakes link given) v = record v { link = link; given = given; is_quiet = false }
 after Closes v = closes v
 after (Stores ticket e) v = stores (SingleMessage ticket e) v
 after (Flushes ticket) v = flushes ticket v
 after Cuts v = cuts_some v
 after TakesBatch v = takes_batch v
+after Quietens v = record v { is_quiet = true }
 after Halts v = halts v
 
 -- an act by which a batch is to be sent where none was under way

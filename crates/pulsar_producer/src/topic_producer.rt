@@ -4,7 +4,7 @@
 ghost use Rattle.std.specs.Prelude.{◌≡◌, not, ◌&&◌, IfOk, OnOk};
 ghost use Rattle.pulsar_producer.specs.Commands.{command, command_of};
 ghost use Rattle.pulsar_outgoing.specs.Storage.{item_of};
-ghost use Rattle.pulsar_producer.specs.Topic.{Closes, Cuts, Draws, Flushes, Halts, Passes, Remakes, Stores, Takes, TakesBatch, after, cuts, drawn, fresh, is_free, is_settled, next_batch, next_holder, stored_tickets, stores, unsent_tickets, wakes};
+ghost use Rattle.pulsar_producer.specs.Topic.{Closes, Cuts, Draws, Flushes, Halts, Passes, Remakes, Stores, Takes, TakesBatch, Quietens, after, cuts, drawn, fresh, is_free, is_settled, next_batch, next_holder, stored_tickets, stores, unsent_tickets, wakes};
 ghost use Rattle.pulsar_outgoing.specs.Storage.{is_nothing};
 
 use pulsar_addresses::content::Text;
@@ -32,6 +32,7 @@ pub struct TopicProducer {
     storage: BatchStorage,
     cut: VecDeque<Batch>,
     is_under_way: bool,
+    is_quiet: bool,
 }
 
 impl Drop for TopicProducer {
@@ -48,6 +49,7 @@ impl Drop for TopicProducer {
             storage: _,
             cut: _,
             is_under_way: _,
+            is_quiet: _,
         } = self;
     }
 }
@@ -78,6 +80,7 @@ impl TopicProducer {
             storage: BatchStorage::new(alloc, limits.max_size, limits.max_byte_size),
             cut: VecDeque::new(alloc),
             is_under_way: false,
+            is_quiet: false,
         }
     }
 
@@ -173,6 +176,14 @@ impl TopicProducer {
     {
         self.link = link;
         self.given = given;
+        self.is_quiet = false;
+    }
+
+    /// Nobody has its turn, until it is made again.
+    pub fn quieten(&mut self)
+        ensures { self.new ≡ after Quietens self.old }
+    {
+        self.is_quiet = true;
     }
 
     /// No message is taken from now on, and what is stored is dropped.

@@ -12,7 +12,7 @@ use Rattle.pulsar_calls.specs.declared.act.Notice.{Notice}
 use Rattle.pulsar_calls.specs.declared.act.Outcome.{Outcome}
 use Rattle.pulsar_calls.specs.declared.act.Outcome.TheVariants as outcome
 use Rattle.pulsar_calls.specs.declared.act.TopicAsk.{TopicAsk}
-use Rattle.pulsar_calls.specs.declared.act.TopicAsk.TheVariants.{TakeTurn, PassTurn, Draw, Recall, Remake, Find, Store, Flush, TakeBatch}
+use Rattle.pulsar_calls.specs.declared.act.TopicAsk.TheVariants.{TakeTurn, PassTurn, Draw, Recall, Remake, Find, Store, Flush, TakeBatch, Quieten}
 use Rattle.pulsar_calls.specs.declared.act.Who.TheVariants.{Producer}
 use Rattle.pulsar_calls.specs.Notices.{notice}
 use Rattle.pulsar_calls.specs.Who.{in_turn}
@@ -89,6 +89,7 @@ given x (Store e) row =
 given x Flush row =
     record { acts = topic.Flushes x.turn ∷ []; says = flush_said row; serves = readied x.number (topic.Flushes x.turn) row }
 given x TakeBatch row = record { acts = topic.TakesBatch ∷ []; says = grants_it (news.HasBatch (next_batch_at row)); serves = [] }
+given x Quieten row = record { acts = topic.Quietens ∷ []; says = grants_it news.Done; serves = [] }
 
 -- by the table: the options of its owner are in the command
 abbrev pub around_in : Producers → (number turn : ℕ) → (room : Option Bool) → Around

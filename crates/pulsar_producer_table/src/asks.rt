@@ -56,6 +56,10 @@ impl Producers {
                 let batch = self.take_batch(number);
                 grants(self.alloc, News::HasBatch(batch), None)
             }
+            TopicAsk::Quieten => {
+                self.quieten(number);
+                done(self.alloc, None)
+            }
         }
     }
 

@@ -296,6 +296,15 @@ impl Producers {
         }
     }
 
+    /// Nobody has the turn of a topic producer, until it is made again.
+    pub(crate) fn quieten(&mut self, number: u64)
+        ensures { producers_of self.new ≡ meaning.changed number topic.Quietens (producers_of self.old) }
+    {
+        if let Some(topic) = self.topics.get_mut(&number) {
+            topic.seen.quieten();
+        }
+    }
+
     /// The number of a new topic producer: the next that no raw call has named. There is none where they are spent.
     pub fn draw_number(&mut self) -> Option<u64>
         ensures number { result ≡ meaning.number_drawn (producers_of self.old) }

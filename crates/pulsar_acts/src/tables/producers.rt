@@ -129,7 +129,8 @@ fn fills(ask: &TopicAsk) -> bool
         | TopicAsk::Recall
         | TopicAsk::Remake(_)
         | TopicAsk::Find
-        | TopicAsk::TakeBatch => false,
+        | TopicAsk::TakeBatch
+        | TopicAsk::Quieten => false,
     }
 }
 

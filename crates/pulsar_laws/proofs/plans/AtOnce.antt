@@ -1,7 +1,7 @@
 -- What an action gives at once: nothing, or that one is told what came of it, or a dial; and the Stop ends all links. `performs` is walked once, here.
 use Rattle.std.proofs.Common.{◌≡◌, ap, ℕ, List, [], ◌∷◌, ◌++◌, refl, Bool, true, false, cond, Option, Some, None, Result, Ok, Err}
 use Rattle.std.specs.Option.{option_map}
-use Rattle.pulsar_laws.proofs.ActWords.{Act, Action, Answers, Ask, Comes, Dials, Does, Draw, Ends, FailConsumer, Find, FindConsumer, Flush, Get, Hold, Number, OfTopic, Outcome, PassTurn, Recall, RecallConsumer, Remake, Rest, Revive, Shut, Starts, StopAll, Stops, Store, TakeBatch, TakeFlow, TakeNumber, TakeTurn, Tell, TellAll, ToLink, Told, TopicAsk, Wait, Who, ticket_of, OfConsumer}
+use Rattle.pulsar_laws.proofs.ActWords.{Act, Action, Answers, Ask, Comes, Dials, Does, Draw, Ends, FailConsumer, Find, FindConsumer, Flush, Get, Hold, Number, OfTopic, Outcome, PassTurn, Recall, RecallConsumer, Remake, Rest, Revive, Shut, Starts, StopAll, Stops, Store, TakeBatch, Quieten, TakeFlow, TakeNumber, TakeTurn, Tell, TellAll, ToLink, Told, TopicAsk, Wait, Who, ticket_of, OfConsumer}
 use Rattle.pulsar_laws.proofs.PlanWords.{Command, Drawn, News}
 use Rattle.pulsar_laws.proofs.RunWords.{Each, each_append, notice, over_each, performs, room_of, tells, View}
 use Rattle.pulsar_laws.proofs.LinkWords.{address_key, answer_at, ConnectionError, is_reachable, Nobody, over_links, Pauses, Place, Runs, Series, Serves, stop_act, told_at, Words}
@@ -33,6 +33,7 @@ TopicGives v n (news.HasBatch items) TakeBatch = next_batch_at (v.producers.topi
 TopicGives v n news.Done PassTurn = Unit {0}
 TopicGives v n news.Done (Remake r) = Unit {0}
 TopicGives v n news.Done (Store entry) = Unit {0}
+TopicGives v n news.Done Quieten = Unit {0}
 TopicGives v n news.Done Flush = is_settled_at (v.producers.topics n) ≡ true
 TopicGives v n y ask = ⊥
 
@@ -132,6 +133,7 @@ module _ (v : View) (who : Who) where
   ask_once n (Remake r) = says tt refl
   ask_once n Find = finds_once n (link_at (v.producers.topics n))
   ask_once n (Store entry) = says tt refl
+  ask_once n Quieten = says tt refl
   ask_once n Flush = flushes_once n (is_settled_at (v.producers.topics n)) refl
   ask_once n TakeBatch = says refl refl
 

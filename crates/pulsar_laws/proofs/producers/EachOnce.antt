@@ -8,7 +8,7 @@ use Rattle.pulsar_frame.specs.Batch.{EntryValues}
 use Rattle.pulsar_messages.specs.Claims.{is_spent}
 use Rattle.pulsar_outgoing.specs.Storage.{Item, SingleMessage, Flush, is_nothing, is_ready, pushed}
 use Rattle.pulsar_producer.specs.Topic as topic
-use Rattle.pulsar_producer.specs.Topic.{Act as Deed, Closes, Cuts, cuts, Draws, Flushes, Halts, is_settled, left_of, next_of, Passes, Remakes, Seen, Stores, stores, Takes, takes_in, TakesBatch}
+use Rattle.pulsar_producer.specs.Topic.{Act as Deed, Closes, Cuts, cuts, Draws, Flushes, Halts, is_settled, left_of, next_of, Passes, Remakes, Seen, Stores, stores, Takes, takes_in, TakesBatch, Quietens}
 use Rattle.pulsar_calls.specs.declared.act.Procedure.TheVariants as procedure
 use Rattle.pulsar_producer_table.specs.Producers.{next_batch_at, topic_after}
 use Rattle.pulsar_producer_table.specs.declared.table.Topic.{Topic}
@@ -86,6 +86,7 @@ module _ (t : ℕ) where
   one_held Passes v = omega arith
   one_held Draws v = cond_so (λ z. held z ≤ held v + 0) (is_spent v.next) v (record v { next = v.next + 1 }) (omega arith) (omega arith)
   one_held (Remakes l g) v = omega arith
+  one_held Quietens v = omega arith
   one_held Closes v = omega arith
   one_held (Stores u e) v =
       let k : held (stores (SingleMessage u e) v) ≤ held v + (cond (t == u) 1 0 + 0) = push_held (SingleMessage u e) v in omega (arith, k)

@@ -25,7 +25,7 @@ use Rattle.pulsar_producer.specs.Batching as batches
 use Rattle.pulsar_producer.specs.Plans as produce
 use Rattle.pulsar_producer.specs.Plans.{Builds, Sent}
 use Rattle.pulsar_producer.specs.Topic as topic
-use Rattle.pulsar_producer.specs.Topic.{Act as TopicAct, Closes, Cuts, Draws, Flushes, Halts, Passes, Remakes, Seen, Stores, Takes, TakesBatch, cuts, is_settled, left_of, stores, takes_in}
+use Rattle.pulsar_producer.specs.Topic.{Act as TopicAct, Closes, Cuts, Draws, Flushes, Halts, Passes, Remakes, Seen, Stores, Takes, TakesBatch, Quietens, cuts, is_settled, left_of, stores, takes_in}
 use Rattle.pulsar_producer.specs.declared.batching.Batching.TheVariants as batching
 use Rattle.pulsar_producer.specs.declared.batching.Goes.{Goes}
 use Rattle.pulsar_producer.specs.declared.building.BuildingProducer.TheVariants as build
@@ -415,6 +415,7 @@ act_given (Takes t) v g k = takes v.holder
 act_given Passes v g k = k
 act_given Draws v g k = cond_so (λ (z : Seen). IsText z.given.name) (is_spent v.next) v (record v { next = v.next + 1 }) k k
 act_given (Remakes l x) v g k = g
+act_given Quietens v g k = k
 act_given Closes v g k = k
 act_given (Stores t e) v g k = stores_given (SingleMessage t e) v k
 act_given (Flushes t) v g k = cond_so (λ (z : Seen). IsText z.given.name) (is_settled v) v (stores (FlushItem t) v) k (stores_given (FlushItem t) v k)

@@ -30,7 +30,7 @@ use Rattle.pulsar_session.specs.declared.states.Asked.{Asked as Placed}
 use Rattle.pulsar_session.specs.Link.{Seen, answer_of, can_wait, drawn, fits, frame_for, has_room, message_of, number_for, place_in, ticked}
 use Rattle.pulsar_outgoing.specs.Storage.{Item, Flush, SingleMessage, is_nothing, is_ready, pushed}
 use Rattle.pulsar_producer.specs.Topic as topic
-use Rattle.pulsar_producer.specs.Topic.{Act as Deed, Takes, Passes, Draws, Remakes, Closes, Stores, Flushes, Cuts, TakesBatch, Halts, Setup, cuts, is_settled, left_of, stores, takes_in}
+use Rattle.pulsar_producer.specs.Topic.{Act as Deed, Takes, Passes, Draws, Remakes, Closes, Stores, Flushes, Cuts, TakesBatch, Quietens, Halts, Setup, cuts, is_settled, left_of, stores, takes_in}
 use Rattle.pulsar_laws.proofs.Cases.{cond_so, cond_when}
 use Rattle.pulsar_laws.proofs.links.Queued.{read_so}
 use Rattle.pulsar_laws.proofs.producers.Drawing.{Drawn, drawn_run, here}
@@ -100,6 +100,7 @@ one_low (Takes t) v h = takes v.holder
 one_low Passes v h = h
 one_low Draws v h = draws_low v h
 one_low (Remakes l g) v h = h
+one_low Quietens v h = h
 one_low Closes v h = h
 one_low (Stores t e) v h = stores_low (SingleMessage t e) v h
 one_low (Flushes t) v h = cond_so IsLow (is_settled v) v (stores (Flush t) v) h (stores_low (Flush t) v h)

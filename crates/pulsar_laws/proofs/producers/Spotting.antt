@@ -114,6 +114,7 @@ one_busy (topic.Takes t) x l h = taken_busy x.holder t x h
 one_busy topic.Passes x l h = h
 one_busy topic.Draws x l h = cond_so BusySeen (is_spent x.next) x (record x { next = x.next + 1 }) h h
 one_busy (topic.Remakes l' g) x l h = h
+one_busy topic.Quietens x l h = h
 one_busy topic.Closes x l h = h
 one_busy (topic.Stores t e) x l h = stored_busy (SingleMessage t e) x h
 one_busy (topic.Flushes t) x l h = cond_so BusySeen (is_settled x) x (stores (Flush' t) x) h (stored_busy (Flush' t) x h)

@@ -1,12 +1,12 @@
 -- A topic producer is what the acts on it made of it since it was built.
 use Rattle.std.proofs.Common.{◌≡◌, ◌∙◌, sym, ap, ℕ, ◌==◌, List, [], ◌∷◌, ◌++◌, refl, false, Option, Some, None, subst}
 use Rattle.std.proofs.lemmas.Bool.{eqb-true}
-use Rattle.pulsar_laws.proofs.ActWords.{Act, Batch, Comes, Does, Draw, Flush, OfTopic, PassTurn, Remake, Rings, Shut, StopAll, Store, TakeBatch, TakeTurn, Who, turn_of, TopicAsk}
+use Rattle.pulsar_laws.proofs.ActWords.{Act, Batch, Comes, Does, Draw, Flush, OfTopic, PassTurn, Remake, Rings, Shut, StopAll, Store, TakeBatch, Quieten, TakeTurn, Who, turn_of, TopicAsk}
 use Rattle.pulsar_laws.proofs.RunWords.{chosen_same, Entry, IsRun, Options, room_of, Then, view, View, In, rules, Each, each_append, each_either, each_map, each_when}
 use Rattle.pulsar_laws.proofs.LinkWords.{rings}
 use Rattle.pulsar_producer.specs.Topic as topic
 use Rattle.pulsar_outgoing.specs.Storage.{limits_of}
-use Rattle.pulsar_producer.specs.Topic.{Act as Deed, Closes, Halts, Seen, Setup, Passes, Draws, Remakes, Stores, Cuts, TakesBatch, Takes, Flushes}
+use Rattle.pulsar_producer.specs.Topic.{Act as Deed, Closes, Halts, Seen, Setup, Passes, Draws, Remakes, Stores, Cuts, TakesBatch, Quietens, Takes, Flushes}
 use Rattle.pulsar_calls.specs.declared.content.Remaking.{Remaking}
 use Rattle.pulsar_outgoing.specs.declared.storage.Limits.{Limits}
 use Rattle.pulsar_producer_table.specs.declared.table.Topic.{Topic}
@@ -96,6 +96,7 @@ CameFrom n a (Remakes l g) = (who : Who) × (r : Remaking) × (a ≡ Does who (O
 CameFrom n a (Stores t e) = (who : Who) × (a ≡ Does who (OfTopic n (Store e))) × (t ≡ turn_of who)
 CameFrom n a (Flushes t) = (who : Who) × (a ≡ Does who (OfTopic n Flush)) × (t ≡ turn_of who)
 CameFrom n a TakesBatch = (who : Who) × (a ≡ Does who (OfTopic n TakeBatch))
+CameFrom n a Quietens = (who : Who) × (a ≡ Does who (OfTopic n Quieten))
 CameFrom n a Cuts = a ≡ Comes (Rings (Batch n))
 CameFrom n a Closes = (who : Who) × (t : ℕ) × (a ≡ Does who (Shut t))
 CameFrom n a Halts = (who : Who) × (a ≡ Does who StopAll)
@@ -108,6 +109,7 @@ ask_came v who n (Remake r) = ((who, r, refl, refl, refl), tt)
 ask_came v who n (Store e) = ((who, refl, refl), tt)
 ask_came v who n Flush = ((who, refl, refl), tt)
 ask_came v who n TakeBatch = ((who, refl), tt)
+ask_came v who n Quieten = ((who, refl), tt)
 ask_came v who n _ = tt
 
 shut_came : (who : Who) (t n : ℕ) (ns : List ℕ) → Each (CameFrom n (Does who (Shut t))) (shut_by n ns)

@@ -256,6 +256,11 @@ pub enum Procedure {
         consumer: u64,
         number: u64,
     },
+    /// Ask where the consumer of this ticket stands, which has this number.
+    Locate {
+        consumer: u64,
+        number: u64,
+    },
     /// Fail.
     Refuse(CallRefusal),
 }

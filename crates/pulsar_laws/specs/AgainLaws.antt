@@ -132,6 +132,7 @@ stage (plan.Subscribing w order b) = subscribed_at b
 stage (plan.Serving w n s) = served_at s
 stage plan.Acknowledging = None
 stage (plan.Departing consumer n) = None
+stage (plan.Locating consumer n x) = None
 stage plan.Stopping = None
 
 -- An operation is not under way, or it is, or it rests until it is made again. A question for a broker is over once this is known: its link is got then.

@@ -44,6 +44,7 @@ share_in (procedure.Subscribe ways order) = None
 share_in (procedure.Serve ways number) = None
 share_in (procedure.Acknowledge link request) = None
 share_in (procedure.Leave consumer number) = None
+share_in (procedure.Locate consumer number) = None
 share_in (procedure.Refuse r) = None
 
 -- its frame is queued, or its message stored
@@ -68,6 +69,7 @@ is_taken (procedure.Subscribe ways order) u = false
 is_taken (procedure.Serve ways number) u = false
 is_taken (procedure.Acknowledge link request) u = false
 is_taken (procedure.Leave consumer number) u = false
+is_taken (procedure.Locate consumer number) u = false
 is_taken (procedure.Refuse r) u = false
 
 -- the client was stopped

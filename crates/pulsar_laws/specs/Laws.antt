@@ -486,6 +486,7 @@ number_in (procedure.Subscribe ways order) = None
 number_in (procedure.Serve ways number) = None
 number_in (procedure.Acknowledge link request) = None
 number_in (procedure.Leave consumer number) = Some (request_number (words.CloseConsumer number))
+number_in (procedure.Locate consumer number) = Some (request_number (words.CloseConsumer number))
 number_in (procedure.Refuse r) = None
 
 -- A reply tells that the search failed, or nothing of how it went, and after so many retries it is not to be asked again.
@@ -530,6 +531,7 @@ ways_in (procedure.Subscribe ways order) = Some ways
 ways_in (procedure.Serve ways number) = Some ways
 ways_in (procedure.Acknowledge link request) = None
 ways_in (procedure.Leave consumer number) = None
+ways_in (procedure.Locate consumer number) = None
 ways_in (procedure.Refuse r) = None
 
 -- it fails as a producer
@@ -550,6 +552,7 @@ fails_in_producer (procedure.Subscribe ways order) = false
 fails_in_producer (procedure.Serve ways number) = false
 fails_in_producer (procedure.Acknowledge link request) = false
 fails_in_producer (procedure.Leave consumer number) = false
+fails_in_producer (procedure.Locate consumer number) = false
 fails_in_producer (procedure.Refuse r) = false
 
 -- a part of it failed before it was queued
@@ -579,6 +582,7 @@ pub data FailsSo (p : Procedure) (os : List Outcome) (f : Failure) : Type 0 wher
   IsOfSeveral : (w : Ways) (order : ConsumerOrder) (r : Reply) (retries count : ℕ) → p ≡ procedure.Subscribe w order → In (outcome.Replied r) os →
       count_in w retries r.content ≡ CountIs count → 2 ≤ count → f ≡ not_found → FailsSo p os f
   IsClosed : (t n : ℕ) → p ≡ procedure.Leave t n → In (outcome.Word word.Closed) os → f ≡ OfConsumer ConsumerClosed → FailsSo p os f
+  IsNowhere : (t n : ℕ) → p ≡ procedure.Locate t n → In (outcome.Word word.Closed) os → f ≡ OfConsumer ConsumerClosed → FailsSo p os f
   IsAnswered : (r : Reply) (number : ℕ) (s : Says) → In (outcome.Replied r) os → number_in p ≡ Some number → Failed f ≡ reply_says s number r → FailsSo p os f
 
 abbrev pub FailuresAreTold : Type 0

@@ -74,9 +74,10 @@ use Rattle.pulsar_calls.specs.declared.act.Round.TheVariants.{Closes}
 use Rattle.pulsar_calls.specs.declared.act.Says.{Says}
 use Rattle.pulsar_calls.specs.declared.act.Says.TheVariants as says
 use Rattle.pulsar_calls.specs.declared.act.Word.TheVariants as word
+use Rattle.pulsar_plans.specs.declared.locating.Locating.TheVariants as locating
 use Rattle.pulsar_plans.specs.declared.plan.At.{At as Spot}
 use Rattle.pulsar_plans.specs.declared.plan.At.TheVariants as at
-use Rattle.pulsar_plans.specs.declared.plan.Plan.TheVariants.{Building, Getting, Searching, Sending, Gathering, Shutting, Stopping, Acknowledging, Departing}
+use Rattle.pulsar_plans.specs.declared.plan.Plan.TheVariants.{Building, Getting, Searching, Sending, Gathering, Shutting, Stopping, Acknowledging, Departing, Locating}
 use Rattle.pulsar_plans.specs.declared.plan.Wanted.{Wanted}
 use Rattle.pulsar_plans.specs.declared.service.Service.{Service}
 use Rattle.pulsar_plans.specs.declared.service.Service.TheVariants as service
@@ -280,6 +281,10 @@ pub data Arc : Plan → Outcome → Plan → Action → Type 0 where
   over_closes : {w : Ways} {n : ℕ} {l : ℕ} →
       Arc (Serving w n (service.Reviving l)) (outcome.Word word.Over) (Serving w n service.Closing) (Ask l (words.CloseConsumerUnawaited n))
   departs_asks : {t n l : ℕ} → Arc (Departing t n) (outcome.GotLink l) (Asking (wanted l (words.CloseConsumer n) says.Nothing)) (Ask l (words.CloseConsumer n))
+  located_asks : {t n l : ℕ} → Arc (Locating t n locating.Finding) (outcome.GotLink l) (Locating t n locating.Asking) (Ask l (words.CloseConsumer n))
+  locates_again : {t n : ℕ} → Arc (Locating t n locating.Finding) (outcome.Word word.Again) (Locating t n locating.Finding) (OfConsumer (consumer_ask.Find t))
+  locates_queued : {t n : ℕ} → Arc (Locating t n locating.Asking) outcome.Queued (Locating t n locating.Awaiting) Rest
+  locates_in_line : {t n : ℕ} → Arc (Locating t n locating.Asking) outcome.InLine (Locating t n locating.Asking) Rest
   departs_again : {t n : ℕ} → Arc (Departing t n) (outcome.Word word.Again) (Departing t n) (OfConsumer (consumer_ask.Find t))
 
 searches : {w : Ways} {s q : Search} {u : Outcome} (a : Wish) → search.told w s (news_in u) ≡ Stays q a →
@@ -496,6 +501,12 @@ told_arcs (Serving w n s) u = told_if (Serving w n s) u (overrides u) _ _ (λ h.
 told_arcs (Departing t n) (outcome.GotLink l) = departs_asks
 told_arcs (Departing t n) (outcome.Word word.Again) = departs_again
 told_arcs (Departing t n) (outcome.Word _) = ends _ refl
+told_arcs (Locating t n locating.Finding) (outcome.GotLink l) = located_asks
+told_arcs (Locating t n locating.Finding) (outcome.Word word.Again) = locates_again
+told_arcs (Locating t n locating.Finding) (outcome.Word _) = ends _ refl
+told_arcs (Locating t n locating.Asking) outcome.Queued = locates_queued
+told_arcs (Locating t n locating.Asking) outcome.InLine = locates_in_line
+told_arcs (Locating t n locating.Awaiting) (outcome.Replied r) = ends _ refl
 told_arcs Stopping outcome.Stopped = ends _ refl
 told_arcs _ _ = ends _ refl
 
@@ -554,6 +565,7 @@ pub data Begun : Procedure → Plan → Action → Type 0 where
       Begun (procedure.Subscribe w o) (Subscribing w o (consumer_build.Numbering n.name n.place)) (TakeNumber o.config.consumer_id)
   begins_serve : {w : Ways} {n : ℕ} → Begun (procedure.Serve w n) (Serving w n service.Resting) Rest
   begins_acknowledge : {l : ℕ} {request : Words} → Begun (procedure.Acknowledge (Some l) request) Acknowledging (Ask l request)
+  begins_locate : {t n : ℕ} → Begun (procedure.Locate t n) (Locating t n locating.Finding) (OfConsumer (consumer_ask.Find t))
   begins_leave : {t n : ℕ} → Begun (procedure.Leave t n) (Departing t n) (OfConsumer (consumer_ask.Find t))
 
 begins_search : {w : Ways} {what : Sought} {q : Search} (a : Wish) → search.begins w what ≡ Stays q a →
@@ -630,6 +642,7 @@ begins_arcs (procedure.Serve w n) = begins_serve
 begins_arcs (procedure.Acknowledge None request) = begins_not _
 begins_arcs (procedure.Acknowledge (Some l) request) = begins_acknowledge
 begins_arcs (procedure.Leave t n) = begins_leave
+begins_arcs (procedure.Locate t n) = begins_locate
 begins_arcs (procedure.Refuse r) = begins_not _
 
 pub by_begun : (P : PlanTransition → Type 0) (p : Procedure) → ((q : Plan) (a : Action) → Begun p q a → P (Stays q a)) →

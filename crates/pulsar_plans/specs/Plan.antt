@@ -36,9 +36,11 @@ use Rattle.pulsar_calls.specs.declared.act.Verdict.{Verdict}
 use Rattle.pulsar_calls.specs.declared.act.Word.{Word}
 use Rattle.pulsar_calls.specs.declared.act.Word.TheVariants as word
 use Rattle.pulsar_plans.specs.declared.plan.Plan.{Plan}
+use Rattle.pulsar_plans.specs.declared.locating.Locating.{Locating as Locates}
+use Rattle.pulsar_plans.specs.declared.locating.Locating.TheVariants as locating
 use Rattle.pulsar_plans.specs.declared.plan.At.{At as Stage}
 use Rattle.pulsar_plans.specs.declared.plan.At.TheVariants as at
-use Rattle.pulsar_plans.specs.declared.plan.Plan.TheVariants.{Building, Getting, Asking, Awaiting, Searching, Producing, Sending, Reporting, Storing, Stored, Batching, Leaving, Gathering, Shutting, Visiting, Subscribing, Serving, Acknowledging, Departing, Stopping}
+use Rattle.pulsar_plans.specs.declared.plan.Plan.TheVariants.{Building, Getting, Asking, Awaiting, Searching, Producing, Sending, Reporting, Storing, Stored, Batching, Leaving, Gathering, Shutting, Visiting, Subscribing, Serving, Acknowledging, Departing, Locating, Stopping}
 use Rattle.pulsar_plans.specs.declared.service.Service.{Service}
 use Rattle.pulsar_plans.specs.declared.service.Service.TheVariants as service
 use Rattle.pulsar_plans.specs.declared.states.Resubscribing.{Resubscribing}
@@ -604,6 +606,23 @@ in_departing t n (Hears word.Again) = departs t n
 in_departing t n (Hears word.Closed) = fails_with (ConsumerFault ConsumerClosed)
 in_departing t n o = Gives (fails (fault_of o))
 
+-- WHERE A CONSUMER STANDS is asked on its link. One that is subscribed again meanwhile is waited for, and one that has ended is closed.
+
+abbrev pub locates_at : (consumer number : ℕ) → Locates → Action → PlanTransition
+locates_at t n x action = Stays (Locating t n x) action
+
+abbrev pub locates : (consumer number : ℕ) → PlanTransition
+locates t n = locates_at t n locating.Finding (OfConsumer (consumer_ask.Find t))
+
+abbrev pub in_locating : (consumer number : ℕ) → Locates → Outcome → PlanTransition
+in_locating t n locating.Finding (GotLink link) = locates_at t n locating.Asking (Ask link (words.CloseConsumer n))
+in_locating t n locating.Finding (Hears word.Again) = locates t n
+in_locating t n locating.Finding (Hears word.Closed) = fails_with (ConsumerFault ConsumerClosed)
+in_locating t n locating.Asking Queued = locates_at t n locating.Awaiting Rest
+in_locating t n locating.Asking InLine = locates_at t n locating.Asking Rest
+in_locating t n locating.Awaiting (Replied r) = Gives (verdict Nothing (reply_says says.Bodies (request_number (words.CloseConsumer n)) r))
+in_locating t n x o = Gives (fails (fault_of o))
+
 -- ALL PLANS
 
 -- where the plan of a procedure begins
@@ -625,6 +644,7 @@ begins (procedure.Subscribe ways order) = subscribes ways order (consume.build_b
 begins (procedure.Serve ways number) = stays_so ways number service.Resting
 begins (procedure.Acknowledge link request) = acknowledges link request
 begins (procedure.Leave consumer number) = departs consumer number
+begins (procedure.Locate consumer number) = locates consumer number
 begins (procedure.Refuse r) = Gives (verdict Nothing (Failed (failure_of r)))
 
 -- What an outcome makes of a plan. The stop of the client overrides a search.
@@ -659,5 +679,6 @@ told (Subscribing w order b) o = told_subscribing w order b o
 told (Serving w n s) o = told_serving w n s o
 told Acknowledging o = is_over
 told (Departing t n) o = in_departing t n o
+told (Locating t n x) o = in_locating t n x o
 told Stopping Stopped = Gives (verdict Nothing Done)
 told Stopping o = Gives (fails (fault_of o))

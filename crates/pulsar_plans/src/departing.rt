@@ -57,7 +57,7 @@ pub fn told(
 }
 
 /// The close of a consumer, as it is asked of a link.
-fn closes(alloc: Global, number: u64) -> Result<Request, NoMemory>
+pub(crate) fn closes(alloc: Global, number: u64) -> Result<Request, NoMemory>
     ensures { IfOk result (λ r. r ≡ CloseConsumer number) }
 {
     Request::new(
@@ -68,7 +68,7 @@ fn closes(alloc: Global, number: u64) -> Result<Request, NoMemory>
     )
 }
 
-fn is_closed(alloc: Global) -> Result<PlanTransition, NoMemory>
+pub(crate) fn is_closed(alloc: Global) -> Result<PlanTransition, NoMemory>
     ensures { IfOk result (λ turn. turn ≡ fails_with (OfConsumer ConsumerClosed)) }
 {
     let error = Error::Consumer(ConsumerError::Closed);

@@ -5,11 +5,12 @@ ghost use Rattle.pulsar_wire.specs.Failures.{Custom, OfProducer, ProducerCustom,
 ghost use Rattle.pulsar_plans.specs.Plan.{asks, begins, failure_of, fails, fails_with, fault_of, makes, makes_of, overrides, replied, stands, told, verdict, waits};
 ghost use Rattle.pulsar_calls.specs.Content.{Done, Failed};
 
+use crate::locating::Locating;
 use crate::service::Service;
 use crate::states::{BatchState, BuildState, ConsumerState, SearchState, SendState};
 use crate::{
-    answers, batches, departing, gathering, producing, search, sends, serving, subscribing,
-    visiting,
+    answers, batches, departing, gathering, locating, producing, search, sends, serving,
+    subscribing, visiting,
 };
 use pulsar_addresses::content::Refusal as Failure;
 use pulsar_calls::act::{
@@ -121,6 +122,12 @@ pub enum Plan {
         consumer: u64,
         number: u64,
     },
+    /// It asks where the consumer of this ticket stands, which has this number.
+    Locating {
+        consumer: u64,
+        number: u64,
+        at: Locating,
+    },
     /// It ends every link.
     Stopping,
 }
@@ -191,6 +198,7 @@ pub fn begins(alloc: Global, procedure: Procedure) -> Result<PlanTransition, NoM
         Procedure::Serve { ways, number } => Ok(serving::begins(ways, number)),
         Procedure::Acknowledge { link, request } => departing::acknowledges(alloc, link, request),
         Procedure::Leave { consumer, number } => Ok(departing::begins(consumer, number)),
+        Procedure::Locate { consumer, number } => Ok(locating::begins(consumer, number)),
         Procedure::Refuse(refusal) => refused(alloc, refusal),
     }
 }
@@ -250,6 +258,11 @@ pub fn told(alloc: Global, plan: Plan, outcome: Outcome) -> Result<PlanTransitio
         } => serving::told(alloc, ways, number, service, outcome),
         Plan::Acknowledging => done(alloc, Makes::Nothing),
         Plan::Departing { consumer, number } => departing::told(alloc, consumer, number, outcome),
+        Plan::Locating {
+            consumer,
+            number,
+            at,
+        } => locating::told(alloc, consumer, number, at, outcome),
         Plan::Stopping => in_stopping(alloc, outcome),
     }
 }

@@ -33,11 +33,13 @@ use Rattle.pulsar_calls.specs.declared.act.Round.{Round}
 use Rattle.pulsar_calls.specs.declared.act.Round.TheVariants.{Closes}
 use Rattle.pulsar_plans.specs.declared.plan.At.{At as Point}
 use Rattle.pulsar_plans.specs.declared.plan.At.TheVariants as point
-use Rattle.pulsar_plans.specs.declared.plan.Plan.TheVariants.{Building, Getting, Searching, Sending, Gathering, Shutting, Stopping, Acknowledging, Departing}
+use Rattle.pulsar_calls.specs.declared.act.Says.TheVariants as says
+use Rattle.pulsar_plans.specs.declared.locating.Locating.TheVariants as locating
+use Rattle.pulsar_plans.specs.declared.plan.Plan.TheVariants.{Building, Getting, Searching, Sending, Gathering, Shutting, Stopping, Acknowledging, Departing, Locating}
 use Rattle.pulsar_calls.specs.Content.{Done, Receipt, Replies, Failed}
 use Rattle.pulsar_plans.proofs.Arcs.{Arc, End, ends, by_arcs, flowed_takes, is_server, over}
 use Rattle.pulsar_laws.proofs.Cases.{cond_so}
-use Rattle.pulsar_laws.specs.Laws.{Deed, Acted, FailsSo, IsRefused, IsRefusedShare, IsTold, IsTurned, IsDenied, IsUnexpected, IsInProducer, IsUnexpectedInProducer, IsSettled, IsPartial, IsAnswered, DeniesSo, acted, course, fails_in_producer, has_failed, number_in, ways_in, IsInUse, IsOfSeveral, IsClosed}
+use Rattle.pulsar_laws.specs.Laws.{Deed, Acted, FailsSo, IsRefused, IsRefusedShare, IsTold, IsTurned, IsDenied, IsUnexpected, IsInProducer, IsUnexpectedInProducer, IsSettled, IsPartial, IsAnswered, DeniesSo, acted, course, fails_in_producer, has_failed, number_in, ways_in, IsInUse, IsOfSeveral, IsClosed, IsNowhere}
 use Rattle.pulsar_calls.specs.Parts.{failed_with, outcomes_of, sent_from}
 use Rattle.pulsar_plans.specs.Plan.{asks_of, builds, fails_in, fails_with, failure_in, failure_of, fault_of, found, gathers, goes, goes_on_sending, goes_round, halted, in_stored, in_storing, is_settled, leaves, parted, receipt_said, sends_stay, settled, stored, told_at, told_batch, tells, visited, visits, consumer_news_of, in_departing, in_subscribing, subscribes}
 use Rattle.pulsar_producer.specs.Batching.{is_sent_send}
@@ -233,6 +235,7 @@ module _ (p : Procedure) (all : List Outcome) where
   Holds (Serving w n s) = Unit {0}
   Holds Acknowledging = Unit {0}
   Holds (Departing t n) = p ≡ procedure.Leave t n
+  Holds (Locating t n x) = p ≡ procedure.Locate t n
   Holds Stopping = Unit {0}
 
   abbrev pub TurnHolds : PlanTransition → Type 0
@@ -550,6 +553,14 @@ module _ (p : Procedure) (all : List Outcome) where
   told_holds (Serving w n s) u k i proper = by_arcs TurnHolds (Serving w n s) u (λ q a e. server_holds q e refl) (λ v e. server_says e refl)
   told_holds Acknowledging u k i proper = says_done
   told_holds (Departing t n) u k i proper = departing_holds t n u k i
+  told_holds (Locating t n locating.Finding) (GotLink link) k i proper = k
+  told_holds (Locating t n locating.Finding) (outcome.Word word.Again) k i proper = k
+  told_holds (Locating t n locating.Finding) (outcome.Word word.Closed) k i proper = with_failure (OfConsumer ConsumerClosed) (IsNowhere t n k i refl)
+  told_holds (Locating t n locating.Finding) (outcome.Word x) k i proper = told_so (outcome.Word x) i
+  told_holds (Locating t n locating.Asking) Queued k i proper = k
+  told_holds (Locating t n locating.Asking) InLine k i proper = k
+  told_holds (Locating t n locating.Awaiting) (Replied r) k i proper = λ f h. IsAnswered r _ says.Bodies i (ap number_in k) h
+  told_holds (Locating t n x) u k i proper = told_so u i
   told_holds Stopping Stopped k i proper = says_done
   told_holds Stopping u k i proper = told_so u i
 
@@ -615,4 +626,5 @@ begins_holds (procedure.Serve w n) all is = tt
 begins_holds (procedure.Acknowledge None request) all is = says_done (procedure.Acknowledge None request) all
 begins_holds (procedure.Acknowledge (Some l) request) all is = tt
 begins_holds (procedure.Leave t n) all is = refl
+begins_holds (procedure.Locate t n) all is = refl
 begins_holds (procedure.Refuse r) all is = says_failed (procedure.Refuse r) all (failure_of r) (IsRefused r refl refl)

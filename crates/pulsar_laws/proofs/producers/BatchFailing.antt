@@ -18,7 +18,7 @@ use Rattle.pulsar_laws.proofs.plans.Standing.{moves, run_older, stands_so}
 use Rattle.pulsar_laws.proofs.producers.BatchRun.{turn_so, Batched, batched_run, calm_at, is_batch_deed, never_both, self_same}
 use Rattle.pulsar_laws.proofs.producers.Drawing.{every_run, Every, here}
 use Rattle.pulsar_laws.specs.BatchLaws.{told_since}
-use Rattle.pulsar_laws.specs.Laws.{FailsSo, IsAnswered, IsDenied, IsInProducer, IsPartial, IsRefused, IsRefusedShare, IsSettled, IsTold, IsTurned, IsUnexpected, IsUnexpectedInProducer, has_failed, IsInUse, IsOfSeveral, IsClosed}
+use Rattle.pulsar_laws.specs.Laws.{FailsSo, IsAnswered, IsDenied, IsInProducer, IsPartial, IsRefused, IsRefusedShare, IsSettled, IsTold, IsTurned, IsUnexpected, IsUnexpectedInProducer, has_failed, IsInUse, IsOfSeveral, IsClosed, IsNowhere}
 use Rattle.pulsar_laws.proofs.plans.Batched.{BatchSo, IsSending}
 use Rattle.pulsar_laws.proofs.plans.Failing.{allows_breaks, allows_reply, is_proper, told_same}
 use Rattle.pulsar_laws.proofs.plans.Granted.{GivenBy, granted_by, grants_given}
@@ -69,6 +69,7 @@ more_so p u os f (IsPartial first count failures h some e) =
 more_so p u os f (IsInUse w order is i e) = IsInUse w order is (inr i) e
 more_so p u os f (IsOfSeveral w order r n k is i c two e) = IsOfSeveral w order r n k is (inr i) c two e
 more_so p u os f (IsClosed t n is i e) = IsClosed t n is (inr i) e
+more_so p u os f (IsNowhere t n is i e) = IsNowhere t n is (inr i) e
 more_so p u os f (IsAnswered r number s i is e) = IsAnswered r number s (inr i) is e
 
 -- why the one message of a batch fails

@@ -1,4 +1,6 @@
 pub mod Tables
+pub mod Tallies
+pub mod KeptTallies
 pub mod View
 pub mod Rules
 pub mod Reading

@@ -12,7 +12,7 @@ use Rattle.pulsar_session.specs.Link.{is_ready}
 use Rattle.pulsar_calls.specs.declared.act.Act.{Act}
 use Rattle.pulsar_calls.specs.declared.act.Act.TheVariants.{Comes, Starts, Told, Does, Answers, Dials}
 use Rattle.pulsar_calls.specs.declared.act.Action.{Action}
-use Rattle.pulsar_calls.specs.declared.act.Action.TheVariants.{OfTopic, OfConsumer, Get, Ask, Wait, Number, Hold, Shut, TakeNumber, Tell, TellAll, StopAll, Rest}
+use Rattle.pulsar_calls.specs.declared.act.Action.TheVariants.{OfTopic, OfTally, OfConsumer, Get, Ask, Wait, Number, Hold, Shut, TakeNumber, Tell, TellAll, StopAll, Rest}
 use Rattle.pulsar_calls.specs.declared.act.Alarm.{Alarm}
 use Rattle.pulsar_calls.specs.declared.act.Alarm.TheVariants.{Retry, Wake, Batch, KeepAlive, CheckIdle}
 use Rattle.pulsar_calls.specs.declared.act.Arrival.{Arrival}
@@ -314,6 +314,7 @@ performs v who StopAll = stops who v.links
 performs v who (Wait delay) = []
 performs v who (OfTopic n ask) = says_to who (asked_of v who n ask).says
 performs v who (OfConsumer ask) = says_to who (consumer_asked v who ask).says
+performs v who (OfTally n ask) = grants who news.Done
 performs v who Number = tells who (number_said (number_drawn v.producers))
 performs v who (Hold l n) = grants who news.Done
 performs v who (Shut t) = grants who news.Done

@@ -28,6 +28,7 @@ use Rattle.pulsar_links.specs.Alarms.{set}
 use Rattle.pulsar_links.specs.Kept.{addresses_of, links_in}
 use Rattle.pulsar_producer_table.specs.KeptProducers.{producers_of}
 use Rattle.pulsar_consumer_table.specs.KeptConsumers.{consumers_in}
+use Rattle.pulsar_acts.specs.KeptTallies.{tallies_of}
 use Rattle.pulsar_acts.specs.View.{Turned, View, alarms_on, alarms_rung, alarms_waiting, base_on, delay_with, member_made, pause_on, pause_rung, waits_on}
 use Rattle.pulsar_machine.specs.Options.{Chosen}
 use Rattle.pulsar_links.specs.Seats.{Seat, later, nobody}
@@ -61,6 +62,7 @@ view_of c =
       alarms = c.alarms;
       consumers = consumers_in c.consumers.rows c.consumers.numbers;
       producers = producers_of c.producers;
+      tallies = tallies_of c.tallies;
     }
 
 -- what a link turns whose next frame was read

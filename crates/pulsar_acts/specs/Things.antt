@@ -10,6 +10,8 @@ use Rattle.pulsar_links.specs.Seats.{Seat}
 use Rattle.pulsar_producer.specs.Topic as topic
 use Rattle.pulsar_producer_table.specs.Producers.{topic_after}
 use Rattle.pulsar_producer_table.specs.declared.table.Topic.{Topic}
+use Rattle.pulsar_calls.specs.declared.act.TallyAsk.{TallyAsk}
+use Rattle.pulsar_acts.specs.Tallies.{Tally, tally_acts, tally_after, tally_born}
 use Rattle.pulsar_acts.specs.View.{View, link_acts, link_born, link_gone, link_heard, member_acts, member_born, topic_acts, topic_born}
 
 -- topic producers, by their numbers
@@ -46,4 +48,16 @@ links =
       acts = λ v a l. link_acts v l a;
       heard = λ v e l. link_heard l e;
       after = seat_by;
+    }
+
+-- tallies, by their numbers
+abbrev pub tallies : Kind View Heard Act ℕ Tally TallyAsk
+tallies =
+    record {
+      row = λ v n. v.tallies n;
+      born = λ v a n. tally_born n a (v.tallies n);
+      gone = λ v a n. false;
+      acts = λ v a n. tally_acts n a;
+      heard = λ v e n. [];
+      after = tally_after;
     }

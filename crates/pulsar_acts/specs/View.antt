@@ -37,6 +37,7 @@ use Rattle.pulsar_links.specs.declared.addresses.Pause.{Pause}
 use Rattle.pulsar_links.specs.declared.addresses.Series.{Series}
 use Rattle.pulsar_links.specs.declared.addresses.Series.TheVariants.{Nobody, Runs, Pauses, Serves}
 use Rattle.pulsar_plans.specs.declared.plan.Plan.{Plan}
+use Rattle.pulsar_acts.specs.Tallies.{Tally, tally_acts, tally_after, tally_born}
 use Rattle.pulsar_links.specs.Alarms.{clear, rings, set}
 use Rattle.pulsar_links.specs.Asks as of_link
 use Rattle.pulsar_links.specs.Asks.{IsFed, comes_by, got_by, is_end, seat_by}
@@ -82,6 +83,7 @@ pub record View : Type 0 where
   pub alarms : List (Alarm × ℕ)
   pub consumers : Consumers
   pub producers : Producers
+  pub tallies : (number : ℕ) → Option Tally
 
 -- at first
 abbrev pub new : Options → View
@@ -96,6 +98,7 @@ new o =
       alarms = [];
       consumers = consumer.none o.chosen.first_number;
       producers = none o.chosen.first_number;
+      tallies = λ n. None;
     }
 
 -- how the client looks for brokers, where it has an address
@@ -610,4 +613,5 @@ after a v =
       alarms = alarms_after v a;
       consumers = consumers_after v a;
       producers = producers_after v a;
+      tallies = λ n. row_after tally_after (tally_born n a (v.tallies n)) false (tally_acts n a) (v.tallies n);
     }

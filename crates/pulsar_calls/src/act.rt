@@ -290,6 +290,15 @@ pub enum TopicAsk {
     Quieten,
 }
 
+/// What is asked of a tally.
+#[derive(Drop)]
+pub enum TallyAsk {
+    /// To add this.
+    Add(u64),
+    /// To take no more.
+    Shut,
+}
+
 /// What is asked of a consumer: by the ticket that it names, or by the one that serves it.
 #[derive(Drop)]
 pub enum ConsumerAsk {
@@ -316,6 +325,8 @@ pub enum Action {
     Wait(u64),
     /// Ask this of the topic producer of this number.
     OfTopic { number: u64, ask: TopicAsk },
+    /// Ask this of the tally of this number.
+    OfTally { number: u64, ask: TallyAsk },
     /// Draw the number of a new topic producer.
     Number,
     /// A topic producer of this number was made on the link for the call whose plan it is, which still makes others.

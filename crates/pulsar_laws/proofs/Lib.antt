@@ -1,6 +1,7 @@
 pub mod plans
 pub mod calls
 pub mod links
+pub mod Tallies
 pub mod Instances
 pub mod ActWords
 pub mod PlanWords

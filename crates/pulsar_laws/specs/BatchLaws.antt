@@ -96,6 +96,7 @@ asks_others (Wait delay) = true
 asks_others (OfTopic m ask) = false
 asks_others action.Number = false
 asks_others (action.Hold l m) = false
+asks_others (action.OfTally m ask) = false
 asks_others (Shut t) = false
 asks_others (action.TakeNumber wanted) = false
 asks_others (action.OfConsumer ask) = false

@@ -30,7 +30,7 @@ use Rattle.pulsar_links.specs.Alarms.{ringing, rings}
 use Rattle.pulsar_calls.specs.declared.act.Act.{Act}
 use Rattle.pulsar_calls.specs.declared.act.Act.TheVariants.{Comes, Starts, Told, Does, Answers, Dials}
 use Rattle.pulsar_calls.specs.declared.act.Action.{Action}
-use Rattle.pulsar_calls.specs.declared.act.Action.TheVariants.{OfTopic, Get, Ask, Number, Hold, Shut, TakeNumber, Tell, TellAll, StopAll, Rest, OfConsumer}
+use Rattle.pulsar_calls.specs.declared.act.Action.TheVariants.{OfTopic, OfTally, Get, Ask, Number, Hold, Shut, TakeNumber, Tell, TellAll, StopAll, Rest, OfConsumer}
 use Rattle.pulsar_calls.specs.declared.act.ConsumerAsk.TheVariants.{Find as FindConsumer, TakeFlow, Recall as RecallConsumer, Revive, Fail as FailConsumer}
 use Rattle.pulsar_calls.specs.declared.act.TopicAsk.TheVariants.{TakeTurn, PassTurn, Draw, Recall, Remake, Find, Store, Flush, TakeBatch, Quieten}
 use Rattle.pulsar_calls.specs.declared.act.Alarm.{Alarm}
@@ -346,6 +346,7 @@ GrantsSo (news.Numbered number) Number v = number_drawn v.producers ≡ Some num
 GrantsSo news.Done (OfTopic n PassTurn) v = Unit {0}
 GrantsSo news.Done (OfTopic m (Remake r)) v = Unit {0}
 GrantsSo news.Done (Hold l n) v = Unit {0}
+GrantsSo news.Done (OfTally n ask) v = Unit {0}
 GrantsSo news.Done (Shut t) v = Unit {0}
 GrantsSo (news.HasBatch items) (OfTopic n TakeBatch) v = next_batch_at (v.producers.topics n) ≡ items
 GrantsSo news.Done (OfTopic n (Store e)) v = Unit {0}

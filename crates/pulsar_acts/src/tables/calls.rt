@@ -293,6 +293,7 @@ impl Tables {
             Action::Wait(delay) => self.alarms.set(Alarm::Wake(who), later(self.clock, delay)),
             Action::OfTopic { number, ask } => self.asks_topic(who, number, ask, tasks),
             Action::OfConsumer(ask) => self.asks_consumer(who, ask, tasks),
+            Action::OfTally { number, ask } => self.asks_tally(who, number, ask, tasks),
             Action::Number => self.numbers(who, tasks),
             Action::Hold { link, number } => self.holds(who, link, number, tasks),
             Action::Shut(producer) => self.shuts(who, producer, tasks),

@@ -19,6 +19,7 @@ mod producers;
 mod sends;
 
 use crate::settings::Settings;
+use crate::tallies::Tallies;
 use pulsar_agenda::agenda::Tasks;
 use pulsar_calls::act::{Act, Notice, Part};
 use pulsar_calls::effect::Effect;
@@ -49,6 +50,7 @@ pub struct Tables {
     pub alarms: Alarms,
     pub consumers: Consumers,
     pub producers: Producers,
+    pub tallies: Tallies,
 }
 
 impl Drop for Tables {
@@ -66,6 +68,7 @@ impl Drop for Tables {
             alarms: _,
             consumers: _,
             producers: _,
+            tallies: _,
         } = self;
     }
 }
@@ -89,6 +92,7 @@ impl Tables {
             alarms: Alarms::new(alloc),
             consumers: Consumers::new(alloc, first_number),
             producers: Producers::new(alloc, first_number),
+            tallies: Tallies::new(alloc),
         }
     }
 

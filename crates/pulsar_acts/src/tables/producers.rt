@@ -16,7 +16,7 @@ use crate::tables::calls::tell;
 use crate::tables::consumers::join_some;
 use pulsar_addresses::content::Cause;
 use pulsar_agenda::agenda::Tasks;
-use pulsar_calls::act::{Action, Outcome, TopicAsk, Who};
+use pulsar_calls::act::{Action, Outcome, TallyAsk, TopicAsk, Who};
 use pulsar_calls::content::Granted;
 use pulsar_calls::who::{ticket_of, turn_of};
 use pulsar_producer::deed::News;
@@ -97,6 +97,22 @@ impl Tables {
         self.clear_batches(producer)?;
         self.producers.shut(producer);
         join_closed(self.alloc, stored, tasks)?;
+        self.grants(who, News::Done, tasks)
+    }
+
+    /// This is asked of a tally.
+    pub(super) fn asks_tally(
+        &mut self,
+        who: Who,
+        number: u64,
+        ask: TallyAsk,
+        tasks: &mut Tasks,
+    ) -> Result<(), NoMemory>
+        ensures left { OnOk result (agenda_of tasks.new ≡ goes_on (view_of self.old) (Act.Does who (Action.OfTally number ask)) (agenda_of tasks.old)) }
+        ensures sees { OnOk result (view_of self.new ≡ after (Act.Does who (Action.OfTally number ask)) (view_of self.old)) }
+        ensures settings { self.new.settings ≡ self.old.settings }
+    {
+        self.tallies.ask(number, ask)?;
         self.grants(who, News::Done, tasks)
     }
 

@@ -2,7 +2,7 @@
 use Rattle.std.proofs.Common.{◌≡◌, ◌⊎◌, inl, inr, ◌∙◌, sym, ap, subst, ℕ, List, ◌∷◌, ◌++◌, refl, map, Bool, true, false, cond, Option, Some, None, Result, Ok, Err, []}
 use Rattle.std.specs.List.{filter_map, flat_map}
 use Rattle.std.specs.Option.{option_map, option_to_list}
-use Rattle.pulsar_laws.proofs.ActWords.{Act, Action, Alarm, Answers, Arrival, Ask, Batch, CheckIdle, Comes, Consumer, Does, Drains, Draw, End, Ends, FailConsumer, Find, FindConsumer, Flush, Get, Hold, Idles, KeepAlive, Makes, Notice, Number, OfTopic, Outcome, Overdue, Part, PassTurn, Polls, Reads, Recall, RecallConsumer, Remake, Rest, Retry, Revive, Rings, Shut, StopAll, Stops, Store, TakeBatch, Quieten, TakeFlow, TakeNumber, TakeTurn, Tell, TellAll, ToLink, Told, Verdict, Wait, Wake, Who, Word, is_same, opens, ticket_of, turn_of, OfConsumer}
+use Rattle.pulsar_laws.proofs.ActWords.{Act, Action, Alarm, Answers, Arrival, Ask, Batch, CheckIdle, Comes, Consumer, Does, Drains, Draw, End, Ends, FailConsumer, Find, FindConsumer, Flush, Get, Hold, Idles, KeepAlive, Makes, Notice, Number, OfTopic, OfTally, Outcome, Overdue, Part, PassTurn, Polls, Reads, Recall, RecallConsumer, Remake, Rest, Retry, Revive, Rings, Shut, StopAll, Stops, Store, TakeBatch, Quieten, TakeFlow, TakeNumber, TakeTurn, Tell, TellAll, ToLink, Told, Verdict, Wait, Wake, Who, Word, is_same, opens, ticket_of, turn_of, OfConsumer}
 use Rattle.pulsar_laws.proofs.PlanWords.{closed_notice, Command, Drawn}
 use Rattle.pulsar_laws.proofs.RunWords.{Arises, at_once, Begins, Cause, causes, chosen_same, Each, Entry, further, In, InOne, IsRun, joins, lost_on, member_on, notice, Options, over_each, parts, readied, ready_notice, room_of, rules, setup_of, stopped_on, tells, Then, turn_notice, turned_by, view, View}
 use Rattle.pulsar_laws.proofs.LinkWords.{address_key, Addresses, answer_at, arrival_at, closed_by, closed_consumer, closing, ConnectionError, Exhausted, Failure, Fault, is_asked, is_reachable, Nobody, over_links, Pause, Pauses, Place, rings, Runs, Seat, Series, Serves, stop_act, tells_asker, told_at, url_at, Words}
@@ -304,6 +304,7 @@ module _ (o : Options) (who : Who) (u : Outcome) (older : List Entry) where
   once_caused (Does w Number) h = numbers_caused w (number_drawn v.producers) refl h
   once_caused (Does w (OfTopic n Find)) h = finds_caused w n (v.producers.topics n) refl h
   once_caused (Does w (Hold l n)) h = done_caused w (Hold l n) tt h
+  once_caused (Does w (OfTally n ask)) h = done_caused w (OfTally n ask) tt h
   once_caused (Does w (Shut t)) h = done_caused w (Shut t) tt h
   once_caused (Does w (OfTopic n (Store entry))) h = done_caused w (OfTopic n (Store entry)) tt h
   once_caused (Does w (OfTopic n Quieten)) h = done_caused w (OfTopic n Quieten) tt h

@@ -1,7 +1,7 @@
 -- What an action gives at once: nothing, or that one is told what came of it, or a dial; and the Stop ends all links. `performs` is walked once, here.
 use Rattle.std.proofs.Common.{◌≡◌, ap, ℕ, List, [], ◌∷◌, ◌++◌, refl, Bool, true, false, cond, Option, Some, None, Result, Ok, Err}
 use Rattle.std.specs.Option.{option_map}
-use Rattle.pulsar_laws.proofs.ActWords.{Act, Action, Answers, Ask, Comes, Dials, Does, Draw, Ends, FailConsumer, Find, FindConsumer, Flush, Get, Hold, Number, OfTopic, Outcome, PassTurn, Recall, RecallConsumer, Remake, Rest, Revive, Shut, Starts, StopAll, Stops, Store, TakeBatch, Quieten, TakeFlow, TakeNumber, TakeTurn, Tell, TellAll, ToLink, Told, TopicAsk, Wait, Who, ticket_of, OfConsumer}
+use Rattle.pulsar_laws.proofs.ActWords.{Act, Action, Answers, Ask, Comes, Dials, Does, Draw, Ends, FailConsumer, Find, FindConsumer, Flush, Get, Hold, Number, OfTopic, OfTally, Outcome, PassTurn, Recall, RecallConsumer, Remake, Rest, Revive, Shut, Starts, StopAll, Stops, Store, TakeBatch, Quieten, TakeFlow, TakeNumber, TakeTurn, Tell, TellAll, ToLink, Told, TopicAsk, Wait, Who, ticket_of, OfConsumer}
 use Rattle.pulsar_laws.proofs.PlanWords.{Command, Drawn, News}
 use Rattle.pulsar_laws.proofs.RunWords.{Each, each_append, notice, over_each, performs, room_of, tells, View}
 use Rattle.pulsar_laws.proofs.LinkWords.{address_key, answer_at, ConnectionError, is_reachable, Nobody, over_links, Pauses, Place, Runs, Series, Serves, stop_act, told_at, Words}
@@ -42,6 +42,7 @@ abbrev pub GivenBy : View → Action → News → Type 0
 GivenBy v (OfTopic n ask) y = TopicGives v n y ask
 GivenBy v Number (news.Numbered n) = number_drawn v.producers ≡ Some n
 GivenBy v (Hold l n) news.Done = Unit {0}
+GivenBy v (OfTally n ask) news.Done = Unit {0}
 GivenBy v (Shut t) news.Done = Unit {0}
 GivenBy v (Tell n) news.Done = Unit {0}
 GivenBy v (TellAll ns) news.Done = Unit {0}
@@ -146,6 +147,7 @@ module _ (v : View) (who : Who) where
   performs_once (OfTopic n ask) = ask_once n ask
   performs_once Number = numbers_once (number_drawn v.producers) refl
   performs_once (Hold l n) = says tt refl
+  performs_once (OfTally n ask) = says tt refl
   performs_once (Shut t) = says tt refl
   performs_once (TakeNumber wanted) = numbering_once wanted (consumer.numbering v.consumers wanted)
   performs_once (OfConsumer (FindConsumer t)) = sought_once t (consumer.sought (v.consumers.rows t))

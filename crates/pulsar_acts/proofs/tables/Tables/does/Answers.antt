@@ -32,3 +32,6 @@ returns-in-TakeNumber-clause-sees c = rw c.in-TakeNumber.is c.takes_number.ensur
 
 pub returns-in-OfConsumer-clause-sees : goal.returns-in-OfConsumer-clause-sees
 returns-in-OfConsumer-clause-sees c = rw c.in-OfConsumer.is c.asks_consumer.ensures.sees
+
+pub returns-in-OfTally-clause-sees : goal.returns-in-OfTally-clause-sees
+returns-in-OfTally-clause-sees c = rw c.in-OfTally.is c.asks_tally.ensures.sees

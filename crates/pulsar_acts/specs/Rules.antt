@@ -26,7 +26,7 @@ use Rattle.pulsar_calls.specs.declared.act.Notice.{Notice}
 use Rattle.pulsar_calls.specs.declared.act.Outcome.{Outcome}
 use Rattle.pulsar_calls.specs.declared.act.Outcome.TheVariants as outcome
 use Rattle.pulsar_calls.specs.declared.act.Part.{Part}
-use Rattle.pulsar_calls.specs.declared.act.Part.TheVariants.{Calls, ToLink, Rings, Polls}
+use Rattle.pulsar_calls.specs.declared.act.Part.TheVariants.{Calls, ToLink, Rings, Polls, Counts}
 use Rattle.pulsar_calls.specs.declared.act.Place.TheVariants as place
 use Rattle.pulsar_calls.specs.declared.act.Procedure.{Procedure}
 use Rattle.pulsar_calls.specs.declared.act.Procedure.TheVariants as procedure
@@ -64,7 +64,7 @@ use Rattle.pulsar_searches.specs.declared.plan.Sought.TheVariants as sought
 use Rattle.pulsar_searches.specs.declared.turn.Ways.{Ways}
 use Rattle.pulsar_links.specs.Alarms.{ringing, rings}
 use Rattle.pulsar_calls.specs.Content as content
-use Rattle.pulsar_calls.specs.Content.{Asked as Asking, Heard, Called, Opened, FailedToOpen, Bytes, Lost as Loses, Drain, Ticked, Poll, lacks_tickets, shares}
+use Rattle.pulsar_calls.specs.Content.{Asked as Asking, Heard, Called, Opened, FailedToOpen, Bytes, Lost as Loses, Drain, Ticked, Poll, CountsItems, lacks_tickets, shares}
 use Rattle.pulsar_links.specs.Links.{Change, Remains, Becomes, IsOver}
 use Rattle.pulsar_plans.specs.Plan.{begins, closed_notice, fails}
 pub use Rattle.pulsar_producer_table.specs.Asks.{readied, ready_notice, turn_notice}
@@ -98,6 +98,7 @@ brings policies v (Loses l) = ToLink l (Ends Lost) ∷ []
 brings policies v (Drain l most) = ToLink l (Drains most) ∷ []
 brings policies v (Ticked now) = over_links (due_part now) v.links ++ map Rings (ringing now v.alarms)
 brings policies v (Poll ticket) = Polls ticket ∷ []
+brings policies v (CountsItems ticket) = Counts ticket ∷ []
 
 -- an event that isn't live brings nothing
 abbrev pub parts : Options → View → Heard → List Part

@@ -7,7 +7,7 @@ use Rattle.pulsar_calls.specs.declared.act.Act.{Act}
 use Rattle.pulsar_calls.specs.declared.act.Act.TheVariants.{Comes, Told}
 use Rattle.pulsar_calls.specs.declared.act.Notice.{Notice}
 use Rattle.pulsar_calls.specs.declared.act.Part.{Part}
-use Rattle.pulsar_calls.specs.Content.{Asked, lacks_tickets, shares, Heard, Called, Opened, FailedToOpen, Bytes, Lost, Drain, Ticked, Poll, Shown}
+use Rattle.pulsar_calls.specs.Content.{Asked, lacks_tickets, shares, Heard, Called, Opened, FailedToOpen, Bytes, Lost, Drain, Ticked, Poll, CountsItems, Shown}
 use Rattle.pulsar_acts.specs.Effects.{effects}
 use Rattle.pulsar_calls.specs.Order.{effect_below}
 use Rattle.pulsar_acts.specs.Rules.{at_once, causes, further, joins, parts}
@@ -72,6 +72,7 @@ heard_to (Lost l) n = n
 heard_to (Drain l most) n = n
 heard_to (Ticked now) n = n
 heard_to (Poll ticket) n = n
+heard_to (CountsItems ticket) n = n
 
 -- the ticket of a call, where so many were drawn
 abbrev pub ticket_for : Asked → (drawn : ℕ) → ℕ

@@ -42,7 +42,7 @@ use Rattle.pulsar_links.specs.Alarms.{clear, rings, set}
 use Rattle.pulsar_links.specs.Asks as of_link
 use Rattle.pulsar_links.specs.Asks.{IsFed, comes_by, got_by, is_end, seat_by}
 use Rattle.pulsar_calls.specs.Content as content
-use Rattle.pulsar_calls.specs.Content.{Heard, Called, Opened, FailedToOpen, Bytes, Drain, Ticked, Poll, lacks_tickets, shares}
+use Rattle.pulsar_calls.specs.Content.{Heard, Called, Opened, FailedToOpen, Bytes, Drain, Ticked, Poll, CountsItems, lacks_tickets, shares}
 use Rattle.pulsar_links.specs.Links.{Change, Remains, Becomes, IsOver, change_by}
 use Rattle.pulsar_plans.specs.Plan.{begins, told}
 use Rattle.pulsar_run.specs.Things.{row_after, row_by}
@@ -132,6 +132,7 @@ is_live v (content.Lost l) = is_at is_open (v.links.live l)
 is_live v (Drain l most) = is_at is_open (v.links.live l)
 is_live v (Ticked now) = nat_le v.now now
 is_live v (Poll t) = is_some (v.consumers.rows t)
+is_live v (CountsItems t) = is_some (v.consumers.rows t)
 
 -- bytes of a link are fed to it
 abbrev pub link_heard : (link : ℕ) → Heard → List of_link.Deed

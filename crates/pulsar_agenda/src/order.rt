@@ -32,9 +32,10 @@ fn effect_rank(effect: &Effect) -> (u64, u64, u64)
         } => (4, *link, *place),
         Effect::Retry { link, delay: _ } => (5, *link, 0),
         Effect::Close { link } => (6, *link, 0),
-        Effect::Item { ticket, item: _ } | Effect::Empty { ticket } | Effect::End { ticket } => (
-            0, *ticket, 0,
-        ),
+        Effect::Item { ticket, item: _ }
+        | Effect::Empty { ticket }
+        | Effect::End { ticket }
+        | Effect::Items { ticket, count: _ } => (0, *ticket, 0),
     }
 }
 

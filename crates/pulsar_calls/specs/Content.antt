@@ -59,6 +59,7 @@ pub data Heard : Type 0 where
   Drain : (link most : ℕ) → Heard
   Ticked : (now : ℕ) → Heard
   Poll : (ticket : ℕ) → Heard
+  CountsItems : (ticket : ℕ) → Heard
 
 -- What a call ends with: where a topic is served, how many partitions it has, each of its names with where it is served; a receipt by its
 -- bytes, the tickets of messages that were sent together, and other bodies of the broker by their numbers and their bytes.
@@ -87,6 +88,7 @@ pub data Shown : Type 0 where
   Faults : (ticket : ℕ) (fault : Failure) → Shown
   FindsNothing : (ticket : ℕ) → Shown
   FindsEnd : (ticket : ℕ) → Shown
+  HasItems : (ticket count : ℕ) → Shown
 
 abbrev pub asked : Call → Asked
 asked call.Build = Build
@@ -160,6 +162,7 @@ heard (event.Lost l) = Lost l
 heard (event.Drain l most) = Drain l most
 heard (event.Tick now) = Ticked now
 heard (event.Poll ticket) = Poll ticket
+heard (event.Count ticket) = CountsItems ticket
 
 abbrev pub answered : Answer → Said
 answered answer.Done = Done
@@ -198,6 +201,7 @@ shown (effect.Ended ticket answer) = Ends ticket (said answer)
 shown (effect.Item ticket item) = hands ticket item
 shown (effect.Empty ticket) = FindsNothing ticket
 shown (effect.End ticket) = FindsEnd ticket
+shown (effect.Items ticket count) = HasItems ticket count
 
 -- so many numbers from one on
 abbrev pub numbers_from : (first count : ℕ) → List ℕ

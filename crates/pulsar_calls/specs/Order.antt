@@ -2,7 +2,7 @@
 use Rattle.std.specs.Prelude.{Bool, List, [], ◌∷◌, ℕ, ◌==◌, nat_lt, if◌then◌else◌}
 use Rattle.pulsar_calls.specs.declared.act.Notice.{Notice}
 use Rattle.pulsar_calls.specs.Who.{is_before, rank}
-use Rattle.pulsar_calls.specs.Content.{Shown, Connect, Queued, Write, Settles, Ends, Retry, Close, Hands, Faults, FindsNothing, FindsEnd}
+use Rattle.pulsar_calls.specs.Content.{Shown, Connect, Queued, Write, Settles, Ends, Retry, Close, Hands, Faults, FindsNothing, FindsEnd, HasItems}
 
 -- AMONG THOSE WHOM THE PRESENT CAUSE STILL SERVES
 
@@ -34,6 +34,7 @@ effect_rank (Hands ticket topic id size metadata payload) = (0, ticket, 0)
 effect_rank (Faults ticket fault) = (0, ticket, 0)
 effect_rank (FindsNothing ticket) = (0, ticket, 0)
 effect_rank (FindsEnd ticket) = (0, ticket, 0)
+effect_rank (HasItems ticket count) = (0, ticket, 0)
 
 abbrev pub is_before3 : ℕ × ℕ × ℕ → ℕ × ℕ × ℕ → Bool
 is_before3 a b =

@@ -441,6 +441,8 @@ pub enum Part {
     Rings(Alarm),
     /// The consumer of this ticket is polled.
     Polls(u64),
+    /// The items of the consumer of this ticket are counted.
+    Counts(u64),
 }
 
 /// One act of a run.

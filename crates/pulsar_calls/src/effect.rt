@@ -150,6 +150,11 @@ pub enum Effect {
     End {
         ticket: u64,
     },
+    /// The consumer of this ticket has so many items that it has not given.
+    Items {
+        ticket: u64,
+        count: usize,
+    },
 }
 
 impl Drop for Effect {
@@ -179,7 +184,11 @@ impl Drop for Effect {
             }
             | Effect::Item { ticket: _, item: _ }
             | Effect::Empty { ticket: _ }
-            | Effect::End { ticket: _ } => {}
+            | Effect::End { ticket: _ }
+            | Effect::Items {
+                ticket: _,
+                count: _,
+            } => {}
         }
     }
 }

@@ -105,6 +105,8 @@ pub enum Event {
     Tick(u64),
     /// The consumer that the call of this ticket made is asked for its next item.
     Poll(u64),
+    /// How many items has the consumer that the call of this ticket made not given yet?
+    Count(u64),
 }
 
 impl Call {
@@ -202,6 +204,7 @@ impl Event {
             Event::Drain(link, most) => Ok(Event::Drain(*link, *most)),
             Event::Tick(now) => Ok(Event::Tick(*now)),
             Event::Poll(ticket) => Ok(Event::Poll(*ticket)),
+            Event::Count(ticket) => Ok(Event::Count(*ticket)),
         }
     }
 }

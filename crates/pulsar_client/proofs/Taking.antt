@@ -1,7 +1,7 @@
 -- What is held of a ticket behind a step, and where its answer is taken.
 use Rattle.std.proofs.Common.{◌≡◌, ◌∙◌, ap, sym, subst, ℕ, ◌+◌, ◌<◌, ◌≤◌, ◌==◌, ◌&&◌, ◌||◌, ◌⊎◌, nat_le, nat_lt, arith, true, false, cond, List, [], ◌∷◌, refl, Option, Some, None, inl, inr}
 use Rattle.std.proofs.lemmas.Bool.{cases_Bool, eq-eqb, eqb-false, eqb-true, lt-leb, ltb-true, ne_eqb}
-use Rattle.pulsar_calls.specs.Content.{Asked, Heard, Shown, Ends, Called, Opened, FailedToOpen, Bytes, Lost, Drain, Ticked, Poll, Said, lacks_tickets, shares}
+use Rattle.pulsar_calls.specs.Content.{Asked, Heard, Shown, Ends, Called, Opened, FailedToOpen, Bytes, Lost, Drain, Ticked, Poll, CountsItems, Said, lacks_tickets, shares}
 use Rattle.pulsar_acts.specs.Run.{called_to, heard_to, tickets_in}
 use Rattle.pulsar_calls.specs.Steps.{Step}
 use Rattle.std.specs.declared.alloc.Global.{Global}
@@ -31,6 +31,7 @@ heard_more (Lost l) n = omega arith
 heard_more (Drain l most) n = omega arith
 heard_more (Ticked now) n = omega arith
 heard_more (Poll ticket) n = omega arith
+heard_more (CountsItems ticket) n = omega arith
 
 -- a ticket that was drawn stays so
 pub drawn_more : (t : ℕ) (s : Step) (h : List Step) → t < tickets_in h → t < tickets_in (s ∷ h)
@@ -86,6 +87,7 @@ dead_draws v (Lost l) n h = refl
 dead_draws v (Drain l most) n h = refl
 dead_draws v (Ticked now) n h = refl
 dead_draws v (Poll ticket) n h = refl
+dead_draws v (CountsItems ticket) n h = refl
 
 pub held_still : (ts : List ℕ) (t : ℕ) (v : View) (e : Heard) (h : List Step) → is_live v e ≡ false →
     held_but ts t h ≡ held_but ts t (record { event = e; effects = [] } ∷ h)

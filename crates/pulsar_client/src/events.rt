@@ -36,7 +36,7 @@ pub fn is_live(tables: &Tables, event: &Event) -> bool
             )
         }
         Event::Tick(now) => tables.clock <= *now,
-        Event::Poll(ticket) => tables.consumers.has(*ticket),
+        Event::Poll(ticket) | Event::Count(ticket) => tables.consumers.has(*ticket),
     }
 }
 
@@ -67,6 +67,7 @@ pub fn begins(
             with_alarms(parts, tables.alarms.ringing(now)?)
         }
         Event::Poll(ticket) => one(tables.alloc, Part::Polls(ticket)),
+        Event::Count(ticket) => one(tables.alloc, Part::Counts(ticket)),
     }
 }
 

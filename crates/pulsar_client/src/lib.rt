@@ -23,6 +23,7 @@
 //!   id acknowledges a message.
 //! - `Empty { ticket }`: the consumer has nothing yet. Poll again after a later event.
 //! - `End { ticket }`: the consumer gives nothing more. Poll no more.
+//! - `Items { ticket, count }`: so many items the consumer has not given.
 //!
 //! What to tell it:
 //!
@@ -31,6 +32,7 @@
 //!   close the connection. The requests that waited there have failed, and its consumers subscribe again over a new `Connect`.
 //! - `Tick(now)`: the time, every now and then. Deadlines, retries, keep-alive pings and batch timeouts come by ticks alone.
 //! - `Poll(ticket)`: asks a consumer for its next item. No item comes unasked.
+//! - `Count(ticket)`: asks how many items a consumer has not given.
 //!
 //! The first call is `Call::Build`; other calls are refused until it has ended with Ok. The last is `Call::Stop`, which closes every
 //! link; items that came before can still be polled.

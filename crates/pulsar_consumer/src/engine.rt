@@ -118,6 +118,13 @@ impl ConsumerEngine {
         }
     }
 
+    /// How many items are unread.
+    pub(crate) fn count(&self) -> usize
+        ensures { result ≡ length self.now.unread }
+    {
+        self.unread.len()
+    }
+
     /// A flow is to be asked for.
     pub(crate) fn is_due(&self) -> bool
         ensures { result ≡ is_some (meaning.first_due self.now.live) }

@@ -282,6 +282,13 @@ impl TopicConsumer {
         }
     }
 
+    /// How many items it has not given.
+    pub fn count(&self) -> usize
+        ensures { result ≡ length self.now.engine.unread }
+    {
+        self.engine.count()
+    }
+
     /// A flow is to be asked for.
     pub fn is_due(&self) -> bool
         ensures { result ≡ is_due self.now }

@@ -1,5 +1,5 @@
 -- The consumers of a client: what is seen of them, and what becomes of that.  (Pulsar binary protocol, Consumer)
-use Rattle.std.specs.Prelude.{ℕ, zero, suc, ◌+◌, ◌-◌, ◌^◌, ◌==◌, ◌≡◌, ◌&&◌, ◌||◌, not, Bool, true, false, if◌then◌else◌, List, [], ◌∷◌, ◌++◌, Option, Some, None}
+use Rattle.std.specs.Prelude.{ℕ, zero, suc, ◌+◌, ◌-◌, ◌^◌, ◌==◌, ◌≡◌, ◌&&◌, ◌||◌, not, Bool, true, false, if◌then◌else◌, List, [], ◌∷◌, ◌++◌, Option, Some, None, length}
 use Rattle.std.specs.BTreeMap.{insert_entry, is_at}
 use Rattle.std.specs.BTreeSet.{insert_key}
 use Rattle.std.specs.List.{flat_map, list_any}
@@ -35,7 +35,7 @@ use Rattle.pulsar_consumer_table.specs.declared.numbers.Numbering.TheVariants.{H
 use Rattle.pulsar_consumer_table.specs.declared.row.LinkAnswer.{LinkAnswer}
 use Rattle.pulsar_consumer_table.specs.declared.row.LinkAnswer.TheVariants.{Found, Gone, Later}
 use Rattle.pulsar_calls.specs.Content as content
-use Rattle.pulsar_calls.specs.Content.{Asked, Shown, Hands, Faults, FindsNothing, FindsEnd}
+use Rattle.pulsar_calls.specs.Content.{Asked, Shown, Hands, Faults, FindsNothing, FindsEnd, HasItems}
 
 -- A consumer: what is seen of it, and those who wait until it is subscribed again.
 pub record Member : Type 0 where
@@ -273,6 +273,10 @@ polled_so t name poll.End = FindsEnd t
 
 abbrev pub polled : (ticket : ℕ) → Member → Shown
 polled t m = polled_so t m.seen.topic (topic.polled m.seen)
+
+-- how many items it has not given
+abbrev pub counted : (ticket : ℕ) → Member → Shown
+counted t m = HasItems t (length m.seen.engine.unread)
 
 -- THEIR NUMBERS. A number is in use from the place where a build gets it, or where a raw consumer is made, until the consumer has ended.
 

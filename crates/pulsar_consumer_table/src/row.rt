@@ -4,7 +4,7 @@ ghost use Rattle.std.specs.Prelude.{◌≡◌, [], ◌&&◌, ◌==◌, not, IfOk
 ghost use Rattle.pulsar_calls.specs.Content.{shown};
 ghost use Rattle.pulsar_consumer.specs.Topic.{Asks, Ends, Hears, Loses, Polls, is_due as is_flow_due, is_ended, lives_on, resubscribes};
 ghost use Rattle.pulsar_consumer.specs.Frames.{frame_in};
-ghost use Rattle.pulsar_consumer_table.specs.Consumers.{ends_on, failed, flow_at, hears_frame, member_after, polled, polled_item, polled_so, revived, seeks, sought, stopped, subscribed_on, unsought, who_of, word_if, word_of_frame};
+ghost use Rattle.pulsar_consumer_table.specs.Consumers.{ends_on, failed, flow_at, hears_frame, member_after, polled, counted, polled_item, polled_so, revived, seeks, sought, stopped, subscribed_on, unsought, who_of, word_if, word_of_frame};
 ghost use Rattle.pulsar_consumer_table.specs.KeptConsumers.{is_known, member_in};
 
 use pulsar_addresses::content::Refusal;
@@ -244,6 +244,16 @@ impl ConsumerRow {
     {
         let found = self.consumer.inner.poll(clock)?;
         effect_of(alloc, ticket, self.consumer.inner.topic(), found)
+    }
+
+    /// How many items it has not given.
+    pub fn count(&self, ticket: u64) -> Effect
+        ensures { shown result ≡ counted ticket (member_in self.now) }
+    {
+        Effect::Items {
+            ticket,
+            count: self.consumer.inner.count(),
+        }
     }
 }
 

@@ -10,7 +10,7 @@ ghost use Rattle.pulsar_calls.specs.Content.{shown};
 ghost use Rattle.pulsar_calls.specs.declared.act.Word.{Word};
 ghost use Rattle.pulsar_consumer.specs.Topic.{Asks, Loses, Polls, resubscribes};
 ghost use Rattle.pulsar_consumer_table.specs.Consumers as meaning;
-ghost use Rattle.pulsar_consumer_table.specs.Consumers.{IsHeard, all_changed, changed, closes, hears, is_ended_at, is_in_use, is_passed, joined, link_at, member_after, names_in, next_free, none, number_at, numbered, numbering, over_rows, polled, some_row, sought, why_not};
+ghost use Rattle.pulsar_consumer_table.specs.Consumers.{IsHeard, all_changed, changed, closes, hears, is_ended_at, is_in_use, is_passed, joined, link_at, member_after, names_in, next_free, none, number_at, numbered, numbering, over_rows, polled, counted, some_row, sought, why_not};
 ghost use Rattle.pulsar_consumer_table.specs.KeptConsumers.{AreHeard, AreListed, consumers_in, member_in, rows_in};
 ghost use Rattle.pulsar_consumer_table.specs.Notices.{again_at, heard_at, polled_due, revived_at, stopped_seekers, word_to};
 
@@ -135,6 +135,14 @@ impl Consumers {
         let given = poll_at(self.alloc, &mut self.rows, ticket, clock)?;
         self.failed = false;
         Ok(given)
+    }
+
+    /// How many items a consumer has not given, if there is one.
+    pub fn count(&self, ticket: u64) -> Option<Effect>
+        ensures { option_map shown result ≡ option_map (counted ticket) ((consumers_in self.now.rows self.now.numbers).rows ticket) }
+    {
+        let row = self.rows.get(&ticket)?;
+        Some(row.count(ticket))
     }
 
     /// A live subscription is on this link. It takes no memory.

@@ -4,7 +4,7 @@ use Rattle.std.specs.List.{slice_split}
 use Rattle.std.specs.Str.{bytes_eq}
 use Rattle.pulsar_wire.specs.Field.{◌>>=◌}
 use Rattle.pulsar_messages.specs.Content.{AuthenticationValues}
-use Rattle.pulsar_calls.specs.Content.{Asked, Build, Stop, Topics, Lookup, Partitions, Brokers, Producer, Send, SendAll, Flush, CheckProducer, CloseProducer, Consumer, Ack, Nack, CloseConsumer, Raw, Heard, Called, Opened, FailedToOpen, Bytes, Lost, Drain, Ticked, Poll}
+use Rattle.pulsar_calls.specs.Content.{Asked, Build, Stop, Topics, Lookup, Partitions, Brokers, Producer, Send, SendAll, Flush, CheckProducer, CloseProducer, Consumer, Ack, Nack, CloseConsumer, Raw, Heard, Called, Opened, FailedToOpen, Bytes, Lost, Drain, Ticked, Poll, CountsItems}
 use Rattle.pulsar_grammar.specs.Words.{words, number, text, hex}
 use Rattle.pulsar_grammar.specs.Choices.{kind, mode}
 use Rattle.pulsar_grammar.specs.ConsumerWords.{consumer}
@@ -199,6 +199,11 @@ abbrev pub poll : List (List ℕ) → Option Heard
 poll (t ∷ []) = number t >>= λ ticket. Some (Poll ticket)
 poll _ = None
 
+-- count TICKET
+abbrev pub count : List (List ℕ) → Option Heard
+count (t ∷ []) = number t >>= λ ticket. Some (CountsItems ticket)
+count _ = None
+
 -- an event line
 abbrev pub event : List (List ℕ) → Option Heard
 event [] = None
@@ -211,6 +216,7 @@ event (w ∷ ws) =
     else if bytes_eq w (codes "drain") then drain ws
     else if bytes_eq w (codes "tick") then tick ws
     else if bytes_eq w (codes "poll") then poll ws
+    else if bytes_eq w (codes "count") then count ws
     else None
 
 -- An option of the client: the URL of the service, the credential, how many frames of a connection may be queued and not written;

@@ -3,7 +3,7 @@
 ghost use Rattle.std.specs.Prelude.{◌≡◌, IfOk, map, string_bytes};
 ghost use Rattle.std.specs.Option.{option_map};
 ghost use Rattle.pulsar_calls.specs.Content.{asked, heard};
-ghost use Rattle.pulsar_grammar.specs.Grammar.{ack, brokers, build, builds, bytes, call, called, check_producer, close, close_producer, consumer_call, consumes, drain, event, failed, flush, line, lookup, lost, member_call, nack, on_link, opened, partitions, poll, send, send_all, stop, tick, ticket, topic, topics, words_line};
+ghost use Rattle.pulsar_grammar.specs.Grammar.{ack, brokers, build, builds, bytes, call, called, check_producer, close, close_producer, consumer_call, consumes, drain, event, failed, flush, line, lookup, lost, member_call, nack, on_link, opened, partitions, poll, count, send, send_all, stop, tick, ticket, topic, topics, words_line};
 ghost use Rattle.pulsar_grammar.specs.Parsed.{line_of};
 
 use crate::choice::{kind, mode};
@@ -82,6 +82,8 @@ fn event(alloc: Global, words: &[&[u8]]) -> Result<Option<Event>, NoMemory>
         Ok(tick(rest))
     } else if is(word, "poll") {
         Ok(poll(rest))
+    } else if is(word, "count") {
+        Ok(count(rest))
     } else {
         Ok(None)
     }
@@ -175,6 +177,16 @@ fn poll(words: &[&[u8]]) -> Option<Event>
         return None;
     };
     Some(Event::Poll(number(ticket)?))
+}
+
+/// `count TICKET`
+fn count(words: &[&[u8]]) -> Option<Event>
+    ensures { option_map heard result ≡ count (map (λ w. w.now) words.now) }
+{
+    let [ticket] = words else {
+        return None;
+    };
+    Some(Event::Count(number(ticket)?))
 }
 
 /// What stands behind `call`.

@@ -71,7 +71,7 @@ fn treat(
             }
             Effect::Ended { ticket, answer } => drop(println!(rt; "call {ticket}: {answer:?}")),
             Effect::Close { .. } | Effect::Retry { .. } | Effect::Settled { .. } => {}
-            Effect::Empty { .. } | Effect::End { .. } => {}
+            Effect::Empty { .. } | Effect::End { .. } | Effect::Items { .. } => {}
         }
     }
     Ok(())

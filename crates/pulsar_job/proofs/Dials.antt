@@ -5,7 +5,7 @@ use Rattle.std.specs.List.{flat_map, list_any}
 use Rattle.std.proofs.lemmas.Bool.{eqb-true}
 use Rattle.std.proofs.lemmas.Grind.{flat_map-append}
 use Rattle.std.proofs.lemmas.List.Folds.{list_any-append}
-use Rattle.pulsar_calls.specs.Content.{Heard, Called, Opened, FailedToOpen, Bytes, Lost, Drain, Ticked, Poll, Shown, Connect, Queued, Write, Retry, Close, Settles, Ends, Hands, Faults, FindsNothing, FindsEnd}
+use Rattle.pulsar_calls.specs.Content.{Heard, Called, Opened, FailedToOpen, Bytes, Lost, Drain, Ticked, Poll, CountsItems, Shown, Connect, Queued, Write, Retry, Close, Settles, Ends, Hands, Faults, FindsNothing, FindsEnd, HasItems}
 use Rattle.pulsar_calls.specs.Steps.{Step}
 use Rattle.pulsar_pumps.specs.Made.{Made}
 use Rattle.pulsar_pumps.specs.Outside.{later_of}
@@ -25,6 +25,7 @@ dialed-same (Hands ticket topic id batch_size metadata payload) = refl
 dialed-same (Faults ticket fault) = refl
 dialed-same (FindsNothing ticket) = refl
 dialed-same (FindsEnd ticket) = refl
+dialed-same (HasItems ticket count) = refl
 
 wants-same : (xs : List Shown) → flat_map dialed_for xs ≡ wanted_in xs
 wants-same [] = refl
@@ -142,6 +143,7 @@ serves-quiet l (Opened k) h = refl
 serves-quiet l (FailedToOpen k why) h = refl
 serves-quiet l (Ticked now) h = absurd cc
 serves-quiet l (Poll ticket) h = refl
+serves-quiet l (CountsItems ticket) h = refl
 
 pub dialing-grown : (late : Bool) (l : ℕ) (ms : List Made) (h : List Step) (ls : List ℕ) → Serves l ms → Dialing late h ls → Dialing late (grown ms h) (ls ++ wanted_in (effects_made ms))
 dialing-grown late l [] h ls s d = subst (Dialing late h) (sym (append-nil ls)) d

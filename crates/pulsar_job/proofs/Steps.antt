@@ -4,7 +4,7 @@ use Rattle.std.specs.Prelude.{if◌then◌else◌}
 use Rattle.std.specs.List.{flat_map}
 use Rattle.std.proofs.lemmas.Bool.{eq-eqb, eqb-true}
 use Rattle.pulsar_wire.specs.declared.error.IoKind.{IoKind}
-use Rattle.pulsar_calls.specs.Content.{Heard, Called, Opened, FailedToOpen, Bytes, Lost, Drain, Ticked, Poll, Shown, Connect, Queued, Write, Retry, Close, Settles, Ends, Hands, Faults, FindsNothing, FindsEnd}
+use Rattle.pulsar_calls.specs.Content.{Heard, Called, Opened, FailedToOpen, Bytes, Lost, Drain, Ticked, Poll, CountsItems, Shown, Connect, Queued, Write, Retry, Close, Settles, Ends, Hands, Faults, FindsNothing, FindsEnd, HasItems}
 use Rattle.pulsar_calls.specs.Steps.{Step}
 use Rattle.pulsar_pumps.specs.Made as made
 use Rattle.pulsar_pumps.specs.Made.{Made, lost_in, pieces, written}
@@ -33,6 +33,7 @@ piece-at l (Opened k) h = refl
 piece-at l (FailedToOpen k why) h = refl
 piece-at l (Ticked now) h = refl
 piece-at l (Poll ticket) h = refl
+piece-at l (CountsItems ticket) h = refl
 
 bytes-same : (x : Shown) → bytes_of x ≡ made.bytes_of (made.write_of x)
 bytes-same (Connect l host port) = refl
@@ -46,6 +47,7 @@ bytes-same (Hands ticket topic id batch_size metadata payload) = refl
 bytes-same (Faults ticket fault) = refl
 bytes-same (FindsNothing ticket) = refl
 bytes-same (FindsEnd ticket) = refl
+bytes-same (HasItems ticket count) = refl
 
 all-bytes : (xs : List Shown) → flat_map bytes_of xs ≡ made.bytes_in xs
 all-bytes [] = refl
@@ -60,6 +62,7 @@ written-if l (Opened k) xs h = refl
 written-if l (FailedToOpen k why) xs h = refl
 written-if l (Ticked now) xs h = refl
 written-if l (Poll ticket) xs h = refl
+written-if l (CountsItems ticket) xs h = refl
 
 pub written-at : (l : ℕ) (m : Made) → serves l m.event ≡ true → written_in l (step_made m) ≡ made.drained m.event m.effects
 written-at l m h = written-if l m.event m.effects h
@@ -73,6 +76,7 @@ lost-at l (Opened k) h = refl
 lost-at l (FailedToOpen k why) h = refl
 lost-at l (Ticked now) h = refl
 lost-at l (Poll ticket) h = refl
+lost-at l (CountsItems ticket) h = refl
 
 -- AT ANOTHER LINK, WHERE IT IS AN EVENT OF NO LINK OR OF ITS OWN
 
@@ -89,6 +93,7 @@ serves-past l k (Opened j) h not = Past refl refl refl
 serves-past l k (FailedToOpen j why) h not = Past refl refl refl
 serves-past l k (Ticked now) h not = Past refl refl refl
 serves-past l k (Poll ticket) h not = Past refl refl refl
+serves-past l k (CountsItems ticket) h not = Past refl refl refl
 
 -- an event of no link: nothing comes on a link, nothing is written to it, and none is lost
 abbrev pub is_apart : Heard → Bool
@@ -97,6 +102,7 @@ is_apart (Opened k) = true
 is_apart (FailedToOpen k why) = true
 is_apart (Ticked now) = true
 is_apart (Poll ticket) = true
+is_apart (CountsItems ticket) = true
 is_apart _ = false
 
 pub apart-past : (k : ℕ) (e : Heard) → is_apart e ≡ true → Passes k e
@@ -105,6 +111,7 @@ apart-past k (Opened j) h = Past refl refl refl
 apart-past k (FailedToOpen j why) h = Past refl refl refl
 apart-past k (Ticked now) h = Past refl refl refl
 apart-past k (Poll ticket) h = Past refl refl refl
+apart-past k (CountsItems ticket) h = Past refl refl refl
 apart-past k (Bytes j piece) h = absurd cc
 apart-past k (Lost j) h = absurd cc
 apart-past k (Drain j most) h = absurd cc
@@ -186,6 +193,7 @@ uses-served l k (Opened j) s u = absurd cc
 uses-served l k (FailedToOpen j why) s u = absurd cc
 uses-served l k (Ticked now) s u = absurd cc
 uses-served l k (Poll ticket) s u = absurd cc
+uses-served l k (CountsItems ticket) s u = absurd cc
 
 pub grown-used : (l k : ℕ) (ms : List Made) (h : List Step) → Serves l ms → is_used k (grown ms h) ≡ true → ((l == k) ≡ true) ⊎ (is_used k h ≡ true)
 grown-used l k [] h s u = inr u
@@ -219,6 +227,7 @@ unused-past k (Opened j) u = Past refl refl refl
 unused-past k (FailedToOpen j why) u = Past refl refl refl
 unused-past k (Ticked now) u = Past refl refl refl
 unused-past k (Poll ticket) u = Past refl refl refl
+unused-past k (CountsItems ticket) u = Past refl refl refl
 
 pub unused-heard : (k : ℕ) (h : List Step) → is_used k h ≡ false → heard_on k h ≡ []
 unused-heard k [] u = refl
@@ -246,6 +255,7 @@ serves-call l (Opened k) h = refl
 serves-call l (FailedToOpen k why) h = refl
 serves-call l (Ticked now) h = refl
 serves-call l (Poll ticket) h = refl
+serves-call l (CountsItems ticket) h = refl
 
 pub quiet-calls : (s : Step) (h : List Step) → call_of s.event ≡ [] → calls (s ∷ h) ≡ calls h
 quiet-calls s h none = ap (λ x. calls h ++ x) none ∙ append-nil (calls h)
@@ -267,6 +277,7 @@ no-failure l k (Opened j) h = refl
 no-failure l k (FailedToOpen j why) h = absurd cc
 no-failure l k (Ticked now) h = refl
 no-failure l k (Poll ticket) h = refl
+no-failure l k (CountsItems ticket) h = refl
 
 pub none-more : (n k : ℕ) → k ≡ 0 → n + k ≡ n
 none-more n k e = omega (arith, e)

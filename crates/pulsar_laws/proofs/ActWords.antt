@@ -20,7 +20,7 @@ pub use Rattle.pulsar_calls.specs.declared.act.Makes.TheVariants.{Nothing}
 pub use Rattle.pulsar_calls.specs.declared.act.Notice.{Notice}
 pub use Rattle.pulsar_calls.specs.declared.act.Outcome.{Outcome}
 pub use Rattle.pulsar_calls.specs.declared.act.Part.{Part}
-pub use Rattle.pulsar_calls.specs.declared.act.Part.TheVariants.{Calls, Polls, Rings, ToLink}
+pub use Rattle.pulsar_calls.specs.declared.act.Part.TheVariants.{Calls, Counts, Polls, Rings, ToLink}
 pub use Rattle.pulsar_calls.specs.declared.act.Place.TheVariants.{Link}
 pub use Rattle.pulsar_calls.specs.declared.act.Procedure.{Procedure}
 pub use Rattle.pulsar_calls.specs.declared.act.CallRefusal.{CallRefusal}

@@ -46,7 +46,7 @@ use Rattle.pulsar_calls.specs.declared.act.Share.{Share}
 use Rattle.pulsar_calls.specs.declared.act.Notice.{Notice}
 use Rattle.pulsar_calls.specs.declared.act.Outcome.{Outcome}
 use Rattle.pulsar_calls.specs.declared.act.Part.{Part}
-use Rattle.pulsar_calls.specs.declared.act.Part.TheVariants.{Calls, ToLink, Rings, Polls}
+use Rattle.pulsar_calls.specs.declared.act.Part.TheVariants.{Calls, ToLink, Rings, Polls, Counts}
 use Rattle.pulsar_calls.specs.declared.act.Procedure.{Procedure}
 use Rattle.pulsar_calls.specs.declared.act.CallRefusal.{CallRefusal}
 use Rattle.pulsar_calls.specs.declared.act.Says.{Says}
@@ -652,6 +652,7 @@ part_rank (Rings (KeepAlive l)) = (4, 0, l)
 part_rank (Rings CheckIdle) = (5, 0, 0)
 part_rank (Calls asked advice) = (6, 0, 0)
 part_rank (Polls ticket) = (6, 0, ticket)
+part_rank (Counts ticket) = (6, 0, ticket)
 
 abbrev pub part_below : Part → Part → Bool
 part_below a b = is_before3 (part_rank a) (part_rank b)

@@ -4,7 +4,7 @@ use Rattle.std.specs.List.{flat_map}
 use Rattle.std.specs.Fmt.{decimal}
 use Rattle.pulsar_calls.specs.declared.effect.Settlement.{Settlement}
 use Rattle.pulsar_calls.specs.declared.effect.Settlement.TheVariants as settlement
-use Rattle.pulsar_calls.specs.Content.{Said, Done, Names, Address, Count, Addresses, Receipt, Sends, Replies, Failed, Shown, Connect, Queued, Write, Retry, Close, Settles, Ends, Hands, Faults, FindsNothing, FindsEnd}
+use Rattle.pulsar_calls.specs.Content.{Said, Done, Names, Address, Count, Addresses, Receipt, Sends, Replies, Failed, Shown, Connect, Queued, Write, Retry, Close, Settles, Ends, Hands, Faults, FindsNothing, FindsEnd, HasItems}
 use Rattle.url.specs.Parts.{serialize}
 use Rattle.pulsar_addresses.specs.Address.{Named, Place}
 use Rattle.pulsar_printing.specs.WordText.{hex, word}
@@ -49,6 +49,7 @@ effect (Hands ticket topic id batch_size metadata payload) =
 effect (Faults ticket fault) = codes "fault " ++ decimal ticket ++ codes " " ++ failure fault
 effect (FindsNothing ticket) = codes "empty " ++ decimal ticket
 effect (FindsEnd ticket) = codes "end " ++ decimal ticket
+effect (HasItems ticket count) = codes "items " ++ decimal ticket ++ codes " " ++ decimal count
 
 -- a line ends with a line feed
 abbrev pub line : List ℕ → List ℕ

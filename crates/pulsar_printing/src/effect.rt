@@ -49,6 +49,7 @@ fn push_effect(out: &mut String, effect: &Effect) -> Result<(), AllocError>
         Effect::Item { ticket, item } => push_item(out, *ticket, item)?,
         Effect::Empty { ticket } => write!(out, "empty {ticket}")?,
         Effect::End { ticket } => write!(out, "end {ticket}")?,
+        Effect::Items { ticket, count } => write!(out, "items {ticket} {count}")?,
     }
     Ok(())
 }

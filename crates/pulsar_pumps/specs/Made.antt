@@ -1,7 +1,7 @@
 -- What a submitter is told, and what is made of it: events with their receipts.
 use Rattle.std.specs.Prelude.{◌≡◌, ℕ, ◌++◌, Bool, true, false, ◌||◌, List, [], ◌∷◌, map, Option, Some, None}
 use Rattle.pulsar_calls.specs.declared.event.Event.{Event}
-use Rattle.pulsar_calls.specs.Content.{Heard, Called, Opened, FailedToOpen, Bytes, Lost, Drain, Ticked, Poll, heard, Shown, Connect, Queued, Write, Retry, Close, Settles, Ends, Hands, Faults, FindsNothing, FindsEnd, shown}
+use Rattle.pulsar_calls.specs.Content.{Heard, Called, Opened, FailedToOpen, Bytes, Lost, Drain, Ticked, Poll, CountsItems, heard, Shown, Connect, Queued, Write, Retry, Close, Settles, Ends, Hands, Faults, FindsNothing, FindsEnd, HasItems, shown}
 use Rattle.pulsar_pumps.specs.declared.submitter.Receipt.{Receipt}
 
 -- an event that was answered Ok, with its effects and its place in the trace
@@ -33,6 +33,7 @@ of_link (Lost l) = WasLost l
 of_link (Drain l most) = MayWrite l
 of_link (Ticked now) = NoLink
 of_link (Poll ticket) = NoLink
+of_link (CountsItems ticket) = NoLink
 
 -- its link
 abbrev pub number_of : OfLink → Option ℕ
@@ -93,6 +94,7 @@ write_of (Hands ticket topic id batch_size metadata payload) = None
 write_of (Faults ticket fault) = None
 write_of (FindsNothing ticket) = None
 write_of (FindsEnd ticket) = None
+write_of (HasItems ticket count) = None
 
 abbrev pub bytes_of : Option (List ℕ) → List ℕ
 bytes_of (Some bytes) = bytes

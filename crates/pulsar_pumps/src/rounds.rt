@@ -207,7 +207,8 @@ fn to_write(effect: &Effect) -> Option<&[u8]>
         | Effect::Ended { .. }
         | Effect::Item { .. }
         | Effect::Empty { .. }
-        | Effect::End { .. } => None,
+        | Effect::End { .. }
+        | Effect::Items { .. } => None,
     }
 }
 

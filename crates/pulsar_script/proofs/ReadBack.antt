@@ -14,7 +14,7 @@ use Rattle.pulsar_messages.specs.Content.{ProducerMessageValues}
 use Rattle.pulsar_messages.specs.Words.{Words}
 use Rattle.pulsar_incoming.specs.Content.{ConsumerWanted}
 use Rattle.pulsar_outgoing.specs.Wanted.{ProducerWanted}
-use Rattle.pulsar_calls.specs.Content.{Asked, Build, Stop, Topics, Lookup, Partitions, Brokers, Producer, Send, SendAll, Flush, CheckProducer, CloseProducer, Consumer, Ack, Nack, CloseConsumer, Raw, Heard, Called, Opened, FailedToOpen, Bytes, Lost, Drain, Ticked, Poll}
+use Rattle.pulsar_calls.specs.Content.{Asked, Build, Stop, Topics, Lookup, Partitions, Brokers, Producer, Send, SendAll, Flush, CheckProducer, CloseProducer, Consumer, Ack, Nack, CloseConsumer, Raw, Heard, Called, Opened, FailedToOpen, Bytes, Lost, Drain, Ticked, Poll, CountsItems}
 use Rattle.pulsar_grammar.specs.Words.{words}
 use Rattle.pulsar_printing.specs.WordText.{word}
 use Rattle.pulsar_grammar.specs.Choices.{kind as kind_in}
@@ -145,6 +145,8 @@ reads-back (Ticked now) can =
     ap (λ (ws : List (List ℕ)). words_line ws) (one-number (codes "tick") now can) ∙ rw (number-decimal now can) refl
 reads-back (Poll ticket) can =
     ap (λ (ws : List (List ℕ)). words_line ws) (one-number (codes "poll") ticket can) ∙ rw (number-decimal ticket can) refl
+reads-back (CountsItems ticket) can =
+    ap (λ (ws : List (List ℕ)). words_line ws) (one-number (codes "count") ticket can) ∙ rw (number-decimal ticket can) refl
 
 -- the word of a credential
 auth-within : IsWithinWord (codes "auth")

@@ -5,7 +5,7 @@ use Rattle.std.specs.List.{AllByRecursion}
 use Rattle.hex.specs.Hex.{IsBytes, encode_lower}
 use Rattle.pulsar_wire.specs.Row.{Values}
 use Rattle.pulsar_wire.specs.Rows.{message_id}
-use Rattle.pulsar_calls.specs.Content.{Asked, Build, Stop, Topics, Lookup, Partitions, Brokers, Producer, Send, SendAll, Flush, CheckProducer, CloseProducer, Consumer, Ack, Nack, CloseConsumer, Raw, Heard, Called, Opened, FailedToOpen, Bytes, Lost, Drain, Ticked, Poll}
+use Rattle.pulsar_calls.specs.Content.{Asked, Build, Stop, Topics, Lookup, Partitions, Brokers, Producer, Send, SendAll, Flush, CheckProducer, CloseProducer, Consumer, Ack, Nack, CloseConsumer, Raw, Heard, Called, Opened, FailedToOpen, Bytes, Lost, Drain, Ticked, Poll, CountsItems}
 use Rattle.pulsar_grammar.specs.Grammar.{Setting, Url, Auth, Outbound, Timeout, RetryDelay, OpRetries, Retries, MinBackoff, MaxBackoff, ConnectionTimeout, KeepAlive, MaxIdle, Seed, First, Now, Sets, Happens, line}
 use Rattle.pulsar_printing.specs.ErrorText.{io_kind}
 use Rattle.pulsar_printing.specs.WordText.{word}
@@ -50,6 +50,7 @@ written (Lost l) = codes "lost " ++ decimal l
 written (Drain l most) = codes "drain " ++ decimal l ++ 32 ∷ decimal most
 written (Ticked now) = codes "tick " ++ decimal now
 written (Poll ticket) = codes "poll " ++ decimal ticket
+written (CountsItems ticket) = codes "count " ++ decimal ticket
 
 -- An event has a line where its numbers have 64 bits, its text is UTF-8, it has a byte at least, and what is asked of one connection, of a
 -- producer, of a consumer or for their messages can be said in words.
@@ -81,6 +82,7 @@ CanBeWritten (Lost l) = IsNumber l
 CanBeWritten (Drain l most) = IsNumber l × IsNumber most
 CanBeWritten (Ticked now) = IsNumber now
 CanBeWritten (Poll ticket) = IsNumber ticket
+CanBeWritten (CountsItems ticket) = IsNumber ticket
 
 abbrev pub written_setting : Setting → List ℕ
 written_setting (Url text) = codes "set url " ++ word text

@@ -55,6 +55,10 @@ pub fn copy_effect(alloc: Global, effect: &Effect) -> Result<Effect, NoMemory>
         }),
         Effect::Empty { ticket } => Ok(Effect::Empty { ticket: *ticket }),
         Effect::End { ticket } => Ok(Effect::End { ticket: *ticket }),
+        Effect::Items { ticket, count } => Ok(Effect::Items {
+            ticket: *ticket,
+            count: *count,
+        }),
     }
 }
 
@@ -144,6 +148,6 @@ fn is_news(event: &Event) -> bool
         Event::Lost(_) => true,
         Event::Drain(_, _) => false,
         Event::Tick(_) => true,
-        Event::Poll(_) => true,
+        Event::Poll(_) | Event::Count(_) => true,
     }
 }

@@ -14,7 +14,7 @@ use Rattle.std.proofs.lemmas.Grind.{flat_map-append}
 use Rattle.std.proofs.lemmas.List.{map-append}
 use Rattle.std.proofs.lemmas.List.Folds.{list_any-append}
 use Rattle.pulsar_wire.specs.Failures.{Failure}
-use Rattle.pulsar_calls.specs.Content.{Asked, Ack, Shown, Connect, Queued, Write, Retry, Close, Settles, Ends, Hands, Faults, FindsNothing, FindsEnd, Said, Done, Names, Address, Count, Addresses, Receipt, Sends, Replies, Failed, answered, shown}
+use Rattle.pulsar_calls.specs.Content.{Asked, Ack, Shown, Connect, Queued, Write, Retry, Close, Settles, Ends, Hands, Faults, FindsNothing, FindsEnd, HasItems, Said, Done, Names, Address, Count, Addresses, Receipt, Sends, Replies, Failed, answered, shown}
 use Rattle.pulsar_calls.specs.declared.effect.Answer.{Answer}
 use Rattle.pulsar_calls.specs.declared.effect.Answer.TheVariants as answer
 use Rattle.pulsar_work.specs.Calls.{ack_of, ends_well, has_ended_well, is_end, is_failure, is_over, item_of, items_of}
@@ -103,6 +103,7 @@ error-ends t (Hands ticket topic id batch_size metadata payload) f h = refl
 error-ends t (Faults ticket fault) f h = refl
 error-ends t (FindsNothing ticket) f h = refl
 error-ends t (FindsEnd ticket) f h = refl
+error-ends t (HasItems ticket count) f h = refl
 
 item-ends : (t : ℕ) (x : Shown) → item_of x ≡ x ∷ [] → ends_well t x ≡ false
 item-ends t (Ends u said) h = absurd cc
@@ -116,6 +117,7 @@ item-ends t (Hands ticket topic id batch_size metadata payload) h = refl
 item-ends t (Faults ticket fault) h = refl
 item-ends t (FindsNothing ticket) h = refl
 item-ends t (FindsEnd ticket) h = refl
+item-ends t (HasItems ticket count) h = refl
 
 -- an effect that is no error and no item
 pub grows : (p q : Progress) (es : List Shown) (acked : List Asked) (x : Shown) → ((t : ℕ) → ends_well t x ≡ false) → Same p q → error_of x ≡ [] → item_of x ≡ [] → ack_of x ≡ []

@@ -105,7 +105,8 @@ fn push_effect(out: &mut String, effect: &Effect) -> Result<u64, NoMemory>
         | Effect::Close { .. }
         | Effect::Settled { .. }
         | Effect::Empty { .. }
-        | Effect::End { .. } => Ok(0),
+        | Effect::End { .. }
+        | Effect::Items { .. } => Ok(0),
     }
 }
 
@@ -210,6 +211,7 @@ fn error_in(effect: &Effect) -> Option<&Error>
         | Effect::Close { .. }
         | Effect::Settled { .. }
         | Effect::Empty { .. }
-        | Effect::End { .. } => None,
+        | Effect::End { .. }
+        | Effect::Items { .. } => None,
     }
 }

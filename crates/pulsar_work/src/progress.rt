@@ -207,6 +207,10 @@ impl Progress {
             } => Ok(()),
             Effect::Write { link: _, bytes: _ } => Ok(()),
             Effect::Retry { link: _, delay: _ } => Ok(()),
+            Effect::Items {
+                ticket: _,
+                count: _,
+            } => Ok(()),
             Effect::Close { link: _ } => Ok(()),
             Effect::Settled {
                 link: _,

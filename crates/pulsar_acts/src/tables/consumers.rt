@@ -61,6 +61,16 @@ impl Tables {
         join_some(notice, tasks)
     }
 
+    /// The items of a consumer are counted.
+    pub(super) fn counts(&self, ticket: u64, out: &mut Vec<Effect>) -> Result<(), NoMemory>
+        ensures { OnOk result (map shown out.new.items ≡ map shown out.old.items ++ effects (view_of self.now) (Act.Comes (Part.Counts ticket))) }
+    {
+        match self.consumers.count(ticket) {
+            Some(effect) => show(effect, out),
+            None => Ok(()),
+        }
+    }
+
     /// A consumer is to be built.
     pub(super) fn subscribes(&self, builder: ConsumerBuilder) -> Result<Procedure, NoMemory>
         ensures { IfOk result (λ p. p ≡ subscribes (chosen_of self.now.settings) self.now.tickets (consumer_wanted builder)) }

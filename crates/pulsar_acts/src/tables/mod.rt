@@ -113,6 +113,7 @@ impl Tables {
             Act::Comes(Part::ToLink { link, act }) => self.to_link(link, act, tasks, out),
             Act::Comes(Part::Rings(alarm)) => self.rings(alarm, tasks),
             Act::Comes(Part::Polls(ticket)) => self.polls(ticket, tasks, out),
+            Act::Comes(Part::Counts(ticket)) => self.counts(ticket, out),
             Act::Starts { who, procedure } => self.starts(who, procedure, tasks),
             Act::Told(Notice { who, outcome }) => self.told(who, outcome, tasks),
             Act::Does { who, action } => self.does(who, action, tasks, out),

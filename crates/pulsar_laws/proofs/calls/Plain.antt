@@ -6,6 +6,8 @@ use Rattle.pulsar_laws.proofs.LinkWords.{Pause}
 use Rattle.pulsar_calls.specs.declared.act.Part.TheVariants as part
 use Rattle.pulsar_links.specs.Address.{leads_to}
 use Rattle.pulsar_calls.specs.Content.{Write, Hands, Faults}
+use Rattle.std.specs.Option.{option_map, option_to_list}
+use Rattle.pulsar_consumer_table.specs.Consumers.{counted}
 use Rattle.pulsar_acts.specs.Effects.{effects, ends, retries, retries_on}
 use Rattle.pulsar_links.specs.LinkEffects.{connects_to}
 
@@ -47,6 +49,7 @@ is_loud _ = false
 pub effects_plain : (v : View) (a : Act) → is_loud a ≡ false → ArePlain (effects v a)
 effects_plain v (Comes (part.ToLink l x)) h = absurd cc
 effects_plain v (Comes (part.Polls t)) h = absurd cc
+effects_plain v (Comes (part.Counts t)) h = elim (v.consumers.rows t) as (λ row. ArePlain (option_to_list (option_map (counted t) row))) [ None ↦ tt | Some m ↦ (refl, tt) ]
 effects_plain v (Does who (Ask l request)) h = absurd cc
 effects_plain v (Answers who verdict) h = ends_plain who verdict.said
 effects_plain v (Dials p starter retries) h = connects_plain v.links.started (leads_to p)

@@ -2,7 +2,7 @@
 use Rattle.std.proofs.Common.{◌≡◌, ◌∙◌, sym, ap, subst, ℕ, List, [], ◌∷◌, ◌++◌, refl, map, Bool, true, false, cond, Option, Some, None}
 use Rattle.std.specs.List.{filter}
 use Rattle.std.specs.Option.{is_some, option_map, option_to_list}
-use Rattle.pulsar_laws.proofs.ActWords.{Act, Answers, Ask, Call, Comes, Consumer, Dials, Does, Heard, LinkAct, Polls, Producer, Said, Shown, ToLink, Who}
+use Rattle.pulsar_laws.proofs.ActWords.{Act, Answers, Ask, Call, Comes, Consumer, Counts, Dials, Does, Heard, LinkAct, Polls, Producer, Said, Shown, ToLink, Who}
 use Rattle.pulsar_laws.proofs.RunWords.{agenda, arranged, Begins, Chosen, Each, each_append, each_map, Entry, first, IsRun, Options, rules, Then, Turned, turned, view, View}
 use Rattle.pulsar_laws.proofs.LinkWords.{Pause, Seat, Words}
 use Rattle.pulsar_run.specs.Order.{InOrder}
@@ -17,7 +17,7 @@ use Rattle.pulsar_acts.specs.Run.{Rests}
 use Rattle.pulsar_agenda.proofs.Orders.{effect_order}
 use Rattle.pulsar_agenda.specs.Agenda.{first_of}
 use Rattle.pulsar_consumer.specs.Topic as reader
-use Rattle.pulsar_consumer_table.specs.Consumers.{Member, polled, polled_so}
+use Rattle.pulsar_consumer_table.specs.Consumers.{Member, counted, polled, polled_so}
 use Rattle.pulsar_incoming.specs.declared.polled.Polled.{Polled as Answer}
 use Rattle.pulsar_incoming.specs.declared.polled.Polled.TheVariants as poll
 use Rattle.pulsar_links.specs.Address.{leads_to}
@@ -78,6 +78,7 @@ asks_silent l now request row = each_map (IsOf l) IsSilent (asked_at l now reque
 silent : (v : View) (a : Act) → is_poll a ≡ false → Each IsSilent (effects v a)
 silent v (Comes (Polls t)) h = absurd cc
 silent v (Comes (ToLink l x)) h = link_silent l x v
+silent v (Comes (Counts t)) h = elim (v.consumers.rows t) as (λ row. Each IsSilent (option_to_list (option_map (counted t) row))) [ None ↦ tt | Some m ↦ (refl, tt) ]
 silent v (Does who (Ask l request)) h = asks_silent l v.now request (v.links.live l)
 silent v (Answers who verdict) h = ends_silent who verdict.said
 silent v (Dials p starter retries) h = connects_silent v.links.started (leads_to p)

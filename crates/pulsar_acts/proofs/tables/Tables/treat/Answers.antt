@@ -30,6 +30,10 @@ returns-in-Comes-Polls-clause-left c =
 pub returns-in-Comes-Polls-clause-sees : goal.returns-in-Comes-Polls-clause-sees
 returns-in-Comes-Polls-clause-sees c = rw (c.in-Comes-Polls.is, c.in-Comes-Polls.field-0-is) c.polls.ensures.sees
 
+pub returns-in-Comes-Counts-clause-left : goal.returns-in-Comes-Counts-clause-left
+returns-in-Comes-Counts-clause-left c =
+    rw (c.in-Comes-Counts.is, c.in-Comes-Counts.field-0-is) (on_ok_weaker c.counts.result (λ out. nothing_arises (agenda_of c.args.tasks.now)) c.counts.ensures)
+
 pub returns-in-Starts-clause-left : goal.returns-in-Starts-clause-left
 returns-in-Starts-clause-left c = rw c.in-Starts.is c.starts.ensures.left
 

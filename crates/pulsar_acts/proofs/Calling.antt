@@ -19,6 +19,7 @@ use Rattle.pulsar_calls.specs.Content.{Asked, asked, lacks_tickets, shares}
 use Rattle.pulsar_plans.specs.Plan.{fails}
 use Rattle.pulsar_consumer_table.specs.Consumers as consumer
 use Rattle.pulsar_consumer_table.specs.Consumers.{Consumers}
+use Rattle.pulsar_consumer_table.proofs.Asking as asking
 use Rattle.pulsar_producer_table.specs.Producers.{Producers, called_on, opened_on, why_not}
 use Rattle.pulsar_producer_table.proofs.Asking.{called_is}
 use Rattle.pulsar_acts.specs.Rules.{parts_of, procedure_for, shares_unless, starts, unless_refused}
@@ -60,15 +61,15 @@ module _ (v : View) (advice : List (Option ℕ)) (a : Asked) where
           is_built = v.calls.is_built;
           is_stopped = v.calls.is_stopped;
         };
-        consumers = cond b v.consumers (consumer.called_on (may_call v.calls) a v.consumers);
+        consumers = record (cond b v.consumers (consumer.called_on (may_call v.calls) a v.consumers)) { rows = v.consumers.rows };
         producers = record (cond b v.producers (called_on (may_call v.calls) a v.producers)) { topics = v.producers.topics };
       }
 
-  abbrev begun : Producers → View
-  begun ps =
+  abbrev begun : Consumers → Producers → View
+  begun cs ps =
       record v {
         calls = record { drawn = v.calls.drawn + 1 + shares a; is_built = v.calls.is_built; is_stopped = v.calls.is_stopped };
-        consumers = consumer.called_on (may_call v.calls) a v.consumers;
+        consumers = cs;
         producers = ps;
       }
 
@@ -86,8 +87,10 @@ module _ (v : View) (advice : List (Option ℕ)) (a : Asked) where
   pub spent_sees : lacks_tickets v.calls.drawn (shares a) ≡ true → v ≡ after (Comes (Calls a advice)) v
   spent_sees h = sym (ap sees h)
 
-  pub begun_sees : lacks_tickets v.calls.drawn (shares a) ≡ false → begun (called_on (may_call v.calls) a v.producers) ≡ after (Comes (Calls a advice)) v
-  begun_sees h = ap begun (called_is (may_call v.calls) a v.producers) ∙ sym (ap sees h)
+  pub begun_sees : lacks_tickets v.calls.drawn (shares a) ≡ false →
+      begun (consumer.called_on (may_call v.calls) a v.consumers) (called_on (may_call v.calls) a v.producers) ≡ after (Comes (Calls a advice)) v
+  begun_sees h =
+      (λ i. begun (asking.called_is (may_call v.calls) a v.consumers i) (called_is (may_call v.calls) a v.producers i)) ∙ sym (ap sees h)
 
 -- A CLIENT THAT IS NOT OPEN
 

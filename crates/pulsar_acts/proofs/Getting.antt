@@ -9,7 +9,10 @@ use Rattle.pulsar_calls.specs.declared.act.Who.{Who}
 use Rattle.pulsar_links.specs.declared.addresses.Series.{Series}
 use Rattle.pulsar_links.specs.declared.addresses.Series.TheVariants.{Serves}
 use Rattle.pulsar_acts.specs.View.{View, after, serving, waits_for}
+use Rattle.pulsar_links.specs.Asks.{got_by, seat_by}
 use Rattle.pulsar_links.specs.Seats.{Base, base_waiting, got_at}
+use Rattle.pulsar_run.specs.Things.{row_by}
+use Rattle.pulsar_acts.proofs.Linking.{got_row}
 
 -- waits where none serves yet
 abbrev pub serves : Series → Bool
@@ -50,7 +53,7 @@ serving_none _ h = refl
 abbrev got_view : Bool → Option ℕ → View → Who → Place → View
 got_view b k v who p =
     record v {
-      links = record { started = v.links.started; live = λ l. got_at k v.now l (v.links.live l) };
+      links = record { started = v.links.started; live = λ l. row_by seat_by (got_by l k v.now) (v.links.live l) };
       addresses = record {
         base = λ key. cond (b && bytes_eq (address_key p) key)
             (record { series = (v.addresses.base key).series; waiting = waits_for (v.addresses.base key).series who (v.addresses.base key).waiting })
@@ -81,7 +84,7 @@ module _ (v : View) (who : Who) (p : Place) where
       record v { links = record { started = v.links.started; live = λ k. got_at (Some l) v.now k (v.links.live k) } } ≡ after (Does who (Get p)) v
   get_served l h is =
       (λ i. record v {
-        links = record { started = v.links.started; live = λ k. got_at (Some l) v.now k (v.links.live k) };
+        links = record { started = v.links.started; live = λ k. sym (got_row (Some l) v.now k (v.links.live k)) i };
         addresses = record { base = λ key. got_served v.addresses.base who (address_key p) key l is i; pause = v.addresses.pause };
       })
       ∙ ap (λ s. got_view true (serving s) v who p) (sym is) ∙ reached h

@@ -1,3 +1,4 @@
+pub mod Linking
 pub mod Turning
 pub mod Turned
 pub mod Getting

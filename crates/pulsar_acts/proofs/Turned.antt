@@ -18,6 +18,7 @@ use Rattle.pulsar_acts.specs.Tables.{retry_set, retry_shown, turned_view, welcom
 use Rattle.pulsar_acts.specs.View.{Turned, View, addresses_after, alarms_after, alarms_over, is_to_follow, links_after, turned}
 use Rattle.pulsar_machine.specs.Options.{Chosen}
 use Rattle.pulsar_links.specs.Seats.{Addresses, Links, Seat, is_for, pause_with, took_some}
+use Rattle.pulsar_acts.proofs.Linking.{took_is}
 use Rattle.pulsar_acts.proofs.Turning.{IsStill, alarms_still, base_still, pause_still}
 
 -- two things hold where a call goes well
@@ -46,19 +47,19 @@ still_turned t v k =
 module _ (v : View) (l : ℕ) (x : LinkAct) where
   pub linked : (started : ℕ) (live : ℕ → Option Seat) → started ≡ v.links.started →
       ((k : ℕ) → live k ≡ cond (k == l) (took_some x v.now (v.links.live k)) (v.links.live k)) →
-      record { started = started; live = live } ≡ links_after v.chosen v.addresses v.now (Comes (ToLink l x)) v.links
-  linked started live s e = λ i. record { started = s i; live = λ k. e k i }
+      record { started = started; live = live } ≡ links_after v (Comes (ToLink l x))
+  linked started live s e = λ i. record { started = s i; live = λ k. (e k ∙ sym (took_is v l x k)) i }
 
-  pub still_sees : (ls : Links) → IsStill (turned v (Comes (ToLink l x))) → ls ≡ links_after v.chosen v.addresses v.now (Comes (ToLink l x)) v.links →
+  pub still_sees : (ls : Links) → IsStill (turned v (Comes (ToLink l x))) → ls ≡ links_after v (Comes (ToLink l x)) →
       record v { links = ls }
       ≡ record v {
-        links = links_after v.chosen v.addresses v.now (Comes (ToLink l x)) v.links;
+        links = links_after v (Comes (ToLink l x));
         addresses = addresses_after v (Comes (ToLink l x));
         alarms = alarms_after v (Comes (ToLink l x));
       }
   still_sees ls k e =
       ap (λ ls. record v { links = ls }) e
-      ∙ ap (λ w. record v { links = links_after v.chosen v.addresses v.now (Comes (ToLink l x)) v.links; addresses = w.addresses; alarms = w.alarms })
+      ∙ ap (λ w. record v { links = links_after v (Comes (ToLink l x)); addresses = w.addresses; alarms = w.alarms })
       (still_turned (turned v (Comes (ToLink l x))) v k)
 
 -- a frame that makes no link ready

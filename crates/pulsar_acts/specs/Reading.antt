@@ -1,11 +1,10 @@
 -- What arises from acts for the consumers of a client: what calls on them begin, what plans are told at once, and whom an act serves.
 -- (Pulsar binary protocol, Consumer)
-use Rattle.std.specs.Prelude.{ℕ, Bool, if◌then◌else◌, List, [], ◌∷◌, map, Option, Some, None}
+use Rattle.std.specs.Prelude.{ℕ, List, [], ◌∷◌, map, Option, Some, None}
 use Rattle.std.specs.Option.{option_to_list}
 use Rattle.pulsar_messages.specs.Words.{Words}
 use Rattle.pulsar_wire.specs.Failures.{Exhausted}
 use Rattle.pulsar_exchange.specs.Request.{closed_consumer}
-use Rattle.pulsar_searches.specs.declared.making.Command.{Command}
 use Rattle.pulsar_searches.specs.declared.turn.Ways.{Ways}
 use Rattle.pulsar_incoming.specs.Content.{ConsumerWanted}
 use Rattle.pulsar_incoming.specs.Naming.{order_of}
@@ -33,8 +32,6 @@ use Rattle.pulsar_consumer_table.specs.Consumers as consumer
 use Rattle.pulsar_consumer_table.specs.Consumers.{Consumers, Member, over_rows}
 use Rattle.pulsar_consumer_table.specs.declared.numbers.Numbering.{Numbering}
 use Rattle.pulsar_consumer_table.specs.declared.numbers.Numbering.TheVariants.{Has, InUse, Spent}
-use Rattle.pulsar_consumer_table.specs.declared.row.Sought.{Sought}
-use Rattle.pulsar_consumer_table.specs.declared.row.Sought.TheVariants.{Found, Gone, Later}
 use Rattle.pulsar_calls.specs.Notices.{notice}
 use Rattle.pulsar_consumer_table.specs.Notices.{due_to, heard_at, lost_at, stopped_seekers, word_to}
 use Rattle.pulsar_acts.specs.View.{View, member_on, setup_of, ways_of}
@@ -68,31 +65,14 @@ acknowledges cs t says =
 abbrev pub leaves : Consumers → (ticket : ℕ) → Procedure
 leaves cs t = unless (consumer.why_not cs t) (procedure.Leave t (consumer.number_at (cs.rows t)))
 
--- WHAT PLANS ASK OF CONSUMERS is told at once, but for the link of one that is being subscribed again.
-
 abbrev pub tells_word : Who → Word → List Act
 tells_word who w = tells who (outcome.Word w)
 
+-- what one is told who takes a number for a new consumer
 abbrev pub numbering_said : Numbering → Outcome
 numbering_said (Has n) = outcome.Word (word.Numbered n)
 numbering_said InUse = outcome.Word word.InUse
 numbering_said Spent = outcome.Refused Exhausted
-
-abbrev pub sought_said : Who → Sought → List Act
-sought_said who (Found l) = tells who (outcome.GotLink l)
-sought_said who Gone = tells_word who word.Closed
-sought_said who Later = []
-
-abbrev pub flow_said : Option (ℕ × ℕ) → Word
-flow_said None = word.NoFlow
-flow_said (Some flow) = word.Flow flow.0 flow.1
-
-abbrev pub recalled_said : Who → Option Command → List Act
-recalled_said who None = tells who outcome.Disconnected
-recalled_said who (Some c) = tells_word who (word.Recalled c)
-
-abbrev pub revived_said : (is_ended : Bool) → Word
-revived_said is_ended = if is_ended then word.Over else word.Lives
 
 -- WHAT FOLLOWS A VERDICT
 

@@ -12,7 +12,7 @@ use Rattle.pulsar_session.specs.Link.{is_ready}
 use Rattle.pulsar_calls.specs.declared.act.Act.{Act}
 use Rattle.pulsar_calls.specs.declared.act.Act.TheVariants.{Comes, Starts, Told, Does, Answers, Dials}
 use Rattle.pulsar_calls.specs.declared.act.Action.{Action}
-use Rattle.pulsar_calls.specs.declared.act.Action.TheVariants.{OfTopic, Get, Ask, Wait, Number, Hold, Shut, TakeNumber, FindConsumer, TakeFlow, RecallConsumer, Revive, FailConsumer, Tell, TellAll, StopAll, Rest}
+use Rattle.pulsar_calls.specs.declared.act.Action.TheVariants.{OfTopic, OfConsumer, Get, Ask, Wait, Number, Hold, Shut, TakeNumber, Tell, TellAll, StopAll, Rest}
 use Rattle.pulsar_calls.specs.declared.act.Alarm.{Alarm}
 use Rattle.pulsar_calls.specs.declared.act.Alarm.TheVariants.{Retry, Wake, Batch, KeepAlive, CheckIdle}
 use Rattle.pulsar_calls.specs.declared.act.Arrival.{Arrival}
@@ -40,14 +40,11 @@ use Rattle.pulsar_calls.specs.declared.act.Says.TheVariants as says
 use Rattle.pulsar_calls.specs.declared.act.Verdict.{Verdict}
 use Rattle.pulsar_calls.specs.declared.act.Who.{Who}
 use Rattle.pulsar_calls.specs.declared.act.Who.TheVariants.{Call, Producer}
-use Rattle.pulsar_calls.specs.declared.act.Word.TheVariants as word
 use Rattle.pulsar_calls.specs.declared.content.BuiltProducer.{BuiltProducer}
 use Rattle.pulsar_links.specs.declared.addresses.Pause.{Pause}
 use Rattle.pulsar_links.specs.declared.addresses.Series.{Series}
 use Rattle.pulsar_links.specs.declared.addresses.Series.TheVariants.{Nobody, Runs, Pauses, Serves}
 use Rattle.pulsar_plans.specs.declared.plan.Plan.{Plan}
-use Rattle.pulsar_plans.specs.declared.plan.Turn.{Turn}
-use Rattle.pulsar_plans.specs.declared.plan.Turn.TheVariants.{Stays, Gives}
 use Rattle.pulsar_exchange.specs.Request.{named_consumer, named_producer}
 use Rattle.pulsar_messages.specs.Content.{ProducerMessageValues}
 use Rattle.pulsar_producer.specs.Routing.{Policy}
@@ -74,18 +71,19 @@ pub use Rattle.pulsar_producer_table.specs.Asks.{readied, ready_notice, turn_not
 use Rattle.pulsar_producer_table.specs.Notices.{stopped_all}
 use Rattle.pulsar_producer_table.specs.Producers.{Producers, advice, batches_in, errand_of, is_held, is_used as is_used_number, number_drawn, numbers_at, routed, stored_by, why_not}
 use Rattle.pulsar_calls.specs.Content.{next_advice}
-use Rattle.pulsar_acts.specs.View.{Tickets, Turned, View, asked_of, is_live, may_call, told_some, turned, ways_of}
+use Rattle.pulsar_acts.specs.View.{Tickets, Turned, View, asked_of, consumer_asked, is_live, link_given, may_call, told_some, turned, ways_of}
 use Rattle.pulsar_machine.specs.Options.{Chosen, Options}
-use Rattle.pulsar_links.specs.Seats.{Addresses, Base, Links, Seat, answer_at, arrival_at, later, url_at}
+use Rattle.pulsar_links.specs.Seats.{Addresses, Base, Links, Seat, arrival_at, later}
 use Rattle.pulsar_consumer_table.specs.Consumers as consumer
 pub use Rattle.pulsar_calls.specs.Notices.{notice, stopped_one}
 pub use Rattle.pulsar_acts.specs.Reading.{tells, unless}
-use Rattle.pulsar_consumer_table.specs.Notices.{again_at, polled_due, revived_at}
-use Rattle.pulsar_acts.specs.Reading.{acknowledges, closed_at, flow_said, heard_on, leaves, lost_on, made_due, numbering_said, recalled_said, revived_said, serves_by, sought_said, stopped_on, subscribes, tells_word}
+use Rattle.pulsar_consumer_table.specs.Notices.{polled_due}
+use Rattle.pulsar_acts.specs.Reading.{acknowledges, closed_at, heard_on, leaves, lost_on, made_due, numbering_said, serves_by, stopped_on, subscribes}
 use Rattle.pulsar_consumer_table.specs.Consumers.{Consumers, is_heard, over_rows}
-use Rattle.pulsar_calls.specs.Who.{ticket_of}
 use Rattle.pulsar_calls.specs.Order.{opens, alone}
-use Rattle.pulsar_links.specs.LinkRules.{over_links, due_part, told_at, stop_act, may_ping, answered_on, served_by, ended_on, failed_over, moved_on, stopped_at}
+use Rattle.pulsar_links.specs.LinkRules.{over_links, due_part, stop_act, may_ping, answered_on, served_by, ended_on, failed_over, moved_on, stopped_at}
+use Rattle.pulsar_searches.specs.declared.transition.Transition.TheVariants.{Stays, Gives}
+use Rattle.pulsar_plans.specs.Transitions.{PlanTransition}
 
 -- a call, for which the policies were asked
 abbrev pub call_part : List Policy → View → Asking → Part
@@ -113,11 +111,11 @@ does who Rest = []
 does who action = Does who action ∷ []
 
 -- a plan does what is next, or ends
-abbrev pub follows : Who → Turn Plan Verdict → List Act
+abbrev pub follows : Who → PlanTransition → List Act
 follows who (Stays plan action) = does who action
 follows who (Gives verdict) = Answers who verdict ∷ []
 
-abbrev pub follows_some : Who → Option (Turn Plan Verdict) → List Act
+abbrev pub follows_some : Who → Option (PlanTransition) → List Act
 follows_some who None = []
 follows_some who (Some turn) = follows who turn
 
@@ -292,7 +290,7 @@ gets_from who p (Serves link) = tells who (outcome.GotLink link)
 abbrev pub gets : Who → Place → Series → List Act
 gets who p series = if is_reachable p then gets_from who p series else tells who outcome.NotFound
 
--- WHAT PLANS ASK OF TOPIC PRODUCERS is told at once.
+-- WHAT PLANS ASK OF TOPIC PRODUCERS AND CONSUMERS is told at once, but for what is waited for.
 
 abbrev pub grants : Who → News → List Act
 grants who n = tells who (outcome.Granted n)
@@ -311,19 +309,15 @@ stops who ls = over_links stop_act ls ++ tells who outcome.Stopped
 
 abbrev pub performs : View → Who → Action → List Act
 performs v who (Get p) = gets who p (v.addresses.base (address_key p)).series
-performs v who (Ask l request) = tells who (told_at (answer_at v.now request (v.links.live l)))
+performs v who (Ask l request) = says_to who (link_given v who l request).says
 performs v who StopAll = stops who v.links
 performs v who (Wait delay) = []
 performs v who (OfTopic n ask) = says_to who (asked_of v who n ask).says
+performs v who (OfConsumer ask) = says_to who (consumer_asked v who ask).says
 performs v who Number = tells who (number_said (number_drawn v.producers))
 performs v who (Hold l n) = grants who news.Done
 performs v who (Shut t) = grants who news.Done
 performs v who (TakeNumber wanted) = tells who (numbering_said (consumer.numbering v.consumers wanted))
-performs v who (FindConsumer t) = sought_said who (consumer.sought (v.consumers.rows t))
-performs v who TakeFlow = tells_word who (flow_said (consumer.flow_at (v.consumers.rows (ticket_of who))))
-performs v who RecallConsumer = recalled_said who (consumer.recalled (v.consumers.rows (ticket_of who)))
-performs v who (Revive l) = tells_word who (revived_said (consumer.is_ended_at (v.consumers.rows (ticket_of who))))
-performs v who (FailConsumer f) = tells_word who word.Over
 performs v who (Tell n) = grants who news.Done
 performs v who (TellAll ns) = grants who news.Done
 performs v who Rest = []
@@ -417,10 +411,9 @@ further v _ = []
 abbrev pub joins : View → Act → List Notice
 joins v (Comes (Polls t)) = polled_due v.now t (v.consumers.rows t)
 joins v (Does who (Ask l request)) = over_rows (closed_at v l request) v.consumers
-joins v (Does who (Revive l)) = revived_at l (url_at (v.links.live l)) (ticket_of who) (v.consumers.rows (ticket_of who))
-joins v (Does who (FailConsumer f)) = again_at (v.consumers.rows (ticket_of who))
 joins v (Answers who verdict) = made_due v.links.live who verdict.makes
 joins v (Does who (OfTopic n ask)) = (asked_of v who n ask).serves
+joins v (Does who (OfConsumer ask)) = (consumer_asked v who ask).serves
 joins v (Does who (Shut t)) = map closed_notice (stored_by v.producers (numbers_at (v.producers.built t)))
 joins v (Does who (Tell n)) = n ∷ []
 joins v (Does who (TellAll ns)) = ns

@@ -10,11 +10,17 @@ use Rattle.pulsar_calls.specs.declared.act.Alarm.TheVariants as alarm
 use Rattle.pulsar_calls.specs.declared.act.Arrival.{Arrival}
 use Rattle.pulsar_calls.specs.declared.act.End.TheVariants.{Idles}
 use Rattle.pulsar_calls.specs.declared.act.LinkAct.TheVariants.{Ends}
+use Rattle.pulsar_calls.specs.declared.act.Makes.{Makes}
+use Rattle.pulsar_calls.specs.declared.act.Makes.TheVariants.{Nothing, Client, Consumer, RawConsumer, Producer}
 use Rattle.pulsar_calls.specs.declared.act.Part.TheVariants.{ToLink}
 use Rattle.pulsar_calls.specs.declared.act.TopicAsk.{TopicAsk}
 use Rattle.pulsar_calls.specs.declared.act.TopicAsk.TheVariants.{TakeTurn, PassTurn, Draw, Recall, Remake, Find, Store, Flush, TakeBatch}
-use Rattle.pulsar_consumer_table.specs.Consumers.{Consumers, is_heard}
-use Rattle.pulsar_producer_table.specs.Producers.{Producers, is_bare, is_held, timeout_at}
+use Rattle.pulsar_calls.specs.declared.act.Who.{Who}
+use Rattle.pulsar_calls.specs.declared.act.Who.TheVariants as who
+use Rattle.pulsar_calls.specs.Who.{rank}
+use Rattle.pulsar_consumer_table.specs.Consumers as consumer
+use Rattle.pulsar_consumer_table.specs.Consumers.{Consumers, Member, is_heard}
+use Rattle.pulsar_producer_table.specs.Producers.{Producers, is_bare, is_held, joined, timeout_at}
 use Rattle.pulsar_acts.specs.declared.settings.Settings.{Settings}
 use Rattle.pulsar_acts.specs.declared.tables.Tables.{Tables}
 use Rattle.pulsar_calls.specs.Content.{Shown, Retry}
@@ -22,7 +28,7 @@ use Rattle.pulsar_links.specs.Alarms.{set}
 use Rattle.pulsar_links.specs.Kept.{addresses_of, links_in}
 use Rattle.pulsar_producer_table.specs.KeptProducers.{producers_of}
 use Rattle.pulsar_consumer_table.specs.KeptConsumers.{consumers_in}
-use Rattle.pulsar_acts.specs.View.{Turned, View, alarms_on, alarms_rung, alarms_waiting, base_on, delay_with, pause_on, pause_rung, waits_on}
+use Rattle.pulsar_acts.specs.View.{Turned, View, alarms_on, alarms_rung, alarms_waiting, base_on, delay_with, member_made, pause_on, pause_rung, waits_on}
 use Rattle.pulsar_machine.specs.Options.{Chosen}
 use Rattle.pulsar_links.specs.Seats.{Seat, later, nobody}
 use Rattle.pulsar_links.specs.Links.{change_in}
@@ -120,3 +126,24 @@ is_unused l cs ps = not (is_heard cs l) && not (is_held ps l)
 -- the end of such a link
 abbrev pub unused_act : Consumers → Producers → ℕ → List Act
 unused_act cs ps l = if is_unused l cs ps then Comes (ToLink l (Ends Idles)) ∷ [] else []
+
+-- WHAT A VERDICT MAKES, with what is known beside
+
+abbrev pub joins_as : Who → Member → Consumers → Consumers
+joins_as (who.Call t) m cs = consumer.joined t m cs
+joins_as (who.Consumer n t) m cs = cs
+joins_as (who.Producer n) m cs = cs
+
+abbrev pub joins_some : Who → Option Member → Consumers → Consumers
+joins_some w None cs = cs
+joins_some w (Some m) cs = joins_as w m cs
+
+abbrev pub consumers_made : (ℕ → Option Seat) → Who → Makes → Consumers → Consumers
+consumers_made live w m cs = joins_some w (member_made live m) cs
+
+abbrev pub producers_made : Chosen → Who → Makes → Producers → Producers
+producers_made o who Nothing ps = ps
+producers_made o who Client ps = ps
+producers_made o who (Consumer made) ps = ps
+producers_made o who (RawConsumer link made) ps = ps
+producers_made o who (Producer made) ps = joined (rank who).1 made o.seed o.first_number ps

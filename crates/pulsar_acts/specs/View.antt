@@ -3,20 +3,23 @@ use Rattle.std.specs.Prelude.{ℕ, ◌+◌, ◌==◌, bytes_eq, nat_le, ◌&&◌
 use Rattle.std.specs.List.{list_any}
 use Rattle.std.specs.Option.{is_some, option_map}
 use Rattle.pulsar_addresses.specs.Address.{Place, address_key, behind, is_reachable}
-use Rattle.pulsar_addresses.specs.Backoff.{backoff, connection_id, jitter}
+use Rattle.pulsar_addresses.specs.Backoff.{connection_id}
 use Rattle.pulsar_addresses.specs.declared.options.OperationRetryOptions.{OperationRetryOptions}
 use Rattle.pulsar_searches.specs.declared.turn.Ways.{Ways}
-use Rattle.pulsar_messages.specs.Words.{Words}
+use Rattle.url.specs.Parts.{Parts}
 use Rattle.pulsar_session.specs.declared.states.Stage.{Stage}
 use Rattle.pulsar_session.specs.declared.states.Stage.TheVariants.{Dialing, Handshaking, Ready, Over}
 use Rattle.pulsar_session.specs.Link as session
 use Rattle.pulsar_session.specs.Link.{Setup, is_open}
+use Rattle.pulsar_session.specs.Series as rule
 use Rattle.pulsar_exchange.specs.Request.{closed_consumer}
+use Rattle.pulsar_messages.specs.Words.{Words}
 use Rattle.pulsar_calls.specs.declared.act.Act.{Act}
 use Rattle.pulsar_calls.specs.declared.act.Act.TheVariants.{Comes, Starts, Told, Does, Answers, Dials}
-use Rattle.pulsar_calls.specs.declared.act.Action.TheVariants.{OfTopic, Get, Ask, Wait, Number, Hold, Shut, TakeNumber, FindConsumer, TakeFlow, Revive, FailConsumer, StopAll}
+use Rattle.pulsar_calls.specs.declared.act.Action.TheVariants.{OfTopic, OfConsumer, Get, Ask, Wait, Number, Hold, Shut, TakeNumber, StopAll}
 use Rattle.pulsar_calls.specs.declared.act.TopicAsk.{TopicAsk}
 use Rattle.pulsar_calls.specs.declared.act.TopicAsk.TheVariants.{Store, Flush}
+use Rattle.pulsar_calls.specs.declared.act.ConsumerAsk.{ConsumerAsk}
 use Rattle.pulsar_calls.specs.declared.act.Alarm.{Alarm}
 use Rattle.pulsar_calls.specs.declared.act.Alarm.TheVariants.{Retry, Wake, Batch, KeepAlive, CheckIdle}
 use Rattle.pulsar_calls.specs.declared.act.End.{End}
@@ -34,27 +37,31 @@ use Rattle.pulsar_links.specs.declared.addresses.Pause.{Pause}
 use Rattle.pulsar_links.specs.declared.addresses.Series.{Series}
 use Rattle.pulsar_links.specs.declared.addresses.Series.TheVariants.{Nobody, Runs, Pauses, Serves}
 use Rattle.pulsar_plans.specs.declared.plan.Plan.{Plan}
-use Rattle.pulsar_plans.specs.declared.plan.Turn.{Turn}
-use Rattle.pulsar_plans.specs.declared.plan.Turn.TheVariants.{Stays, Gives}
 use Rattle.pulsar_links.specs.Alarms.{clear, rings, set}
+use Rattle.pulsar_links.specs.Asks as of_link
+use Rattle.pulsar_links.specs.Asks.{IsFed, comes_by, got_by, is_end, seat_by}
 use Rattle.pulsar_calls.specs.Content as content
 use Rattle.pulsar_calls.specs.Content.{Heard, Called, Opened, FailedToOpen, Bytes, Drain, Ticked, Poll, lacks_tickets, shares}
 use Rattle.pulsar_links.specs.Links.{Change, Remains, Becomes, IsOver, change_by}
 use Rattle.pulsar_plans.specs.Plan.{begins, told}
-use Rattle.pulsar_run.specs.Things.{row_after}
+use Rattle.pulsar_run.specs.Things.{row_after, row_by}
 use Rattle.pulsar_outgoing.specs.Storage.{limits_of}
 use Rattle.pulsar_calls.specs.declared.content.BuiltProducer.{BuiltProducer}
 use Rattle.pulsar_producer_table.specs.Asks.{Around, Given, around_in, given}
 use Rattle.pulsar_producer_table.specs.declared.table.Topic.{Topic}
-use Rattle.pulsar_producer_table.specs.Producers.{Producers, called_on, freed, holding, is_bare, joined, link_at, none, numbered, numbers_at, shut_by, timeout_at, topic_after, topic_in}
+use Rattle.pulsar_producer_table.specs.Producers.{Producers, called_on, freed, holding, is_bare, link_at, listed, none, numbered, numbers_at, shut_by, timeout_at, topic_after, topic_in}
 use Rattle.pulsar_producer.specs.Topic as topic
+use Rattle.pulsar_consumer_table.specs.Asks as of_consumer
+use Rattle.pulsar_consumer_table.specs.Asks.{link_asked, ticket_asked}
 use Rattle.pulsar_consumer_table.specs.Consumers as consumer
-use Rattle.pulsar_consumer_table.specs.Consumers.{Consumers, IsHeard, Member}
+use Rattle.pulsar_consumer_table.specs.Consumers.{Arrives, ClientStops, CloseAsked, Consumers, Deed, IsHeard, IsPolled, LinkEnds, Member, member_by}
 use Rattle.pulsar_consumer.specs.Topic as reader
 use Rattle.pulsar_consumer.specs.Topic.{of_raw}
 use Rattle.pulsar_calls.specs.Who.{is_same, rank, ticket_of, turn_of}
-use Rattle.pulsar_links.specs.Seats.{Seat, Links, Base, nobody, Addresses, later, seat_fed, seat_of_fresh, arrival_at, closing, took_some, is_busy, answer_at, is_asked, seat_asked, got_at, may_retry, pause_with, base_turned, base_dialed, is_for, pause_put, url_at, room_at}
+use Rattle.pulsar_links.specs.Seats.{Seat, Links, Base, nobody, Addresses, later, seat_of_fresh, arrival_at, closing, is_busy, answer_at, is_asked, may_retry, pause_with, base_turned, base_dialed, is_for, pause_put, url_at, room_at}
 use Rattle.pulsar_machine.specs.Options.{Chosen, Options}
+use Rattle.pulsar_searches.specs.declared.transition.Transition.TheVariants.{Stays, Gives}
+use Rattle.pulsar_plans.specs.Transitions.{PlanTransition}
 
 -- THINGS
 
@@ -123,9 +130,13 @@ is_live v (Drain l most) = is_at is_open (v.links.live l)
 is_live v (Ticked now) = nat_le v.now now
 is_live v (Poll t) = is_some (v.consumers.rows t)
 
+-- bytes of a link are fed to it
+abbrev pub link_heard : (link : ℕ) → Heard → List of_link.Deed
+link_heard l (Bytes k piece) = if l == k then IsFed piece ∷ [] else []
+link_heard l _ = []
+
 abbrev pub live_begun : Heard → ℕ → Option Seat → Option Seat
-live_begun (Bytes k piece) l row = if l == k then option_map (seat_fed piece) row else row
-live_begun _ l row = row
+live_begun e l row = row_by seat_by (link_heard l e) row
 
 -- and a tick sets the clock
 abbrev pub now_begun : Heard → ℕ → ℕ
@@ -143,15 +154,15 @@ begun e v = if is_live v e then begun_live e v else v
 -- PLANS
 
 -- where a plan stands: nowhere, before it starts and when it has given its verdict
-abbrev pub stays : Turn Plan Verdict → Option Plan
+abbrev pub stays : PlanTransition → Option Plan
 stays (Stays plan action) = Some plan
 stays (Gives verdict) = None
 
-abbrev pub told_some : Option Plan → Outcome → Option (Turn Plan Verdict)
+abbrev pub told_some : Option Plan → Outcome → Option (PlanTransition)
 told_some None o = None
 told_some (Some plan) o = Some (told plan o)
 
-abbrev pub stays_some : Option (Turn Plan Verdict) → Option Plan
+abbrev pub stays_some : Option (PlanTransition) → Option Plan
 stays_some None = None
 stays_some (Some turn) = stays turn
 
@@ -224,19 +235,36 @@ abbrev pub link_got : Addresses → Act → Option ℕ
 link_got known (Does who (Get p)) = if is_reachable p then serving (known.base (address_key p)).series else None
 link_got known _ = None
 
-abbrev pub live_after : Chosen → Addresses → (now started : ℕ) → Act → ℕ → Option Seat → Option Seat
-live_after o known now started (Comes (ToLink k x)) l row = if l == k then took_some x now row else row
-live_after o known now started (Does who (Get p)) l row = got_at (link_got known (Does who (Get p))) now l row
-live_after o known now started (Does who (Ask k request)) l row = if l == k then option_map (seat_asked who now request) row else row
-live_after o known now started (Dials p starter retries) l row = if l == started then Some (dialed o started now p) else row
-live_after o known now started _ l row = row
+-- what a plan asks of it gives
+abbrev pub link_given : View → Who → (link : ℕ) → Words → of_link.Given
+link_given v who l request = of_link.given (record { who = who; now = v.now }) request (v.links.live l)
+
+-- what an act does to the one of a number
+abbrev pub link_acts : View → (link : ℕ) → Act → List of_link.Deed
+link_acts v l (Comes (ToLink k x)) = if l == k then comes_by x v.now (v.links.live l) else []
+link_acts v l (Does who (Get p)) = got_by l (link_got v.addresses (Does who (Get p))) v.now
+link_acts v l (Does who (Ask k request)) = if l == k then (link_given v who k request).acts else []
+link_acts v l _ = []
+
+-- the one that an act makes, and whether it ends
+abbrev pub link_born : View → (link : ℕ) → Act → Option Seat
+link_born v l (Dials p starter retries) = if l == v.links.started then Some (dialed v.chosen v.links.started v.now p) else None
+link_born v l _ = None
+
+abbrev pub link_gone : View → (link : ℕ) → Act → Bool
+link_gone v l (Comes (ToLink k x)) = if l == k then is_end x v.now (v.links.live l) else false
+link_gone v l _ = false
+
+-- what becomes of it
+abbrev pub link_row : View → Act → (link : ℕ) → Option Seat → Option Seat
+link_row v a l row = row_after seat_by (link_born v l a) (link_gone v l a) (link_acts v l a) row
 
 abbrev pub started_after : Act → ℕ → ℕ
 started_after (Dials p starter retries) n = n + 1
 started_after _ n = n
 
-abbrev pub links_after : Chosen → Addresses → (now : ℕ) → Act → Links → Links
-links_after o known now a ls = record { started = started_after a ls.started; live = λ l. live_after o known now ls.started a l (ls.live l) }
+abbrev pub links_after : View → Act → Links
+links_after v a = record { started = started_after a v.links.started; live = λ l. link_row v a l (v.links.live l) }
 
 -- WHAT AN ACT TURNS: the address of its link, what becomes of the link, and the attempt that is to follow, where one does
 
@@ -268,7 +296,7 @@ turned v _ = None
 
 -- the delay of the attempt that is to follow that of a link, behind so many retries
 abbrev pub delay_with : Chosen → (link retries : ℕ) → ℕ
-delay_with o l retries = backoff o.connection.min_backoff o.connection.max_backoff retries (jitter o.seed l)
+delay_with o l retries = rule.delay o.connection o.seed l retries
 
 abbrev pub delay_of : Chosen → (link : ℕ) → Pause → ℕ
 delay_of o l p = delay_with o l p.retries
@@ -388,9 +416,7 @@ alarms_after v (Does who StopAll) = []
 alarms_after v (Answers who verdict) = alarms_built v.now (not v.calls.is_built && builds verdict.makes false) v.alarms
 alarms_after v _ = v.alarms
 
--- they hear the frames of their link, and its end, and where their own close is asked for
-abbrev pub hears_ask : (link now : ℕ) → Words → Option Seat → Member → Member
-hears_ask l now request row m = consumer.closes (closed_consumer request) l (is_asked (answer_at now request row)) m
+-- CONSUMERS
 
 -- the consumer that a verdict makes has the ticket of its call
 abbrev pub setup_of : Joining → reader.Setup
@@ -399,17 +425,25 @@ setup_of j = record { topic = j.topic; number = j.number; config = j.config; is_
 abbrev pub member_on : (ℕ → Option Seat) → (link : ℕ) → reader.Setup → Member
 member_on live l s = consumer.member_of s l (url_at (live l))
 
-abbrev pub joins_as : Who → Member → Consumers → Consumers
-joins_as (who.Call t) m cs = consumer.joined t m cs
-joins_as (who.Consumer n t) m cs = cs
-joins_as (who.Producer n) m cs = cs
+abbrev pub member_made : (ℕ → Option Seat) → Makes → Option Member
+member_made live Nothing = None
+member_made live Client = None
+member_made live (Consumer made) = Some (member_on live made.link (setup_of made))
+member_made live (RawConsumer l made) = Some (member_on live l (of_raw made))
+member_made live (Producer made) = None
 
-abbrev pub consumers_made : (ℕ → Option Seat) → Who → Makes → Consumers → Consumers
-consumers_made live w Nothing cs = cs
-consumers_made live w Client cs = cs
-consumers_made live w (Producer made) cs = cs
-consumers_made live w (Consumer made) cs = joins_as w (member_on live made.link (setup_of made)) cs
-consumers_made live w (RawConsumer l made) cs = joins_as w (member_on live l (of_raw made)) cs
+-- and that is listed
+abbrev pub listed_as : Who → Consumers → Consumers
+listed_as (who.Call t) cs = consumer.listed t cs
+listed_as (who.Consumer n t) cs = cs
+listed_as (who.Producer n) cs = cs
+
+abbrev pub consumers_listed : Who → Makes → Consumers → Consumers
+consumers_listed w Nothing cs = cs
+consumers_listed w Client cs = cs
+consumers_listed w (Consumer made) cs = listed_as w cs
+consumers_listed w (RawConsumer l made) cs = listed_as w cs
+consumers_listed w (Producer made) cs = cs
 
 -- and a call that has ended holds no number
 abbrev pub consumers_left : Who → Consumers → Consumers
@@ -417,23 +451,56 @@ consumers_left (who.Call t) cs = consumer.freed t cs
 consumers_left (who.Consumer n t) cs = cs
 consumers_left (who.Producer n) cs = cs
 
-abbrev pub consumers_after : View → Act → Consumers
-consumers_after v (Comes (Calls asked advice)) =
-    if lacks_tickets v.calls.drawn (shares asked) then v.consumers else consumer.called_on (may_call v.calls) asked v.consumers
-consumers_after v (Comes (ToLink l Reads)) = consumer.all_changed (consumer.hears l (arrival_at (v.links.live l))) v.consumers
-consumers_after v (Comes (ToLink l (Ends end))) = consumer.all_changed (consumer.loses_by l (closing end v.now (v.links.live l))) v.consumers
-consumers_after v (Comes (Polls t)) = consumer.changed t (consumer.member_after (reader.Polls v.now)) v.consumers
-consumers_after v (Does w (Ask l request)) = consumer.all_changed (hears_ask l v.now request (v.links.live l)) v.consumers
-consumers_after v (Does w (TakeNumber wanted)) = consumer.numbered (ticket_of w) wanted v.consumers
-consumers_after v (Does w (FindConsumer t)) = consumer.changed t (consumer.seeks w) v.consumers
-consumers_after v (Does w TakeFlow) = consumer.changed (ticket_of w) (consumer.member_after reader.Asks) v.consumers
-consumers_after v (Does w (Revive l)) = consumer.changed (ticket_of w) (consumer.revived l (url_at (v.links.live l))) v.consumers
-consumers_after v (Does w (FailConsumer f)) = consumer.changed (ticket_of w) (consumer.failed f) v.consumers
-consumers_after v (Does w StopAll) = consumer.all_changed consumer.stopped v.consumers
-consumers_after v (Answers w verdict) = consumers_left w (consumers_made v.links.live w verdict.makes v.consumers)
-consumers_after v _ = v.consumers
+-- WHAT IS DONE TO A CONSUMER
 
--- and on that of a topic producer
+-- where a link goes that an ask names, where that has not ended
+abbrev pub url_on : (ℕ → Option Seat) → Option ℕ → Option Parts
+url_on live None = None
+url_on live (Some l) = url_at (live l)
+
+-- and what one gives that is asked
+abbrev pub consumer_asked : View → Who → ConsumerAsk → of_consumer.Given
+consumer_asked v who ask = of_consumer.asked_in v.consumers (ticket_asked who ask) who (url_on v.links.live (link_asked ask)) ask
+
+-- what an act does to the one of a ticket: they hear the frames of a link, and its end, and where the close of one is asked for
+abbrev pub member_acts : View → (ticket : ℕ) → Act → List Deed
+member_acts v t (Comes (ToLink l Reads)) = Arrives l (arrival_at (v.links.live l)) ∷ []
+member_acts v t (Comes (ToLink l (Ends end))) = LinkEnds l (closing end v.now (v.links.live l)) ∷ []
+member_acts v t (Comes (Polls u)) = if t == u then IsPolled v.now ∷ [] else []
+member_acts v t (Does w (Ask l request)) = CloseAsked (closed_consumer request) l (is_asked (answer_at v.now request (v.links.live l))) ∷ []
+member_acts v t (Does w (OfConsumer ask)) = if t == ticket_asked w ask then (consumer_asked v w ask).acts else []
+member_acts v t (Does w StopAll) = ClientStops ∷ []
+member_acts v t _ = []
+
+-- and the one that an act makes
+abbrev pub member_of : Option Member → Who → (ticket : ℕ) → Option Member
+member_of None w t = None
+member_of (Some m) (who.Call u) t = if t == u then Some m else None
+member_of (Some m) (who.Consumer n u) t = None
+member_of (Some m) (who.Producer n) t = None
+
+abbrev pub member_born : View → (ticket : ℕ) → Act → Option Member
+member_born v t (Answers w verdict) = member_of (member_made v.links.live verdict.makes) w t
+member_born v t _ = None
+
+-- what becomes of it
+abbrev pub member_row : View → Act → (ticket : ℕ) → Option Member → Option Member
+member_row v a t row = row_after member_by (member_born v t a) false (member_acts v t a) row
+
+-- all else of the consumers: their tickets, and their numbers
+abbrev pub consumers_else : View → Act → Consumers
+consumers_else v (Comes (Calls asked advice)) =
+    if lacks_tickets v.calls.drawn (shares asked) then v.consumers else consumer.called_on (may_call v.calls) asked v.consumers
+consumers_else v (Does w (TakeNumber wanted)) = consumer.numbered (ticket_of w) wanted v.consumers
+consumers_else v (Answers w verdict) = consumers_left w (consumers_listed w verdict.makes v.consumers)
+consumers_else v _ = v.consumers
+
+abbrev pub consumers_after : View → Act → Consumers
+consumers_after v a = record (consumers_else v a) { rows = λ t. member_row v a t (v.consumers.rows t) }
+
+-- PRODUCERS
+
+-- what is around a topic producer: the room on its link, where that is ready
 abbrev pub room_on : (ℕ → Option Seat) → Option ℕ → Option Bool
 room_on live None = None
 room_on live (Some l) = room_at (live l)
@@ -442,12 +509,12 @@ abbrev pub room_of : View → (number : ℕ) → Option Bool
 room_of v n = room_on v.links.live (link_at (v.producers.topics n))
 
 -- the producer that a verdict makes has the ticket of its call
-abbrev pub producers_made : Chosen → Who → Makes → Producers → Producers
-producers_made o who Nothing ps = ps
-producers_made o who Client ps = ps
-producers_made o who (Consumer made) ps = ps
-producers_made o who (RawConsumer link made) ps = ps
-producers_made o who (Producer made) ps = joined (rank who).1 made o.seed o.first_number ps
+abbrev pub producers_listed : Chosen → Who → Makes → Producers → Producers
+producers_listed o who Nothing ps = ps
+producers_listed o who Client ps = ps
+producers_listed o who (Consumer made) ps = ps
+producers_listed o who (RawConsumer link made) ps = ps
+producers_listed o who (Producer made) ps = listed (rank who).1 made o.seed ps
 
 -- and a call that has ended makes none any more
 abbrev pub producers_left : Who → Producers → Producers
@@ -509,7 +576,7 @@ others_after v (Comes (Calls asked advice)) =
     if lacks_tickets v.calls.drawn (shares asked) then v.producers else called_on (may_call v.calls) asked v.producers
 others_after v (Does who Number) = numbered v.producers
 others_after v (Does who (Hold l n)) = holding (ticket_of who) l n v.producers
-others_after v (Answers who verdict) = producers_left who (producers_made v.chosen who verdict.makes v.producers)
+others_after v (Answers who verdict) = producers_left who (producers_listed v.chosen who verdict.makes v.producers)
 others_after v _ = v.producers
 
 abbrev pub producers_after : View → Act → Producers
@@ -538,7 +605,7 @@ after a v =
       now = v.now;
       stand = λ w. stand_after a w (v.stand w);
       calls = calls_after a v.calls;
-      links = links_after v.chosen v.addresses v.now a v.links;
+      links = links_after v a;
       addresses = addresses_after v a;
       alarms = alarms_after v a;
       consumers = consumers_after v a;

@@ -1,18 +1,18 @@
 //! What the options of a client say of its run.
 
 ghost use Rattle.std.specs.Prelude.{◌≡◌, IfOk};
-ghost use Rattle.std.specs.Option.{option_map};
-ghost use Rattle.pulsar_messages.specs.Content.{authentication_values};
 ghost use Rattle.pulsar_session.specs.Link.{fresh};
 ghost use Rattle.pulsar_acts.specs.Tables.{chosen_of};
 ghost use Rattle.pulsar_acts.specs.View.{delay_with, setup, ways_of};
 
 use pulsar_addresses::content::Address;
-use pulsar_addresses::options::{ConnectionRetryOptions, OperationRetryOptions, backoff};
-use pulsar_addresses::random::{connection_id, jitter};
+use pulsar_addresses::options::{ConnectionRetryOptions, OperationRetryOptions};
+use pulsar_addresses::random::connection_id;
 use pulsar_messages::Authentication;
 use pulsar_searches::turn::Ways;
 use pulsar_session::Connection;
+use pulsar_session::series::delay;
+use pulsar_session::service::copy_auth;
 use pulsar_wire::error::NoMemory;
 use std::alloc::Global;
 
@@ -98,16 +98,6 @@ impl Settings {
     pub fn delay(&self, link: u64, retries: u32) -> u64
         ensures { result ≡ delay_with (chosen_of self.now) link retries }
     {
-        backoff(&self.connection, retries, jitter(self.seed, link))
-    }
-}
-
-/// A credential once more.
-pub fn copy_auth(auth: &Option<Authentication>) -> Result<Option<Authentication>, NoMemory>
-    ensures { IfOk result (λ a. option_map authentication_values a ≡ option_map authentication_values auth.now) }
-{
-    match auth {
-        Some(auth) => Ok(Some(auth.copy()?)),
-        None => Ok(None),
+        delay(&self.connection, self.seed, link, retries)
     }
 }

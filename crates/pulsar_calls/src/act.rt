@@ -283,6 +283,21 @@ pub enum TopicAsk {
     TakeBatch,
 }
 
+/// What is asked of a consumer: by the ticket that it names, or by the one that serves it.
+#[derive(Drop)]
+pub enum ConsumerAsk {
+    /// The link of the one of this ticket, or to wait until it has one.
+    Find(u64),
+    /// The flow that is due next of the one that is served.
+    TakeFlow,
+    /// The command by which that is subscribed again.
+    Recall,
+    /// It was subscribed again, on this link.
+    Revive { link: u64 },
+    /// It could not be subscribed again, for this reason.
+    Fail(Failure),
+}
+
 /// What a plan does next. Then it waits for an outcome.
 #[derive(Drop)]
 pub enum Action {
@@ -302,16 +317,8 @@ pub enum Action {
     Shut(u64),
     /// Take this number for a new consumer, or draw one.
     TakeNumber(Option<u64>),
-    /// Find the link of the consumer of this ticket, or wait until it has one.
-    FindConsumer(u64),
-    /// Take the flow that is due next of the consumer whose plan it is.
-    TakeFlow,
-    /// Find the command by which this consumer is subscribed again.
-    RecallConsumer,
-    /// This consumer was subscribed again, on this link.
-    Revive { link: u64 },
-    /// This consumer could not be subscribed again, for this reason.
-    FailConsumer(Failure),
+    /// Ask this of a consumer: of its own, unless the ask names another.
+    OfConsumer(ConsumerAsk),
     /// Tell another one, who joins those whom the present cause serves.
     Tell(Notice),
     /// Tell several others, who do so.

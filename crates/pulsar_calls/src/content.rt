@@ -11,6 +11,7 @@ ghost use Rattle.pulsar_wire.specs.declared.error.Error.{Error as Meant};
 ghost use Rattle.pulsar_wire.specs.Failures.{sent};
 
 use crate::act::Notice;
+use crate::boxed::Boxed;
 use crate::effect::Answer;
 use crate::event::Call;
 use pulsar_addresses::content::{Refusal, Text};
@@ -111,39 +112,7 @@ impl Said {
 }
 
 /// What comes of what is asked of a topic producer, or of their numbers.
-pub struct Granted {
-    news: Box<News>,
-}
-
-impl Drop for Granted {
-    fn drop(self) {
-        let Granted { news: _ } = self;
-    }
-}
-
-impl Model for Granted {
-    ghost use Rattle.pulsar_calls.specs.News.{News};
-
-    ghost Value = { News };
-
-    ghost view = { λ g. g.news.value };
-}
-
-impl Granted {
-    pub fn new(alloc: Global, news: News) -> Result<Granted, NoMemory>
-        ensures { IfOk result (λ g. g ≡ news) }
-    {
-        let news = Box::new(alloc, news)?;
-        Ok(Granted { news })
-    }
-
-    pub fn into_inner(self) -> News
-        ensures { result ≡ self }
-    {
-        let Granted { news } = self;
-        Box::into_inner(news)
-    }
-}
+pub type Granted = Boxed<News>;
 
 /// A topic producer that was made again: its link, and what its broker says of it.
 #[derive(Drop)]
@@ -153,39 +122,7 @@ pub struct Remaking {
 }
 
 /// The same in a box.
-pub struct Remade {
-    remaking: Box<Remaking>,
-}
-
-impl Drop for Remade {
-    fn drop(self) {
-        let Remade { remaking: _ } = self;
-    }
-}
-
-impl Model for Remade {
-    ghost use Rattle.pulsar_calls.specs.declared.content.Remaking.{Remaking};
-
-    ghost Value = { Remaking };
-
-    ghost view = { λ r. r.remaking.value };
-}
-
-impl Remade {
-    pub fn new(alloc: Global, remaking: Remaking) -> Result<Remade, NoMemory>
-        ensures { IfOk result (λ r. r ≡ remaking) }
-    {
-        let remaking = Box::new(alloc, remaking)?;
-        Ok(Remade { remaking })
-    }
-
-    pub fn into_inner(self) -> Remaking
-        ensures { result ≡ self }
-    {
-        let Remade { remaking } = self;
-        Box::into_inner(remaking)
-    }
-}
+pub type Remade = Boxed<Remaking>;
 
 /// A producer that was built: its topic, how it is made and sends, and its topic producers in order.
 #[derive(Drop)]
@@ -196,46 +133,7 @@ pub struct BuiltProducer {
 }
 
 /// The same in a box.
-pub struct Made {
-    building: Box<BuiltProducer>,
-}
-
-impl Drop for Made {
-    fn drop(self) {
-        let Made { building: _ } = self;
-    }
-}
-
-impl Model for Made {
-    ghost use Rattle.pulsar_calls.specs.declared.content.BuiltProducer.{BuiltProducer};
-
-    ghost Value = { BuiltProducer };
-
-    ghost view = { λ m. m.building.value };
-}
-
-impl Made {
-    pub fn new(alloc: Global, building: BuiltProducer) -> Result<Made, NoMemory>
-        ensures { IfOk result (λ m. m ≡ building) }
-    {
-        let building = Box::new(alloc, building)?;
-        Ok(Made { building })
-    }
-
-    /// The producer to be looked at.
-    pub fn building(&self) -> &BuiltProducer
-        ensures { result.now ≡ self.now }
-    {
-        &self.building
-    }
-
-    pub fn into_inner(self) -> BuiltProducer
-        ensures { result ≡ self }
-    {
-        let Made { building } = self;
-        Box::into_inner(building)
-    }
-}
+pub type Made = Boxed<BuiltProducer>;
 
 /// A consumer that was made: the name of its topic, its number, how it is made, and the link of its subscription.
 #[derive(Drop)]
@@ -247,81 +145,10 @@ pub struct Joining {
 }
 
 /// The same in a box.
-pub struct Joined {
-    joining: Box<Joining>,
-}
-
-impl Drop for Joined {
-    fn drop(self) {
-        let Joined { joining: _ } = self;
-    }
-}
-
-impl Model for Joined {
-    ghost use Rattle.pulsar_calls.specs.declared.content.Joining.{Joining};
-
-    ghost Value = { Joining };
-
-    ghost view = { λ j. j.joining.value };
-}
-
-impl Joined {
-    pub fn new(alloc: Global, joining: Joining) -> Result<Joined, NoMemory>
-        ensures { IfOk result (λ j. j ≡ joining) }
-    {
-        let joining = Box::new(alloc, joining)?;
-        Ok(Joined { joining })
-    }
-
-    /// The consumer to be looked at.
-    pub fn joining(&self) -> &Joining
-        ensures { result.now ≡ self.now }
-    {
-        &self.joining
-    }
-
-    pub fn into_inner(self) -> Joining
-        ensures { result ≡ self }
-    {
-        let Joined { joining } = self;
-        Box::into_inner(joining)
-    }
-}
+pub type Joined = Boxed<Joining>;
 
 /// The command by which a consumer is subscribed again, in a box.
-pub struct Recalled {
-    command: Box<Command>,
-}
-
-impl Drop for Recalled {
-    fn drop(self) {
-        let Recalled { command: _ } = self;
-    }
-}
-
-impl Model for Recalled {
-    ghost use Rattle.pulsar_searches.specs.declared.making.Command.{Command};
-
-    ghost Value = { Command };
-
-    ghost view = { λ r. r.command.value };
-}
-
-impl Recalled {
-    pub fn new(alloc: Global, command: Command) -> Result<Recalled, NoMemory>
-        ensures { IfOk result (λ r. r ≡ command) }
-    {
-        let command = Box::new(alloc, command)?;
-        Ok(Recalled { command })
-    }
-
-    pub fn into_inner(self) -> Command
-        ensures { result ≡ self }
-    {
-        let Recalled { command } = self;
-        Box::into_inner(command)
-    }
-}
+pub type Recalled = Boxed<Command>;
 
 /// Numbers of topic producers that are left, in order.
 pub struct Numbers {

@@ -2,6 +2,7 @@
 #![tactic(auto)]
 
 pub mod act;
+pub mod boxed;
 pub mod content;
 pub mod copying;
 pub mod effect;

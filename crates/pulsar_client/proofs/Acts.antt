@@ -1,6 +1,6 @@
 -- What a call gives rise to, and what is first of what is left to do.
 use Rattle.std.proofs.Common.{◌≡◌, ◌⊎◌, inl, inr, ◌∙◌, sym, ap, subst, ℕ, ◌+◌, ◌-◌, ◌^◌, ◌≤◌, ◌<◌, arith, length, List, [], ◌∷◌, ◌++◌, refl, drop, Bool, true, false, cond, Option, Some, None}
-use Rattle.std.specs.List.{flat_map}
+use Rattle.std.specs.List.{AllByRecursion, flat_map}
 use Rattle.std.specs.Option.{option_to_list}
 use Rattle.pulsar_run.specs.Run.{first_of, rest_of}
 use Rattle.pulsar_messages.specs.Content.{ProducerMessageValues}
@@ -27,8 +27,7 @@ use Rattle.pulsar_links.specs.Seats.{Links, Seat}
 
 -- each of a list is so
 abbrev pub Each : {A : Type 0} → (A → Type 0) → List A → Type 0
-Each P [] = Unit {0}
-Each P (x ∷ xs) = P x × Each P xs
+Each P xs = AllByRecursion P xs
 
 pub each_append : {A : Type 0} (P : A → Type 0) (xs ys : List A) → Each P xs → Each P ys → Each P (xs ++ ys)
 each_append P [] ys p q = q

@@ -1,17 +1,15 @@
 -- What arises at once, by its kind, and which acts give rise to it. A further kind of act or action is told of here, and nowhere else.
 use Rattle.std.proofs.Common.{◌≡◌, ℕ, ◌+◌, List, ◌∷◌, refl, Bool, true, false, Option, Some, None, [], map}
 use Rattle.pulsar_addresses.specs.Address.{Place, address_key, is_reachable}
-use Rattle.pulsar_searches.specs.declared.making.Command.{Command}
 use Rattle.pulsar_searches.specs.declared.turn.Ways.{Ways}
 use Rattle.pulsar_outgoing.specs.Storage.{is_batching}
 use Rattle.pulsar_outgoing.specs.declared.content.Built.{Built}
 use Rattle.pulsar_calls.specs.declared.content.BuiltProducer.{BuiltProducer}
 use Rattle.pulsar_calls.specs.declared.content.Joining.{Joining}
-use Rattle.pulsar_calls.specs.Who.{ticket_of}
 use Rattle.pulsar_calls.specs.declared.act.Act.{Act}
 use Rattle.pulsar_calls.specs.declared.act.Act.TheVariants.{Comes, Starts, Told, Does, Answers, Dials}
 use Rattle.pulsar_calls.specs.declared.act.Action.{Action}
-use Rattle.pulsar_calls.specs.declared.act.Action.TheVariants.{OfTopic, Get, Wait, FindConsumer, RecallConsumer, StopAll, Rest}
+use Rattle.pulsar_calls.specs.declared.act.Action.TheVariants.{OfTopic, OfConsumer, Get, Wait, StopAll, Rest}
 use Rattle.pulsar_calls.specs.declared.act.Alarm.{Alarm}
 use Rattle.pulsar_calls.specs.declared.act.Alarm.TheVariants.{Retry, Wake, Batch, KeepAlive, CheckIdle}
 use Rattle.pulsar_calls.specs.declared.act.Arrival.{Arrival}
@@ -28,24 +26,19 @@ use Rattle.pulsar_links.specs.declared.addresses.Pause.{Pause}
 use Rattle.pulsar_links.specs.declared.addresses.Series.{Series}
 use Rattle.pulsar_links.specs.declared.addresses.Series.TheVariants.{Nobody, Runs, Pauses, Serves}
 use Rattle.pulsar_plans.specs.declared.plan.Plan.{Plan}
-use Rattle.pulsar_plans.specs.declared.plan.Turn.{Turn}
-use Rattle.pulsar_plans.specs.declared.plan.Turn.TheVariants.{Stays, Gives}
-use Rattle.pulsar_consumer_table.specs.declared.row.Sought.{Sought}
-use Rattle.pulsar_consumer_table.specs.declared.row.Sought.TheVariants.{Found, Gone, Later}
 use Rattle.pulsar_links.specs.Alarms.{rings}
-use Rattle.pulsar_consumer_table.specs.Consumers as consumer
-use Rattle.pulsar_consumer_table.specs.Consumers.{sought}
-use Rattle.pulsar_acts.specs.Reading.{recalled_said, serves_by, sought_said, tells}
+use Rattle.pulsar_acts.specs.Reading.{serves_by, tells}
 use Rattle.pulsar_calls.specs.Content.{Asked, shares}
 use Rattle.pulsar_plans.specs.Plan.{begins}
 use Rattle.pulsar_acts.specs.Rules.{at_once, batches_by, batches_from, breaks_at, called, does, follows, follows_some, gets_from, idle_act, is_idle, keeps_alive, left_with, performs, rung, tries_again, says_to}
 use Rattle.pulsar_links.specs.LinkRules.{may_ping, over_links, stop_act}
-use Rattle.pulsar_acts.specs.View.{View, told_some, ways_of, asked_of}
+use Rattle.pulsar_acts.specs.View.{View, told_some, ways_of, asked_of, consumer_asked}
 use Rattle.pulsar_links.specs.Seats.{Seat, arrival_at}
 use Rattle.pulsar_calls.specs.declared.act.Outcome.TheVariants as outcome
 use Rattle.pulsar_client.proofs.Acts.{Each, StartsIn, called_each, each_append, each_either, over_each}
-use Rattle.pulsar_calls.specs.declared.act.TopicAsk.{TopicAsk}
 use Rattle.pulsar_calls.specs.declared.act.Outcome.{Outcome}
+use Rattle.pulsar_searches.specs.declared.transition.Transition.TheVariants.{Stays, Gives}
+use Rattle.pulsar_plans.specs.Transitions.{PlanTransition}
 
 -- the plan of a call begins, that of a topic producer's batches, or that of a consumer; one does something, or ends; one is told something; an attempt begins; a link ends by what came on it, for want of use or
 -- with the client, or is pinged; and what never arises at once
@@ -116,11 +109,11 @@ does_raised : (a : Act) (who : Who) (action : Action) → may OfDeed a ≡ true 
 does_raised a who Rest d = tt
 does_raised a who _ d = (d, tt)
 
-follows_raised : (a : Act) (who : Who) (turn : Turn Plan Verdict) → may OfDeed a ≡ true → may OfVerdict a ≡ true → Each (IsRaised a) (follows who turn)
+follows_raised : (a : Act) (who : Who) (turn : PlanTransition) → may OfDeed a ≡ true → may OfVerdict a ≡ true → Each (IsRaised a) (follows who turn)
 follows_raised a who (Stays plan action) d e = does_raised a who action d
 follows_raised a who (Gives verdict) d e = (e, tt)
 
-some_raised : (a : Act) (who : Who) (turn : Option (Turn Plan Verdict)) → may OfDeed a ≡ true → may OfVerdict a ≡ true →
+some_raised : (a : Act) (who : Who) (turn : Option (PlanTransition)) → may OfDeed a ≡ true → may OfVerdict a ≡ true →
     Each (IsRaised a) (follows_some who turn)
 some_raised a who None d e = tt
 some_raised a who (Some turn) d e = follows_raised a who turn d e
@@ -133,27 +126,17 @@ from_raised who p (Runs starter retries l) = tt
 from_raised who p (Pauses l) = tt
 from_raised who p (Serves l) = (refl, tt)
 
-says_raised : (who : Who) (n : ℕ) (ask : TopicAsk) (u : Option Outcome) → Each (IsRaised (Does who (OfTopic n ask))) (says_to who u)
-says_raised who n ask None = tt
-says_raised who n ask (Some u) = (refl, tt)
-
-sought_raised : (who : Who) (t : ℕ) (s : Sought) → Each (IsRaised (Does who (FindConsumer t))) (sought_said who s)
-sought_raised who t (Found l) = (refl, tt)
-sought_raised who t Gone = (refl, tt)
-sought_raised who t Later = tt
-
-recalled_raised : (who : Who) (row : Option Command) → Each (IsRaised (Does who RecallConsumer)) (recalled_said who row)
-recalled_raised who None = (refl, tt)
-recalled_raised who (Some c) = (refl, tt)
+says_raised : (who : Who) (action : Action) (u : Option Outcome) → Each (IsRaised (Does who action)) (says_to who u)
+says_raised who action None = tt
+says_raised who action (Some u) = (refl, tt)
 
 performs_raised : (v : View) (who : Who) (action : Action) → Each (IsRaised (Does who action)) (performs v who action)
 performs_raised v who (Get p) =
     let s : Series = (v.addresses.base (address_key p)).series in
     each_either (IsRaised (Does who (Get p))) (is_reachable p) (gets_from who p s) (tells who outcome.NotFound) (from_raised who p s) (refl, tt)
 performs_raised v who (Wait delay) = tt
-performs_raised v who (OfTopic n ask) = says_raised who n ask (asked_of v who n ask).says
-performs_raised v who (FindConsumer t) = sought_raised who t (sought (v.consumers.rows t))
-performs_raised v who RecallConsumer = recalled_raised who (consumer.recalled (v.consumers.rows (ticket_of who)))
+performs_raised v who (OfTopic n ask) = says_raised who (OfTopic n ask) (asked_of v who n ask).says
+performs_raised v who (OfConsumer ask) = says_raised who (OfConsumer ask) (consumer_asked v who ask).says
 performs_raised v who StopAll =
     each_append (IsRaised (Does who StopAll)) (over_links stop_act v.links) (tells who outcome.Stopped)
     (over_each (IsRaised (Does who StopAll)) stop_act v.links (λ l seat. (refl, tt))) (refl, tt)

@@ -4,11 +4,11 @@ ghost use Rattle.std.specs.Prelude.{◌≡◌, IfOk};
 ghost use Rattle.pulsar_acts.specs.Tables.{chosen_of};
 ghost use Rattle.pulsar_client.specs.Client.{chosen};
 
-use pulsar_acts::settings::{Settings, copy_auth};
+use pulsar_acts::settings::Settings;
 use pulsar_addresses::options::{ConnectionRetryOptions, OperationRetryOptions};
-use pulsar_links::address::base_in;
 use pulsar_messages::Authentication;
 use pulsar_producer::CustomRoutingPolicy;
+use pulsar_session::service::{base_in, copy_auth};
 use pulsar_wire::error::NoMemory;
 use std::alloc::Global;
 

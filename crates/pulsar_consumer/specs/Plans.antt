@@ -4,16 +4,12 @@ use Rattle.std.specs.Prelude.{ℕ, List, [], ◌∷◌, codes, Option, Some, Non
 use Rattle.pulsar_wire.specs.Failures.{Failure, OfConnection, OfConsumer, ConsumerBuild, Custom}
 use Rattle.pulsar_addresses.specs.Address.{Place, Named}
 use Rattle.pulsar_searches.specs.Plans.{and_then, fault_of, look_begins, look_told, made_gets, made_told, names_begins, names_told}
-use Rattle.pulsar_searches.specs.declared.closing.Step.{Step}
-use Rattle.pulsar_searches.specs.declared.closing.Step.TheVariants.{Stays, Gives}
 use Rattle.pulsar_searches.specs.declared.look.Looking.{Looking}
 use Rattle.pulsar_searches.specs.declared.making.Command.{Command}
 use Rattle.pulsar_searches.specs.declared.making.Making.{Making}
 use Rattle.pulsar_searches.specs.declared.making.Served.{Served}
 use Rattle.pulsar_searches.specs.declared.names.Naming.{Naming}
 use Rattle.pulsar_searches.specs.declared.turn.SearchOutcome.{SearchOutcome}
-use Rattle.pulsar_searches.specs.declared.turn.Turn.{Turn}
-use Rattle.pulsar_searches.specs.declared.turn.Turn.TheVariants as turn
 use Rattle.pulsar_searches.specs.declared.turn.Ways.{Ways}
 use Rattle.pulsar_consumer.specs.Commands.{command}
 use Rattle.pulsar_consumer.specs.declared.building.BuildingConsumer.{BuildingConsumer}
@@ -27,16 +23,19 @@ use Rattle.pulsar_consumer.specs.declared.building.News.TheVariants.{Told, Numbe
 use Rattle.pulsar_incoming.specs.declared.orders.ConsumerOrder.{ConsumerOrder}
 use Rattle.pulsar_consumer.specs.declared.resuming.Resuming.{Resuming}
 use Rattle.pulsar_consumer.specs.declared.resuming.Resuming.TheVariants as resume
+use Rattle.pulsar_searches.specs.declared.transition.Transition.{Transition}
+use Rattle.pulsar_searches.specs.declared.transition.Transition.TheVariants.{Stays, Gives}
+use Rattle.pulsar_searches.specs.Transitions.{SearchTransition}
 
 -- A RESUBSCRIPTION: the broker of the topic is looked for, and the consumer subscribes there again. It gives the link.
 
 abbrev pub Resumes : Type 0
-Resumes = Turn Resuming (Result ℕ Failure)
+Resumes = SearchTransition Resuming (Result ℕ Failure)
 
-abbrev pub resume_makes : Turn Making (Result Served Failure) → Resumes
-resume_makes t = and_then t resume.Making (λ s. turn.Gives (Ok s.link))
+abbrev pub resume_makes : SearchTransition Making (Result Served Failure) → Resumes
+resume_makes t = and_then t resume.Making (λ s. Gives (Ok s.link))
 
-abbrev pub resume_looks : Turn Looking (Result Place Failure) → Resumes
+abbrev pub resume_looks : SearchTransition Looking (Result Place Failure) → Resumes
 resume_looks t = and_then t resume.Looking (λ place. resume_makes (made_gets 0 place))
 
 abbrev pub resume_begins : Ways → Resumes
@@ -50,16 +49,16 @@ resume_told w c (resume.Making m) o = resume_makes (made_told w c m o)
 -- made.
 
 abbrev pub Builds : Type 0
-Builds = Step BuildingConsumer Deed (Result Built Failure)
+Builds = Transition BuildingConsumer Deed (Result Built Failure)
 
 abbrev pub build_fails : Failure → Builds
 build_fails f = Gives (Err f)
 
 -- a plan within it; where that fails, so does the building
-abbrev pub build_then : {S A : Type 0} → Turn S (Result A Failure) → (S → BuildingConsumer) → (A → Builds) → Builds
-build_then (turn.Stays s action) within on = Stays (within s) (Does action)
-build_then (turn.Gives (Ok a)) within on = on a
-build_then (turn.Gives (Err f)) within on = build_fails f
+abbrev pub build_then : {S A : Type 0} → SearchTransition S (Result A Failure) → (S → BuildingConsumer) → (A → Builds) → Builds
+build_then (Stays s action) within on = Stays (within s) (Does action)
+build_then (Gives (Ok a)) within on = on a
+build_then (Gives (Err f)) within on = build_fails f
 
 abbrev pub not_found : Failure
 not_found = Custom (codes "Unable to create consumer - topic not found")
@@ -81,7 +80,7 @@ abbrev pub build_numbers : ConsumerOrder → Option Named → Builds
 build_numbers o None = build_fails not_found
 build_numbers o (Some n) = Stays (build.Numbering n.name n.place) (Numbers o.config.consumer_id)
 
-abbrev pub build_names : ConsumerOrder → Turn Naming (Result (List Named) Failure) → Builds
+abbrev pub build_names : ConsumerOrder → SearchTransition Naming (Result (List Named) Failure) → Builds
 build_names o t = build_then t build.Naming (λ names. build_numbers o (only names))
 
 abbrev pub build_begins : Ways → ConsumerOrder → Builds
@@ -90,7 +89,7 @@ build_begins w o = build_names o (names_begins w o.topic)
 abbrev pub built : Command → (number : ℕ) → Served → Built
 built c number s = record { topic = c.topic; number = number; link = s.link }
 
-abbrev pub build_makes : Command → (number : ℕ) → Turn Making (Result Served Failure) → Builds
+abbrev pub build_makes : Command → (number : ℕ) → SearchTransition Making (Result Served Failure) → Builds
 build_makes c number t = build_then t (λ k. build.Making c k number) (λ s. Gives (Ok (built c number s)))
 
 abbrev pub in_naming : Ways → ConsumerOrder → Naming → News → Builds

@@ -8,11 +8,11 @@ ghost use Rattle.pulsar_consumer.specs.Plans as meaning;
 use pulsar_addresses::content::{Address, Names, Refusal, Text};
 use pulsar_incoming::orders::ConsumerOrder;
 use pulsar_incoming::settings::Settings;
-use pulsar_searches::closing::Step;
 use pulsar_searches::making::{self, Command, Making, Served};
 use pulsar_searches::names::{self, Naming};
 use pulsar_searches::question::{Question, Request};
-use pulsar_searches::turn::{Action, SearchOutcome, Turn, Ways, error_of};
+use pulsar_searches::transition::Transition;
+use pulsar_searches::turn::{Action, SearchOutcome, SearchTransition, Ways, error_of};
 use pulsar_wire::encoding::copying::copy_optional;
 use pulsar_wire::error::{ConsumerError, Error, NoMemory};
 use std::alloc::Global;
@@ -73,7 +73,7 @@ pub enum BuildingConsumer {
 }
 
 /// What a building gives at its end.
-pub type Builds = Step<BuildingConsumer, Deed, Result<Built, Refusal>>;
+pub type Builds = Transition<BuildingConsumer, Deed, Result<Built, Refusal>>;
 
 /// Where it begins.
 pub fn begins(alloc: Global, ways: &Ways, order: &ConsumerOrder) -> Result<Builds, NoMemory>
@@ -120,7 +120,7 @@ fn in_naming(
             let turn = names::told(alloc, ways, &order.topic, naming, outcome)?;
             names(alloc, order, turn)
         }
-        News::Numbered(_) | News::InUse => Ok(Step::Stays(
+        News::Numbered(_) | News::InUse => Ok(Transition::Stays(
             BuildingConsumer::Naming(naming),
             Deed::Rests,
         )),
@@ -161,7 +161,7 @@ fn in_making(
             let turn = making::told(alloc, ways, &command, making, outcome)?;
             Ok(makes(command, number, turn))
         }
-        News::Numbered(_) | News::InUse => Ok(Step::Stays(
+        News::Numbered(_) | News::InUse => Ok(Transition::Stays(
             BuildingConsumer::Making {
                 command,
                 making,
@@ -176,16 +176,16 @@ fn in_making(
 fn names(
     alloc: Global,
     order: &ConsumerOrder,
-    turn: Turn<Naming, Result<Names, Refusal>>,
+    turn: SearchTransition<Naming, Result<Names, Refusal>>,
 ) -> Result<Builds, NoMemory>
     ensures { IfOk result (λ step. step ≡ meaning.build_names order.now turn) }
 {
     match turn {
-        Turn::Stays(naming, action) => {
-            Ok(Step::Stays(BuildingConsumer::Naming(naming), Deed::Does(action)))
+        Transition::Stays(naming, action) => {
+            Ok(Transition::Stays(BuildingConsumer::Naming(naming), Deed::Does(action)))
         }
-        Turn::Gives(Ok(names)) => numbers(alloc, order, only(alloc, names)?),
-        Turn::Gives(Err(refusal)) => Ok(fails(refusal)),
+        Transition::Gives(Ok(names)) => numbers(alloc, order, only(alloc, names)?),
+        Transition::Gives(Err(refusal)) => Ok(fails(refusal)),
     }
 }
 
@@ -201,7 +201,7 @@ fn numbers(alloc: Global, order: &ConsumerOrder, found: Option<Found>) -> Result
     ensures { IfOk result (λ step. step ≡ meaning.build_numbers order.now (option_map meaning.found found)) }
 {
     match found {
-        Some(Found { name, place }) => Ok(Step::Stays(
+        Some(Found { name, place }) => Ok(Transition::Stays(
             BuildingConsumer::Numbering { topic: name, place },
             Deed::Numbers(order.config.get().consumer_id),
         )),
@@ -227,11 +227,15 @@ fn only(alloc: Global, names: Names) -> Result<Option<Found>, NoMemory>
 }
 
 /// The subscription is made.
-fn makes(command: Command, number: u64, turn: Turn<Making, Result<Served, Refusal>>) -> Builds
+fn makes(
+    command: Command,
+    number: u64,
+    turn: SearchTransition<Making, Result<Served, Refusal>>,
+) -> Builds
     ensures { result ≡ meaning.build_makes command number turn }
 {
     match turn {
-        Turn::Stays(making, action) => Step::Stays(
+        Transition::Stays(making, action) => Transition::Stays(
             BuildingConsumer::Making {
                 command,
                 making,
@@ -239,19 +243,19 @@ fn makes(command: Command, number: u64, turn: Turn<Making, Result<Served, Refusa
             },
             Deed::Does(action),
         ),
-        Turn::Gives(Ok(served)) => Step::Gives(Ok(Built {
+        Transition::Gives(Ok(served)) => Transition::Gives(Ok(Built {
             topic: command.topic,
             number,
             link: served.link,
         })),
-        Turn::Gives(Err(refusal)) => fails(refusal),
+        Transition::Gives(Err(refusal)) => fails(refusal),
     }
 }
 
 fn fails(refusal: Refusal) -> Builds
     ensures { result ≡ meaning.build_fails refusal }
 {
-    Step::Gives(Err(refusal))
+    Transition::Gives(Err(refusal))
 }
 
 /// The topic has no one name.

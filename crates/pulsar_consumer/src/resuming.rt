@@ -6,7 +6,8 @@ ghost use Rattle.pulsar_consumer.specs.Plans as meaning;
 use pulsar_addresses::content::{Address, Refusal};
 use pulsar_searches::look::{self, Looking};
 use pulsar_searches::making::{self, Command, Making, Served};
-use pulsar_searches::turn::{SearchOutcome, Turn, Ways};
+use pulsar_searches::transition::Transition;
+use pulsar_searches::turn::{SearchOutcome, SearchTransition, Ways};
 use pulsar_wire::error::NoMemory;
 use std::alloc::Global;
 
@@ -20,7 +21,7 @@ pub enum Resuming {
 }
 
 /// What it gives at its end: the link of the new subscription.
-pub type Resumes = Turn<Resuming, Result<u64, Refusal>>;
+pub type Resumes = SearchTransition<Resuming, Result<u64, Refusal>>;
 
 /// Where it begins.
 pub fn begins(alloc: Global, ways: &Ways) -> Result<Resumes, NoMemory>
@@ -52,23 +53,23 @@ pub fn told(
 }
 
 /// The broker of the topic is looked for.
-fn looks(turn: Turn<Looking, Result<Address, Refusal>>) -> Resumes
+fn looks(turn: SearchTransition<Looking, Result<Address, Refusal>>) -> Resumes
     ensures { result ≡ meaning.resume_looks turn }
 {
     match turn {
-        Turn::Stays(looking, action) => Turn::Stays(Resuming::Looking(looking), action),
-        Turn::Gives(Ok(address)) => makes(making::gets(0, address)),
-        Turn::Gives(Err(refusal)) => Turn::Gives(Err(refusal)),
+        Transition::Stays(looking, action) => Transition::Stays(Resuming::Looking(looking), action),
+        Transition::Gives(Ok(address)) => makes(making::gets(0, address)),
+        Transition::Gives(Err(refusal)) => Transition::Gives(Err(refusal)),
     }
 }
 
 /// The consumer subscribes.
-fn makes(turn: Turn<Making, Result<Served, Refusal>>) -> Resumes
+fn makes(turn: SearchTransition<Making, Result<Served, Refusal>>) -> Resumes
     ensures { result ≡ meaning.resume_makes turn }
 {
     match turn {
-        Turn::Stays(making, action) => Turn::Stays(Resuming::Making(making), action),
-        Turn::Gives(Ok(served)) => Turn::Gives(Ok(served.link)),
-        Turn::Gives(Err(refusal)) => Turn::Gives(Err(refusal)),
+        Transition::Stays(making, action) => Transition::Stays(Resuming::Making(making), action),
+        Transition::Gives(Ok(served)) => Transition::Gives(Ok(served.link)),
+        Transition::Gives(Err(refusal)) => Transition::Gives(Err(refusal)),
     }
 }

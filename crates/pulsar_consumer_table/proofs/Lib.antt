@@ -4,6 +4,7 @@ pub mod Numbered
 pub mod Finding
 pub mod Several
 pub mod Listed
+pub mod Asking
 pub mod Drawing
 pub mod Retaining
 pub mod Living

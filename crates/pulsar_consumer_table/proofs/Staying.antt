@@ -6,8 +6,8 @@ use Rattle.pulsar_frame.specs.Items.{Item, Given, Faulty}
 use Rattle.pulsar_calls.specs.declared.act.Who.{Who}
 use Rattle.pulsar_consumer.specs.Topic as topic
 use Rattle.pulsar_consumer.specs.Topic.{Polls, Asks, Seen, counts_first, first_of, is_ended, link_of, lives_on}
-use Rattle.pulsar_consumer_table.specs.declared.row.Sought.{Sought}
-use Rattle.pulsar_consumer_table.specs.declared.row.Sought.TheVariants.{Found, Gone, Later}
+use Rattle.pulsar_consumer_table.specs.declared.row.LinkAnswer.{LinkAnswer}
+use Rattle.pulsar_consumer_table.specs.declared.row.LinkAnswer.TheVariants.{Found, Gone, Later}
 use Rattle.pulsar_consumer_table.specs.Consumers.{lives_at, member_after, revived, seeks, sought, waits_so}
 use Rattle.pulsar_consumer_table.specs.KeptConsumers.{is_known}
 use Rattle.pulsar_consumer_table.proofs.Living.{giving_link, same_link}
@@ -60,7 +60,7 @@ asks_living l m = ap (topic.is_on l) (asks_link m.seen)
 pub seeks_known : (w : Who) → Stays is_known (seeks w)
 seeks_known w n m = by (sought (Some m))
   where
-    by : (s : Sought) → is_known n (Some (waits_so s w m)) ≡ is_known n (Some m)
+    by : (s : LinkAnswer) → is_known n (Some (waits_so s w m)) ≡ is_known n (Some m)
     by (Found k) = refl
     by Gone = refl
     by Later = refl
@@ -68,7 +68,7 @@ seeks_known w n m = by (sought (Some m))
 pub seeks_living : (w : Who) → Stays lives_at (seeks w)
 seeks_living w l m = by (sought (Some m))
   where
-    by : (s : Sought) → lives_on l (waits_so s w m).seen ≡ lives_on l m.seen
+    by : (s : LinkAnswer) → lives_on l (waits_so s w m).seen ≡ lives_on l m.seen
     by (Found k) = refl
     by Gone = refl
     by Later = refl

@@ -9,6 +9,7 @@ use Rattle.std.specs.Ordering.{nat_cmp}
 use Rattle.url.specs.Parts.{Parts}
 use Rattle.pulsar_wire.specs.Failures.{Failure, Fault}
 use Rattle.pulsar_messages.specs.Claims.{is_spent}
+use Rattle.pulsar_run.specs.Things.{row_by}
 use Rattle.pulsar_frame.specs.Items.{Item, Given, Faulty}
 use Rattle.pulsar_exchange.specs.Messages.{Reply, is_body}
 use Rattle.pulsar_exchange.specs.Request.{named_consumer}
@@ -31,8 +32,8 @@ use Rattle.pulsar_calls.specs.declared.act.Word.{Word}
 use Rattle.pulsar_calls.specs.declared.act.Word.TheVariants as word
 use Rattle.pulsar_consumer_table.specs.declared.numbers.Numbering.{Numbering}
 use Rattle.pulsar_consumer_table.specs.declared.numbers.Numbering.TheVariants.{Has, InUse, Spent}
-use Rattle.pulsar_consumer_table.specs.declared.row.Sought.{Sought}
-use Rattle.pulsar_consumer_table.specs.declared.row.Sought.TheVariants.{Found, Gone, Later}
+use Rattle.pulsar_consumer_table.specs.declared.row.LinkAnswer.{LinkAnswer}
+use Rattle.pulsar_consumer_table.specs.declared.row.LinkAnswer.TheVariants.{Found, Gone, Later}
 use Rattle.pulsar_calls.specs.Content as content
 use Rattle.pulsar_calls.specs.Content.{Asked, Shown, Hands, Faults, FindsNothing, FindsEnd}
 
@@ -168,16 +169,16 @@ is_heard cs l = some_row (lives_at l) cs
 
 -- THOSE WHO WANT ITS LINK: they get that of its live subscription, or wait; there is none once it has ended
 
-abbrev pub sought_for : (is_ended : Bool) → (link : Option ℕ) → Sought
+abbrev pub sought_for : (is_ended : Bool) → (link : Option ℕ) → LinkAnswer
 sought_for is_ended (Some l) = Found l
 sought_for true None = Gone
 sought_for false None = Later
 
-abbrev pub sought : Option Member → Sought
+abbrev pub sought : Option Member → LinkAnswer
 sought None = Gone
 sought (Some m) = sought_for (is_ended m.seen) (link_of m.seen)
 
-abbrev pub waits_so : Sought → Who → Member → Member
+abbrev pub waits_so : LinkAnswer → Who → Member → Member
 waits_so (Found l) w m = m
 waits_so Gone w m = m
 waits_so Later w m = record m { seekers = m.seekers ++ w ∷ [] }
@@ -226,6 +227,38 @@ is_ended_at (Some m) = is_ended m.seen
 -- the client is stopped
 abbrev pub stopped : Member → Member
 stopped m = unsought (member_after (Ends Stopped) m)
+
+-- ALL THAT IS DONE TO ONE
+
+pub data Deed : Type 0 where
+  -- this comes on a link
+  Arrives : (link : ℕ) → Arrival → Deed
+  -- a link ends, with this cause
+  LinkEnds : (link : ℕ) → (cause : Option Fault) → Deed
+  -- the close of a number is asked for on a link, and taken there
+  CloseAsked : (closed : Option ℕ) → (link : ℕ) → (is_asked : Bool) → Deed
+  -- it is polled at this moment
+  IsPolled : (clock : ℕ) → Deed
+  -- this one wants its link
+  IsSought : Who → Deed
+  -- the flow that is due is taken
+  FlowTaken : Deed
+  -- it was subscribed again, on a link to this address, or could not be
+  Revived : (link : ℕ) → Option Parts → Deed
+  NotRevived : Failure → Deed
+  -- the client is stopped
+  ClientStops : Deed
+
+abbrev pub member_by : Deed → Member → Member
+member_by (Arrives l a) m = hears l a m
+member_by (LinkEnds l cause) m = loses_by l cause m
+member_by (CloseAsked closed l is_asked) m = closes closed l is_asked m
+member_by (IsPolled clock) m = member_after (topic.Polls clock) m
+member_by (IsSought who) m = seeks who m
+member_by FlowTaken m = member_after topic.Asks m
+member_by (Revived l url) m = revived l url m
+member_by (NotRevived f) m = failed f m
+member_by ClientStops m = stopped m
 
 -- POLLS
 
@@ -315,8 +348,12 @@ names_in (Some number) cs = record cs { named = insert_key nat_cmp cs.named numb
 abbrev pub member_of : Setup → (link : ℕ) → Option Parts → Member
 member_of s l url = subscribed_on l url (record { seen = fresh s; seekers = [] })
 
+-- its ticket is that of its call
+abbrev pub listed : (ticket : ℕ) → Consumers → Consumers
+listed t cs = record cs { tickets = insert_key nat_cmp cs.tickets t }
+
 abbrev pub joined : (ticket : ℕ) → Member → Consumers → Consumers
-joined t m cs = record cs { rows = λ u. if u == t then Some m else cs.rows u; tickets = insert_key nat_cmp cs.tickets t }
+joined t m cs = record (listed t cs) { rows = λ u. if u == t then Some m else cs.rows u }
 
 -- one of them is changed, and each
 abbrev pub changed : (ticket : ℕ) → (Member → Member) → Consumers → Consumers
@@ -324,6 +361,10 @@ changed t f cs = record cs { rows = λ u. if u == t then option_map f (cs.rows u
 
 abbrev pub all_changed : (Member → Member) → Consumers → Consumers
 all_changed f cs = record cs { rows = λ u. option_map f (cs.rows u) }
+
+-- and by several deeds, the newest first
+abbrev pub done_to : (ticket : ℕ) → List Deed → Consumers → Consumers
+done_to t acts cs = record cs { rows = λ u. row_by member_by (if u == t then acts else []) (cs.rows u) }
 
 -- CALLS
 

@@ -1,3 +1,4 @@
 pub mod Consumers
 pub mod Notices
+pub mod Asks
 pub mod KeptConsumers

@@ -17,7 +17,7 @@ ghost use Rattle.pulsar_calls.specs.Notices.{stopped_one};
 ghost use Rattle.pulsar_consumer_table.specs.Notices.{again, again_at, due_at, polled_due, revived_at, stopped_seekers, word_to};
 
 use crate::listing::{Listing, list, listed, unlist};
-use crate::row::{ConsumerRow, Sought};
+use crate::row::{ConsumerRow, LinkAnswer};
 use pulsar_addresses::content::Refusal;
 use pulsar_calls::act::{Notice, Outcome, Who, Word};
 use pulsar_calls::effect::Effect;
@@ -470,14 +470,14 @@ pub fn seek_at(
     rows: &mut BTreeMap<u64, ConsumerRow>,
     ticket: u64,
     who: Who,
-) -> Result<Sought, NoMemory>
+) -> Result<LinkAnswer, NoMemory>
     ensures sought { IfOk result (λ s. s ≡ sought (rows_in rows.old ticket)) }
     ensures rows { OnOk result ((t : ℕ) → rows_in rows.new t ≡ one_changed ticket (meaning.seeks who) (rows_in rows.old) t) }
     ensures tickets { OnOk result (keys rows.new ≡ keys rows.old) }
 {
     match rows.get_mut(&ticket) {
         Some(row) => row.seek(who),
-        None => Ok(Sought::Gone),
+        None => Ok(LinkAnswer::Gone),
     }
 }
 

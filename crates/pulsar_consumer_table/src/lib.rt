@@ -1,6 +1,7 @@
 //! The consumers of a client, as a table that does nothing by itself: what each of them hears, and what polls take.
 #![tactic(auto)]
 
+pub mod asks;
 mod hearing;
 pub mod listing;
 pub mod numbers;

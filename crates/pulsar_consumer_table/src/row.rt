@@ -25,7 +25,7 @@ use url::Url;
 
 /// What one who wants the link of a consumer is told: that of its live subscription, that it has ended, or nothing yet.
 #[derive(Clone, Copy)]
-pub enum Sought {
+pub enum LinkAnswer {
     Found(u64),
     Gone,
     Later,
@@ -168,18 +168,18 @@ impl ConsumerRow {
     }
 
     /// What one is told who wants its link. One that is told nothing waits.
-    pub fn seek(&mut self, who: Who) -> Result<Sought, NoMemory>
+    pub fn seek(&mut self, who: Who) -> Result<LinkAnswer, NoMemory>
         ensures sought { IfOk result (λ s. s ≡ sought (Some (member_in self.old))) }
         ensures after { OnOk result (member_in self.new ≡ seeks who (member_in self.old)) }
     {
         if let Some(link) = self.consumer.inner.link() {
-            return Ok(Sought::Found(link));
+            return Ok(LinkAnswer::Found(link));
         }
         if self.consumer.inner.is_ended() {
-            return Ok(Sought::Gone);
+            return Ok(LinkAnswer::Gone);
         }
         self.seekers.push(who)?;
-        Ok(Sought::Later)
+        Ok(LinkAnswer::Later)
     }
 
     /// A flow of it is due.

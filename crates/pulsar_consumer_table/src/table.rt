@@ -21,7 +21,7 @@ use crate::hearing::{
 };
 use crate::listing::{Listing, listed};
 use crate::numbers::{Numbering, Numbers};
-use crate::row::{ConsumerRow, Sought};
+use crate::row::{ConsumerRow, LinkAnswer};
 use pulsar_addresses::content::Refusal as Failure;
 use pulsar_calls::act::{Arrival, CallRefusal, Notice, Who};
 use pulsar_calls::effect::Effect;
@@ -271,7 +271,7 @@ impl Consumers {
     }
 
     /// What one is told who wants the link of a consumer. One that is told nothing waits.
-    pub fn seek(&mut self, ticket: u64, who: Who) -> Result<Sought, NoMemory>
+    pub(crate) fn seek(&mut self, ticket: u64, who: Who) -> Result<LinkAnswer, NoMemory>
         ensures sought { IfOk result (λ s. s ≡ sought ((consumers_in self.old.rows self.old.numbers).rows ticket)) }
         ensures after { OnOk result (consumers_in self.new.rows self.new.numbers
             ≡ changed ticket (meaning.seeks who) (consumers_in self.old.rows self.old.numbers)) }
@@ -286,7 +286,7 @@ impl Consumers {
     }
 
     /// The flow of a consumer that is to be asked for next, with its link. It counts as asked for.
-    pub fn take_flow(&mut self, ticket: u64) -> Result<Option<(u64, u32)>, NoMemory>
+    pub(crate) fn take_flow(&mut self, ticket: u64) -> Result<Option<(u64, u32)>, NoMemory>
         ensures flow { IfOk result (λ f. f ≡ meaning.flow_at ((consumers_in self.old.rows self.old.numbers).rows ticket)) }
         ensures after { OnOk result (consumers_in self.new.rows self.new.numbers
             ≡ changed ticket (member_after Asks) (consumers_in self.old.rows self.old.numbers)) }
@@ -301,7 +301,7 @@ impl Consumers {
     }
 
     /// The command by which a consumer is subscribed again.
-    pub fn recall(&self, ticket: u64) -> Result<Option<Command>, NoMemory>
+    pub(crate) fn recall(&self, ticket: u64) -> Result<Option<Command>, NoMemory>
         ensures { IfOk result (λ c. c ≡ meaning.recalled ((consumers_in self.now.rows self.now.numbers).rows ticket)) }
     {
         match self.rows.get(&ticket) {
@@ -311,7 +311,7 @@ impl Consumers {
     }
 
     /// A consumer has ended, or there is none.
-    pub fn is_ended(&self, ticket: u64) -> bool
+    pub(crate) fn is_ended(&self, ticket: u64) -> bool
         ensures { result ≡ is_ended_at ((consumers_in self.now.rows self.now.numbers).rows ticket) }
     {
         match self.rows.get(&ticket) {
@@ -321,7 +321,7 @@ impl Consumers {
     }
 
     /// A consumer was subscribed again, on a link to this address: who is told of it.
-    pub fn revive(
+    pub(crate) fn revive(
         &mut self,
         ticket: u64,
         link: u64,
@@ -344,7 +344,7 @@ impl Consumers {
     }
 
     /// A consumer could not be subscribed again: who is told of it.
-    pub fn fail(&mut self, ticket: u64, failure: Failure) -> Result<Vec<Notice>, NoMemory>
+    pub(crate) fn fail(&mut self, ticket: u64, failure: Failure) -> Result<Vec<Notice>, NoMemory>
         ensures notices { IfOk result (λ ns. ns.items ≡ again_at ((consumers_in self.old.rows self.old.numbers).rows ticket)) }
         ensures after { OnOk result (consumers_in self.new.rows self.new.numbers
             ≡ changed ticket (meaning.failed failure) (consumers_in self.old.rows self.old.numbers)) }

@@ -1,9 +1,14 @@
--- What is put at one number, or under one key, and what stands at the others.
-use Rattle.std.proofs.Common.{◌≡◌, ◌≢◌, ap, refl, ℕ, true, false, List, ◌⊎◌, inl, inr, Option, ◌==◌, if◌then◌else◌, bytes_eq}
+-- What is put at one number, or under one key, and what stands at the others; and what is left of a connection behind a change.
+use Rattle.std.proofs.Common.{◌≡◌, ◌≢◌, ap, refl, ℕ, Bool, true, false, List, [], ◌++◌, ◌⊎◌, inl, inr, Option, Some, None, ◌==◌, if◌then◌else◌, append-nil, bytes_eq}
 use Rattle.std.proofs.lemmas.Bool.{cases_Bool}
 use Rattle.std.proofs.lemmas.Bool.Decides.{Decides-eqb}
 use Rattle.std.proofs.lemmas.Slice.Eq.{bytes_eq-Decides}
-use Rattle.pulsar_discovery.specs.Series.{put_at, put_key}
+use Rattle.pulsar_session.specs.Link as session
+use Rattle.pulsar_addresses.specs.Address.{Place}
+use Rattle.pulsar_discovery.specs.declared.addresses.Phase.{Phase}
+use Rattle.pulsar_discovery.specs.declared.addresses.Seat.{Seat}
+use Rattle.pulsar_discovery.specs.Manager.{left_of}
+use Rattle.pulsar_discovery.specs.Series.{Series, put_at, put_key, reseated, seat_of}
 
 pub same : (n : ℕ) → (n == n) ≡ true
 same n = (Decides-eqb n n).1 refl
@@ -37,3 +42,25 @@ under key x f = ap (λ t. if t then x else f key) ((bytes_eq-Decides key key).1 
 
 pub beside : (key k : List ℕ) (x : Option ℕ) (f : List ℕ → Option ℕ) → bytes_eq key k ≡ false → put_key key x f k ≡ f k
 beside key k x f e = ap (λ t. if t then x else f k) e
+
+-- the seat that is left behind a change
+abbrev pub seat_left : Place → Option Phase → Option Seat
+seat_left p None = None
+seat_left p (Some phase) = Some (seat_of p phase)
+
+pub reseated_at : (l : ℕ) (p : Place) (phase : Option Phase) (k : Series) → (reseated l p phase k).seat l ≡ seat_left p phase
+reseated_at l p None k = at l None k.seat
+reseated_at l p (Some phase) k = at l (Some (seat_of p phase)) k.seat
+
+pub reseated_off : (m l : ℕ) (p : Place) (phase : Option Phase) (k : Series) → (m == l) ≡ false → (reseated l p phase k).seat m ≡ k.seat m
+reseated_off m l p None k two = off m l None k.seat two
+reseated_off m l p (Some phase) k two = off m l (Some (seat_of p phase)) k.seat two
+
+pub left_at : (l : ℕ) (over : Bool) (f : ℕ → Option session.Seen) → left_of l over f l ≡ (if over then None else f l)
+left_at l true f = at l None f
+left_at l false f = refl
+
+-- nothing is told of one that is not looked at, and of one that has not changed
+pub nothing_more : {A : Type 0} (b : Bool) (xs : List A) → xs ++ (if b then [] else []) ≡ xs
+nothing_more true xs = append-nil xs
+nothing_more false xs = append-nil xs

@@ -1,40 +1,20 @@
 -- Each change of a connection is told once.
-use Rattle.std.proofs.Common.{◌≡◌, ◌∙◌, ap, refl, ℕ, Bool, true, false, Option, Some, None, ◌==◌, if◌then◌else◌, arith}
-use Rattle.std.proofs.lemmas.Bool.Decides.{nat_tests}
+use Rattle.std.proofs.Common.{◌≡◌, ◌∙◌, ap, refl, ℕ, Bool, true, false, Option, Some, None, if◌then◌else◌}
 use Rattle.pulsar_session.specs.Link as session
 use Rattle.pulsar_session.specs.declared.states.Stage.{Stage}
 use Rattle.pulsar_session.specs.declared.states.Stage.TheVariants.{Dialing, Handshaking, Ready, Over}
 use Rattle.pulsar_discovery.specs.Manager.{Known, after_look, after_seen, is_over, left_of, looks, phase_after, seen_at, seen_by, seen_running}
-use Rattle.pulsar_discovery.specs.Series.{put_at, reseated, seat_of}
 use Rattle.pulsar_discovery.specs.declared.addresses.Phase.{Phase}
 use Rattle.pulsar_discovery.specs.declared.addresses.Phase.TheVariants.{Runs, Pauses, Serves}
 use Rattle.pulsar_discovery.specs.declared.addresses.Seat.{Seat}
 use Rattle.pulsar_discovery.specs.declared.manager.Seen.{Seen}
 use Rattle.pulsar_discovery.specs.declared.manager.Seen.TheVariants as seen
 use Rattle.pulsar_discovery.specs.declared.manager.Terms.{Terms}
-use Rattle.pulsar_addresses.specs.Address.{Place}
+use Rattle.pulsar_discovery.proofs.Cases.{left_at, reseated_at, seat_left}
 
--- the seat and the connection that are left behind a change
-abbrev seat_left : Place → Option Phase → Option Seat
-seat_left p None = None
-seat_left p (Some phase) = Some (seat_of p phase)
-
+-- the connection that is left behind a change
 abbrev connection_left : (over : Bool) → Option session.Seen → Option session.Seen
 connection_left over c = if over then None else c
-
-same : (n : ℕ) → (n == n) ≡ true
-same n = grind (arith, nat_tests)
-
-at_put : {A : Type 0} (l : ℕ) (x : Option A) (f : ℕ → Option A) → put_at l x f l ≡ x
-at_put l x f = ap (λ t. if t then x else f l) (same l)
-
-seat_at : (l : ℕ) (p : Place) (phase : Option Phase) (k : Known) → (reseated l p phase k.series).seat l ≡ seat_left p phase
-seat_at l p None k = at_put l None k.series.seat
-seat_at l p (Some phase) k = at_put l (Some (seat_of p phase)) k.series.seat
-
-connection_at : (l : ℕ) (over : Bool) (k : Known) → left_of l over k.connection l ≡ connection_left over (k.connection l)
-connection_at l true k = at_put l None k.connection
-connection_at l false k = refl
 
 -- what is told of them then, by what was told
 abbrev Then : Terms → (l now : ℕ) → Seat → session.Seen → Seen → Type 0
@@ -68,8 +48,8 @@ standing : (l now : ℕ) (k : Known) (s : Option Seat) → k.series.seat l ≡ s
 standing l now k None e = ap (λ s. seen_at k.terms l s (k.connection l)) e
 standing l now k (Some s) e =
     let what = seen_at k.terms l (Some s) (k.connection l) in
-    ap (λ x. seen_at k.terms l x (left_of l (is_over what) k.connection l)) (seat_at l s.address (phase_after now s.phase what) k)
-    ∙ (ap (λ x. seen_at k.terms l (seat_left s.address (phase_after now s.phase what)) x) (connection_at l (is_over what) k) ∙ at_once k.terms l now s (k.connection l))
+    ap (λ x. seen_at k.terms l x (left_of l (is_over what) k.connection l)) (reseated_at l s.address (phase_after now s.phase what) k.series)
+    ∙ (ap (λ x. seen_at k.terms l (seat_left s.address (phase_after now s.phase what)) x) (left_at l (is_over what) k.connection) ∙ at_once k.terms l now s (k.connection l))
 
 pub told_once : (l now : ℕ) (k : Known) → looks l (after_look l now k) ≡ seen.Same
 told_once l now k = standing l now k (k.series.seat l) refl

@@ -16,8 +16,8 @@ use Rattle.pulsar_discovery.specs.Manager.{Known, after_again_at, after_got, aft
 use Rattle.pulsar_discovery.specs.Series.{in_phase, put_at, reseated, seat_of, standing, without}
 use Rattle.pulsar_discovery.specs.History.{Does, Event, IsHistory, IsRetried, Looks, Retries, Wants, address_of, change, known_after, retries_made, told_of, was_retried}
 use Rattle.pulsar_discovery.specs.Laws.{RetriesAreWaitedFor}
-use Rattle.pulsar_discovery.proofs.Cases.{apart, at, off, same, which}
-use Rattle.pulsar_discovery.proofs.Sound.{Fits, Holds, Sound, seat_left, sound, stands}
+use Rattle.pulsar_discovery.proofs.Cases.{apart, at, nothing_more, off, reseated_at, reseated_off, same, seat_left, which}
+use Rattle.pulsar_discovery.proofs.Sound.{Fits, Holds, Sound, sound, stands}
 
 -- of a connection: none of its series was started since where it has a seat, and one was where it was told a retry and has none
 abbrev Since : Option Seat → List Seen → Bool → Type 0
@@ -111,36 +111,24 @@ look_since u l now s c (Some p) ms b h e = by s.phase refl c h.1
 looked : (k : Known) (a : ℕ → Option Place) (ms : ℕ → List Seen) (was : ℕ → Bool) (l now : ℕ) (st : Option Seat) → k.series.seat l ≡ st → Fits st (k.connection l) (a l) (ms l) → Waited k ms was →
     Waited (after_seen l now st (seen_at k.terms l st (k.connection l)) k) (λ m. ms m ++ (if m == l then change (seen_at k.terms l st (k.connection l)) else [])) was
 looked k a ms was l now None here fits x = record {
-  since = λ m. since_too (k.series.seat m) (k.series.seat m) (ms m) (ms m ++ (if m == l then [] else [])) (was m) (was m) refl (nothing m (m == l)) refl (x.since m);
+  since = λ m. since_too (k.series.seat m) (k.series.seat m) (ms m) (ms m ++ (if m == l then [] else [])) (was m) (was m) refl (nothing_more (m == l) (ms m)) refl (x.since m);
   unused = x.unused;
 }
-  where
-    nothing : (m : ℕ) (b : Bool) → ms m ++ (if b then [] else []) ≡ ms m
-    nothing m true = append-nil (ms m)
-    nothing m false = append-nil (ms m)
 looked k a ms was l now (Some s) here fits x = record {
   since = λ m. elim (which m l) [
     | inl one ↦ since_too (seat_left s.address (phase_after now s.phase what)) ((reseated l s.address (phase_after now s.phase what) k.series).seat m) (ms m ++ change what) (ms m ++ (if m == l then change what else [])) (was m) (was m)
-        (subst (λ y. (reseated l s.address (phase_after now s.phase what) k.series).seat y ≡ seat_left s.address (phase_after now s.phase what)) (sym one) (there (phase_after now s.phase what)))
+        (subst (λ y. (reseated l s.address (phase_after now s.phase what) k.series).seat y ≡ seat_left s.address (phase_after now s.phase what)) (sym one) (reseated_at l s.address (phase_after now s.phase what) k.series))
         (ap (λ b. ms m ++ (if b then change what else [])) (subst (λ y. (y == l) ≡ true) (sym one) (same l))) refl
         (subst (λ y. Since (seat_left s.address (phase_after now s.phase what)) (ms y ++ change what) (was y)) (sym one)
         (look_since k.terms l now s (k.connection l) (a l) (ms l) (was l) fits (subst (λ y. Since y (ms l) (was l)) here (x.since l))))
     | inr two ↦ since_too (k.series.seat m) ((reseated l s.address (phase_after now s.phase what) k.series).seat m) (ms m) (ms m ++ (if m == l then change what else [])) (was m) (was m)
-        (beside m two (phase_after now s.phase what)) (ap (λ b. ms m ++ (if b then change what else [])) two ∙ append-nil (ms m)) refl (x.since m)
+        (reseated_off m l s.address (phase_after now s.phase what) k.series two) (ap (λ b. ms m ++ (if b then change what else [])) two ∙ append-nil (ms m)) refl (x.since m)
   ];
   unused = x.unused;
 }
   where
     what : Seen
     what = seen_at k.terms l (Some s) (k.connection l)
-
-    there : (ph : Option Phase) → (reseated l s.address ph k.series).seat l ≡ seat_left s.address ph
-    there None = at l None k.series.seat
-    there (Some phase) = at l (Some (seat_of s.address phase)) k.series.seat
-
-    beside : (m : ℕ) → (m == l) ≡ false → (ph : Option Phase) → (reseated l s.address ph k.series).seat m ≡ k.series.seat m
-    beside m two None = off m l None k.series.seat two
-    beside m two (Some phase) = off m l (Some (seat_of s.address phase)) k.series.seat two
 
 module _ (t : Terms) (k : Known) (a : ℕ → Option Place) (ms : ℕ → List Seen) (rs : ℕ → ℕ) (was : ℕ → Bool) (y : Sound t k a ms rs) (x : Waited k ms was) where
   wanted : (p : Place) (now : ℕ) (b : Bool) (st : Option (ℕ × Phase)) → standing p k.series ≡ st → Waited (if b then after_got p now st k else k) ms was

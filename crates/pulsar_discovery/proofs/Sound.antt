@@ -5,6 +5,7 @@ use Rattle.std.proofs.lemmas.Bool.Decides.{nat_tests}
 use Rattle.std.proofs.Math.Path.{fun_ext}
 use Rattle.std.specs.Option.{option_map}
 use Rattle.pulsar_session.specs.Link as session
+use Rattle.pulsar_session.specs.Series.{is_retryable}
 use Rattle.pulsar_wire.specs.Failures.{NotFound}
 use Rattle.pulsar_session.specs.declared.states.Stage.{Stage}
 use Rattle.pulsar_session.specs.declared.states.Stage.TheVariants as stages
@@ -17,12 +18,12 @@ use Rattle.pulsar_discovery.specs.declared.addresses.Seat.{Seat}
 use Rattle.pulsar_discovery.specs.declared.manager.Seen.{Seen}
 use Rattle.pulsar_discovery.specs.declared.manager.Terms.{Terms}
 use Rattle.pulsar_discovery.specs.declared.manager.Seen.TheVariants as seen
-use Rattle.pulsar_discovery.specs.Manager.{Known, GotRefused, GotStarted, after_again_at, after_got, after_seen, fresh, got_by, is_pausing, is_over, is_pause, is_retryable, left_of, phase_after, retries_of, seen_at, seen_running, setup, starts}
+use Rattle.pulsar_discovery.specs.Manager.{Known, GotRefused, GotStarted, after_again_at, after_got, after_seen, fresh, got_by, is_pausing, is_over, is_pause, left_of, phase_after, retries_of, seen_at, seen_running, setup, starts}
 use Rattle.pulsar_discovery.specs.Series.{in_phase, put_at, reseated, seat_of, standing, standing_at, without}
 use Rattle.pulsar_discovery.specs.History.{Event, Wants, Does, Looks, Retries, IsHistory, IsOver, IsRetried, address_of, address_or, after, after_done, change, got_started, known_after, retries_made, told_of}
 use Rattle.pulsar_discovery.proofs.Books.{Books, empty, first, freed, moved, next, seat_is}
 use Rattle.pulsar_discovery.proofs.Greeted.{IsGreeted, greeted_stays}
-use Rattle.pulsar_discovery.proofs.Cases.{apart, at, off, same, which}
+use Rattle.pulsar_discovery.proofs.Cases.{apart, at, left_at, nothing_more, off, reseated_at, reseated_off, same, seat_left, which}
 
 abbrev pub Holds : Phase → Option session.Seen → List Seen → Type 0
 Holds (Runs r) None ms = ⊥
@@ -70,11 +71,6 @@ begins t =
 -- a retry more, below the most
 counts : (r n most : ℕ) → most < 2 ^ 32 → r ≡ n → r < most → (one_more r ≡ n + 1) × (one_more r ≤ most)
 counts r n most small is less = (grind (arith, small, is, less), grind (arith, small, less))
-
--- the seat that is left behind a change
-abbrev pub seat_left : Place → Option Phase → Option Seat
-seat_left p None = None
-seat_left p (Some phase) = Some (seat_of p phase)
 
 -- what fits a connection behind a change, by what it was and what is told
 abbrev After : Terms → (l now : ℕ) → Seat → Option session.Seen → Option Place → List Seen → Seen → Type 0
@@ -331,35 +327,31 @@ module _ (t : Terms) (k : Known) (a : ℕ → Option Place) (ms : ℕ → List S
   -- it is looked at what a connection has become
   pub looked : (l now : ℕ) (st : Option Seat) → k.series.seat l ≡ st →
       Sound t (after_seen l now st (seen_at k.terms l st (k.connection l)) k) a (λ m. ms m ++ (if m == l then change (seen_at k.terms l st (k.connection l)) else [])) rs
-  looked l now None here = subst (λ ns. Sound t k a ns rs) (fun_ext (λ m. sym (nothing m (m == l)))) x
-    where
-      nothing : (m : ℕ) (b : Bool) → ms m ++ (if b then [] else []) ≡ ms m
-      nothing m true = append-nil (ms m)
-      nothing m false = append-nil (ms m)
+  looked l now None here = subst (λ ns. Sound t k a ns rs) (fun_ext (λ m. sym (nothing_more (m == l) (ms m)))) x
   looked l now (Some s) here =
       record {
         terms = x.terms;
         books = freed_or (phase_after now s.phase what);
         fits = λ m. elim (which m l) [
-          | inl one ↦ fits_too (left (phase_after now s.phase what)) ((reseated l s.address (phase_after now s.phase what) k.series).seat m) (if is_over what then None else k.connection m) (left_of l (is_over what) k.connection m)
+          | inl one ↦ fits_too (seat_left s.address (phase_after now s.phase what)) ((reseated l s.address (phase_after now s.phase what) k.series).seat m) (if is_over what then None else k.connection m) (left_of l (is_over what) k.connection m)
               (a m) (a m) (ms m ++ change what) (ms m ++ (if m == l then change what else []))
-              (subst (λ y. (reseated l s.address (phase_after now s.phase what) k.series).seat y ≡ left (phase_after now s.phase what)) (sym one) (seat_there (phase_after now s.phase what)))
-              (subst (λ y. left_of l (is_over what) k.connection y ≡ (if is_over what then None else k.connection y)) (sym one) (connection_there (is_over what)))
+              (subst (λ y. (reseated l s.address (phase_after now s.phase what) k.series).seat y ≡ seat_left s.address (phase_after now s.phase what)) (sym one) (reseated_at l s.address (phase_after now s.phase what) k.series))
+              (subst (λ y. left_of l (is_over what) k.connection y ≡ (if is_over what then None else k.connection y)) (sym one) (left_at l (is_over what) k.connection))
               refl
               (ap (λ b. ms m ++ (if b then change what else [])) (subst (λ y. (y == l) ≡ true) (sym one) (same l)))
-              (subst (λ y. Fits (left (phase_after now s.phase what)) (if is_over what then None else k.connection y) (a y) (ms y ++ change what)) (sym one)
+              (subst (λ y. Fits (seat_left s.address (phase_after now s.phase what)) (if is_over what then None else k.connection y) (a y) (ms y ++ change what)) (sym one)
               (look_fits k.terms l now s (k.connection l) (a l) (ms l) (subst (λ y. Fits y (k.connection l) (a l) (ms l)) here (x.fits l))))
           | inr two ↦ fits_too (k.series.seat m) ((reseated l s.address (phase_after now s.phase what) k.series).seat m) (k.connection m) (left_of l (is_over what) k.connection m)
               (a m) (a m) (ms m) (ms m ++ (if m == l then change what else []))
-              (seat_off m two (phase_after now s.phase what)) (connection_off m two (is_over what)) refl
+              (reseated_off m l s.address (phase_after now s.phase what) k.series two) (connection_off m two (is_over what)) refl
               (ap (λ b. ms m ++ (if b then change what else [])) two ∙ append-nil (ms m)) (x.fits m)
         ];
         unused = x.unused;
         tries = λ m y e. elim (which m l) [
           | inl one ↦ look_tries k.terms l now t.connection.max_retries (rs m) s (k.connection l) y (ap (λ z. z.connection.max_retries) x.terms)
               (subst (λ i. Tries t.connection.max_retries i s.phase) (ap rs (sym one)) (x.tries l s here))
-              (sym (seat_there (phase_after now s.phase what)) ∙ subst (λ i. (reseated l s.address (phase_after now s.phase what) k.series).seat i ≡ Some y) one e)
-          | inr two ↦ x.tries m y (sym (seat_off m two (phase_after now s.phase what)) ∙ e)
+              (sym (reseated_at l s.address (phase_after now s.phase what) k.series) ∙ subst (λ i. (reseated l s.address (phase_after now s.phase what) k.series).seat i ≡ Some y) one e)
+          | inr two ↦ x.tries m y (sym (reseated_off m l s.address (phase_after now s.phase what) k.series two) ∙ e)
         ];
         most = x.most;
       }
@@ -367,24 +359,9 @@ module _ (t : Terms) (k : Known) (a : ℕ → Option Place) (ms : ℕ → List S
       what : Seen
       what = seen_at k.terms l (Some s) (k.connection l)
 
-      left : Option Phase → Option Seat
-      left ph = seat_left s.address ph
-
       freed_or : (ph : Option Phase) → Books k.links (reseated l s.address ph k.series)
       freed_or None = freed k.links l s k.series here x.books
       freed_or (Some phase) = moved k.links l s.address phase s k.series here refl x.books
-
-      seat_there : (ph : Option Phase) → (reseated l s.address ph k.series).seat l ≡ seat_left s.address ph
-      seat_there None = at l None k.series.seat
-      seat_there (Some phase) = at l (Some (seat_of s.address phase)) k.series.seat
-
-      seat_off : (m : ℕ) → (m == l) ≡ false → (ph : Option Phase) → (reseated l s.address ph k.series).seat m ≡ k.series.seat m
-      seat_off m two None = off m l None k.series.seat two
-      seat_off m two (Some phase) = off m l (Some (seat_of s.address phase)) k.series.seat two
-
-      connection_there : (over : Bool) → left_of l over k.connection l ≡ (if over then None else k.connection l)
-      connection_there true = at l None k.connection
-      connection_there false = refl
 
       connection_off : (m : ℕ) → (m == l) ≡ false → (over : Bool) → left_of l over k.connection m ≡ k.connection m
       connection_off m two true = off m l None k.connection two

@@ -17,8 +17,6 @@ use Rattle.pulsar_searches.specs.declared.turn.Action.{Action}
 use Rattle.pulsar_searches.specs.declared.turn.Action.TheVariants as action
 use Rattle.pulsar_searches.specs.declared.turn.SearchOutcome.{SearchOutcome as Happened}
 use Rattle.pulsar_searches.specs.declared.turn.SearchOutcome.TheVariants as happened
-use Rattle.pulsar_searches.specs.declared.turn.Turn.{Turn}
-use Rattle.pulsar_searches.specs.declared.turn.Turn.TheVariants.{Stays, Gives}
 use Rattle.pulsar_searches.specs.declared.turn.Ways.{Ways}
 use Rattle.pulsar_discovery.specs.declared.outcome.Found.{Found}
 use Rattle.pulsar_discovery.specs.declared.outcome.Found.TheVariants as found
@@ -31,6 +29,8 @@ use Rattle.pulsar_discovery.specs.declared.outcome.Told.TheVariants.{Begun, Then
 use Rattle.pulsar_discovery.specs.declared.machine.Machine.{Machine}
 use Rattle.pulsar_discovery.specs.declared.machine.MachineStage.{MachineStage}
 use Rattle.pulsar_discovery.specs.declared.machine.MachineStage.TheVariants as stage
+use Rattle.pulsar_searches.specs.declared.transition.Transition.TheVariants.{Stays, Gives}
+use Rattle.pulsar_searches.specs.Transitions.{SearchTransition}
 
 -- WHAT A MACHINE IS TOLD, AND WHAT IT SAYS, by their content
 
@@ -71,7 +71,7 @@ does (action.Get p) = Get p
 does (action.Ask link request) = Ask link (message_of 0 0 request)
 does (action.Wait delay) = Wait delay
 
-abbrev pub step_of : Turn SearchPlan (Result Answer Failure) → Step
+abbrev pub step_of : SearchTransition SearchPlan (Result Answer Failure) → Step
 step_of (Stays s act) = does act
 step_of (Gives (Ok x)) = Done x
 step_of (Gives (Err f)) = Refuse f
@@ -83,14 +83,14 @@ abbrev pub lost : Failure
 lost = OfConnection Disconnected
 
 -- Outside its procedure nothing is waited for. To begin once more is an outcome that the plan doesn't wait for.
-abbrev pub turns : Ways → MachineStage → Told → Turn SearchPlan (Result Answer Failure)
+abbrev pub turns : Ways → MachineStage → Told → SearchTransition SearchPlan (Result Answer Failure)
 turns w (stage.New p) Begun = plans.begins w p
 turns w (stage.New p) (Then o) = plans.fails lost
 turns w (stage.On s) Begun = plans.told w s (happened.Failed Disconnected)
 turns w (stage.On s) (Then o) = plans.told w s o
 turns w stage.Over o = plans.fails lost
 
-abbrev pub stands : Turn SearchPlan (Result Answer Failure) → MachineStage
+abbrev pub stands : SearchTransition SearchPlan (Result Answer Failure) → MachineStage
 stands (Stays s act) = stage.On s
 stands (Gives x) = stage.Over
 

@@ -1,20 +1,19 @@
 -- Which connection serves an address: the one that is ready, or that comes of the series of attempts that runs.  (Pulsar binary
 -- protocol, Connection establishment; Topic lookup)
-use Rattle.std.specs.Prelude.{◌≡◌, ℕ, ◌+◌, ◌-◌, ◌^◌, nat_lt, nat_le, Bool, true, false, ◌&&◌, List, Option, Some, None, ◌==◌, if◌then◌else◌}
+use Rattle.std.specs.Prelude.{◌≡◌, ℕ, ◌+◌, ◌-◌, ◌^◌, nat_le, Bool, true, false, ◌&&◌, List, Option, Some, None, ◌==◌, if◌then◌else◌}
 use Rattle.std.specs.BTreeMap.{get}
 use Rattle.std.specs.Option.{option_map}
 use Rattle.std.specs.Ordering.{nat_cmp}
-use Rattle.pulsar_wire.specs.Authentication.{Retriable}
-use Rattle.pulsar_wire.specs.declared.error.IoKind.TheVariants.{ConnectionRefused, TimedOut}
 use Rattle.pulsar_wire.specs.declared.error.ConnectionError.{ConnectionError}
 use Rattle.pulsar_wire.specs.declared.error.ConnectionError.TheVariants as error
 use Rattle.pulsar_messages.specs.Content.{authentication_values}
-use Rattle.pulsar_wire.specs.Failures.{Fault, Io, Authentication, NotFound, NoMemory, fault}
+use Rattle.pulsar_wire.specs.Failures.{Fault, NotFound, NoMemory, fault}
 use Rattle.pulsar_session.specs.Link as session
+use Rattle.pulsar_session.specs.Series as rule
 use Rattle.pulsar_session.specs.declared.states.Stage.{Stage}
 use Rattle.pulsar_session.specs.declared.states.Stage.TheVariants.{Dialing, Handshaking, Ready, Over}
 use Rattle.pulsar_addresses.specs.Address.{Place, behind, is_reachable}
-use Rattle.pulsar_addresses.specs.Backoff.{backoff, capped, connection_id, jitter, one_more}
+use Rattle.pulsar_addresses.specs.Backoff.{capped, connection_id, one_more}
 use Rattle.pulsar_searches.specs.declared.turn.Ways.{Ways}
 use Rattle.pulsar_discovery.specs.declared.manager.ConnectionManager.{ConnectionManager}
 use Rattle.pulsar_discovery.specs.declared.manager.Got.{Got}
@@ -129,18 +128,9 @@ after_get p now k = if is_reachable p then after_got p now (standing p k.series)
 
 -- LOOK: what a connection has become
 
--- an attempt that failed so may go well another time
-abbrev pub is_retryable : Option Fault → Bool
-is_retryable (Some (Io ConnectionRefused)) = true
-is_retryable (Some (Io TimedOut)) = true
-is_retryable (Some (Authentication (Retriable text))) = true
-is_retryable _ = false
-
 abbrev pub seen_failed : Terms → (link retries : ℕ) → Option Fault → Seen
 seen_failed t l r e =
-    if is_retryable e && nat_lt r t.connection.max_retries then
-    seen.Retry (backoff t.connection.min_backoff t.connection.max_backoff r (jitter t.seed l))
-    else seen.Failed
+    if rule.is_followed t.connection.max_retries r (rule.is_retryable e) then seen.Retry (rule.delay t.connection t.seed l r) else seen.Failed
 
 abbrev pub seen_running : Terms → (link retries : ℕ) → Stage → Option Fault → Seen
 seen_running t l r Dialing e = seen.Same

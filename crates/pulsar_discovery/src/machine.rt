@@ -10,7 +10,8 @@ use crate::outcome::{Next, Outcome, Told, content_of, found_by, message_of};
 use pulsar_addresses::content::{Cause, Refusal};
 use pulsar_searches::plan::{self, Answer, SearchPlan, Sought};
 use pulsar_searches::question::Request;
-use pulsar_searches::turn::{Action, SearchOutcome as Happened, Turn, Ways};
+use pulsar_searches::transition::Transition;
+use pulsar_searches::turn::{Action, SearchOutcome as Happened, SearchTransition, Ways};
 use pulsar_wire::error::{ConnectionError, NoMemory};
 use std::alloc::Global;
 
@@ -89,7 +90,7 @@ fn turns(
     ways: &Ways,
     stage: MachineStage,
     told: Told,
-) -> Result<Turn<SearchPlan, Result<Answer, Refusal>>, NoMemory>
+) -> Result<SearchTransition<SearchPlan, Result<Answer, Refusal>>, NoMemory>
     ensures { IfOk result (λ turn. turn ≡ turns ways.now stage told) }
 {
     match stage {
@@ -105,7 +106,7 @@ fn begins(
     ways: &Ways,
     procedure: Sought,
     told: Told,
-) -> Result<Turn<SearchPlan, Result<Answer, Refusal>>, NoMemory>
+) -> Result<SearchTransition<SearchPlan, Result<Answer, Refusal>>, NoMemory>
     ensures { IfOk result (λ turn. turn ≡ turns ways.now (MachineStage.New procedure) told) }
 {
     match told {
@@ -120,7 +121,7 @@ fn goes_on(
     ways: &Ways,
     plan: SearchPlan,
     told: Told,
-) -> Result<Turn<SearchPlan, Result<Answer, Refusal>>, NoMemory>
+) -> Result<SearchTransition<SearchPlan, Result<Answer, Refusal>>, NoMemory>
     ensures { IfOk result (λ turn. turn ≡ turns ways.now (MachineStage.On plan) told) }
 {
     match told {
@@ -134,7 +135,7 @@ fn goes_on_without(
     alloc: Global,
     ways: &Ways,
     plan: SearchPlan,
-) -> Result<Turn<SearchPlan, Result<Answer, Refusal>>, NoMemory>
+) -> Result<SearchTransition<SearchPlan, Result<Answer, Refusal>>, NoMemory>
     ensures { IfOk result (λ turn. turn ≡ turns ways.now (MachineStage.On plan) Told.Begun) }
 {
     match disconnected(alloc) {
@@ -153,34 +154,34 @@ fn disconnected(alloc: Global) -> Result<Cause, NoMemory>
 }
 
 /// What was waited for is lost.
-fn lost(alloc: Global) -> Result<Turn<SearchPlan, Result<Answer, Refusal>>, NoMemory>
+fn lost(alloc: Global) -> Result<SearchTransition<SearchPlan, Result<Answer, Refusal>>, NoMemory>
     ensures { IfOk result (λ turn. turn ≡ fails lost) }
 {
     let refusal = Refusal::in_connection(alloc, ConnectionError::Disconnected)?;
-    Ok(Turn::Gives(Err(refusal)))
+    Ok(Transition::Gives(Err(refusal)))
 }
 
 /// Where a machine stands after a turn, and what it says.
 fn said(
     alloc: Global,
-    turn: Turn<SearchPlan, Result<Answer, Refusal>>,
+    turn: SearchTransition<SearchPlan, Result<Answer, Refusal>>,
 ) -> Result<(MachineStage, Box<Next>), NoMemory>
     ensures stage { IfOk result (λ s. s.0 ≡ stands turn) }
     ensures next { IfOk result (λ s. step s.1.value ≡ step_of turn) }
 {
     match turn {
-        Turn::Stays(plan, action) => {
+        Transition::Stays(plan, action) => {
             let kept = Kept::new(alloc, plan);
             let next = done(alloc, action)?;
             Ok((MachineStage::On(kept?), next))
         }
-        Turn::Gives(given) => Ok((MachineStage::Over, end(alloc, given)?)),
+        Transition::Gives(given) => Ok((MachineStage::Over, end(alloc, given)?)),
     }
 }
 
 /// What is said at the end of a plan.
 fn end(alloc: Global, given: Result<Answer, Refusal>) -> Result<Box<Next>, NoMemory>
-    ensures { IfOk result (λ n. step n.value ≡ step_of (Turn.Gives given)) }
+    ensures { IfOk result (λ n. step n.value ≡ step_of (Transition.Gives given)) }
 {
     match given {
         Ok(answer) => Ok(Box::new(alloc, Next::Done(found_by(answer)))?),

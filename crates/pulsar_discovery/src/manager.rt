@@ -4,26 +4,27 @@ ghost use Rattle.std.specs.Prelude.{◌≡◌, ◌<◌, ◌-◌, ◌^◌, ℕ, S
 ghost use Rattle.std.specs.BTreeMap.{get};
 ghost use Rattle.std.specs.Option.{option_copied, option_copied_mut, option_map};
 ghost use Rattle.std.specs.Ordering.{nat_cmp};
-ghost use Rattle.pulsar_messages.specs.Content.{authentication_values};
 ghost use Rattle.pulsar_wire.specs.Failures.{fault};
 ghost use Rattle.pulsar_session.specs.Link as session;
-ghost use Rattle.pulsar_addresses.specs.Address.{base_in, base_of, place};
+ghost use Rattle.pulsar_addresses.specs.Address.{base_in, place};
 ghost use Rattle.pulsar_discovery.specs.Manager as meaning;
 ghost use Rattle.pulsar_discovery.specs.Manager.{Is, OnGot, known};
 
 use crate::addresses::{Addresses, Phase, set};
 use pulsar_addresses::address::BrokerAddress;
 use pulsar_addresses::content::Address;
-use pulsar_addresses::options::{ConnectionRetryOptions, OperationRetryOptions, backoff};
-use pulsar_addresses::random::{connection_id, jitter};
+use pulsar_addresses::options::{ConnectionRetryOptions, OperationRetryOptions};
+use pulsar_addresses::random::connection_id;
 use pulsar_messages::Authentication;
 use pulsar_searches::turn::Ways;
 use pulsar_session::Connection;
+use pulsar_session::series::{delay, is_followed, is_retryable};
+use pulsar_session::service::{base_in, copy_auth};
 use pulsar_session::states::Stage;
 use pulsar_wire::error::{ConnectionError, NoMemory};
 use std::alloc::Global;
 use std::collections::BTreeMap;
-use url::{ParseError, Url};
+use url::Url;
 
 /// What one who wants a connection gets.
 #[derive(Drop)]
@@ -330,26 +331,6 @@ impl ConnectionManager {
     }
 }
 
-/// The address of the service that a text names. A text that is too long for a URL is want of memory.
-fn base_in(alloc: Global, text: &str) -> Result<Option<Address>, NoMemory>
-    ensures { IfOk result (λ a. a ≡ base_in text.now) }
-{
-    match Url::parse(alloc, text) {
-        Ok(url) => base_of(alloc, &url),
-        Err(ParseError::OutOfMemory | ParseError::Overflow) => Err(NoMemory),
-        Err(_) => Ok(None),
-    }
-}
-
-fn base_of(alloc: Global, url: &Url) -> Result<Option<Address>, NoMemory>
-    ensures { IfOk result (λ a. a ≡ base_of url.now) }
-{
-    match BrokerAddress::base(alloc, url)? {
-        Some(address) => Ok(Some(Address::new(alloc, address)?)),
-        None => Ok(None),
-    }
-}
-
 fn boxed(alloc: Global, address: &BrokerAddress) -> Result<Address, NoMemory>
     ensures { IfOk result (λ a. a ≡ place address.now) }
 {
@@ -378,15 +359,6 @@ fn dial(
         terms.first_number,
         now,
     )
-}
-
-fn copy_auth(auth: &Option<Authentication>) -> Result<Option<Authentication>, NoMemory>
-    ensures { IfOk result (λ a. option_map authentication_values a ≡ option_map authentication_values auth.now) }
-{
-    match auth {
-        Some(auth) => Ok(Some(auth.copy()?)),
-        None => Ok(None),
-    }
 }
 
 /// Nothing is kept of a connection that is over.
@@ -421,19 +393,10 @@ fn seen_by(terms: &Terms, link: u64, phase: Phase, connection: &Connection) -> S
 fn seen_failed(terms: &Terms, link: u64, retries: u32, error: Option<&ConnectionError>) -> Seen
     ensures { result ≡ meaning.seen_failed terms.now link retries (option_map fault (option_copied error.entry)) }
 {
-    if is_retryable(error) && retries < terms.connection.max_retries {
-        Seen::Retry(backoff(&terms.connection, retries, jitter(terms.seed, link)))
+    if is_followed(terms.connection.max_retries, retries, is_retryable(error)) {
+        Seen::Retry(delay(&terms.connection, terms.seed, link, retries))
     } else {
         Seen::Failed
-    }
-}
-
-fn is_retryable(error: Option<&ConnectionError>) -> bool
-    ensures { result ≡ meaning.is_retryable (option_map fault (option_copied error.entry)) }
-{
-    match error {
-        Some(error) => error.establish_retryable(),
-        None => false,
     }
 }
 

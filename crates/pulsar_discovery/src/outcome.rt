@@ -1,7 +1,7 @@
 //! What machines are told, and what they say.
 
 ghost use Rattle.std.specs.Prelude.{◌≡◌, IfOk, string_bytes};
-ghost use Rattle.std.specs.Option.{option_copied, option_map};
+ghost use Rattle.std.specs.Option.{option_map};
 ghost use Rattle.pulsar_messages.specs.Content.{consumer_options_values, producer_options_values};
 ghost use Rattle.pulsar_messages.specs.Words.{CreateProducer, LookupPartitionedTopic, LookupTopic, Subscribe};
 ghost use Rattle.pulsar_frame.specs.Shown.{message_values};
@@ -19,7 +19,7 @@ use pulsar_searches::making::Served;
 use pulsar_searches::plan::Answer;
 use pulsar_searches::question::Question;
 use pulsar_searches::turn::SearchOutcome as Happened;
-use pulsar_session::messages;
+use pulsar_session::messages::{self, text};
 use pulsar_wire::commands::enumerations::SubType;
 use pulsar_wire::error::{ConnectionError, Error, NoMemory};
 use std::alloc::Global;
@@ -167,7 +167,7 @@ fn create_producer(
     let message = messages::create_producer(
         alloc,
         topic.as_str(),
-        name_in(name),
+        text(name),
         producer_id,
         0,
         options,
@@ -195,18 +195,8 @@ fn subscribe(
         sub_type,
         consumer_id,
         0,
-        name_in(name),
+        text(name),
         options,
     )?;
     Ok(message)
-}
-
-/// A name that may be absent.
-fn name_in(name: &Option<String>) -> Option<&str>
-    ensures { option_copied result ≡ option_map string_bytes name.now }
-{
-    match name {
-        Some(name) => Some(name.as_str()),
-        None => None,
-    }
 }

@@ -1,7 +1,8 @@
 //! What a failed build made is closed.
 
 use pulsar_addresses::content::Refusal;
-use pulsar_searches::closing::{self, Close, Closing, Made, MadeList, Step};
+use pulsar_searches::closing::{self, Close, Closing, Made, MadeList};
+use pulsar_searches::transition::Transition;
 use pulsar_wire::error::ConnectionError;
 use std::alloc::Global;
 use std::test::Fail;
@@ -21,15 +22,15 @@ fn refusal(alloc: Global) -> Result<Refusal, Fail> {
 }
 
 /// What is closed from a step on, and what is given then.
-fn closed(alloc: Global, mut step: Step<Closing, Made, Refusal>) -> Result<String, Fail> {
+fn closed(alloc: Global, mut step: Transition<Closing, Made, Refusal>) -> Result<String, Fail> {
     let mut text = String::new(alloc);
     for _ in 0..8 {
         match step {
-            Step::Stays(closing, made) => {
+            Transition::Stays(closing, made) => {
                 text.push_str(format!(in alloc; "{made:?}\n")?.as_str())?;
                 step = closing::told(closing);
             }
-            Step::Gives(refusal) => {
+            Transition::Gives(refusal) => {
                 let error = refusal.into_inner();
                 text.push_str(format!(in alloc; "{error}")?.as_str())?;
                 return Ok(text);

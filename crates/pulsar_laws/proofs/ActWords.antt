@@ -5,10 +5,12 @@ pub use Rattle.pulsar_calls.specs.Who.{is_same, ticket_of, turn_of}
 pub use Rattle.pulsar_calls.specs.declared.act.Act.{Act}
 pub use Rattle.pulsar_calls.specs.declared.act.Act.TheVariants.{Answers, Comes, Dials, Does, Starts, Told}
 pub use Rattle.pulsar_calls.specs.declared.act.Action.{Action}
-pub use Rattle.pulsar_calls.specs.declared.act.Action.TheVariants.{Ask, FailConsumer, FindConsumer, Get, Hold, Number, OfTopic, RecallConsumer, Rest, Revive, Shut, StopAll, TakeFlow, TakeNumber, Tell, TellAll, Wait}
+pub use Rattle.pulsar_calls.specs.declared.act.Action.TheVariants.{Ask, Get, Hold, Number, OfConsumer, OfTopic, Rest, Shut, StopAll, TakeNumber, Tell, TellAll, Wait}
 pub use Rattle.pulsar_calls.specs.declared.act.Alarm.{Alarm}
 pub use Rattle.pulsar_calls.specs.declared.act.Alarm.TheVariants.{Batch, CheckIdle, KeepAlive, Retry, Wake}
 pub use Rattle.pulsar_calls.specs.declared.act.Arrival.{Arrival}
+pub use Rattle.pulsar_calls.specs.declared.act.ConsumerAsk.{ConsumerAsk}
+pub use Rattle.pulsar_calls.specs.declared.act.ConsumerAsk.TheVariants.{Fail as FailConsumer, Find as FindConsumer, Recall as RecallConsumer, Revive, TakeFlow}
 pub use Rattle.pulsar_calls.specs.declared.act.End.{End}
 pub use Rattle.pulsar_calls.specs.declared.act.End.TheVariants.{Idles, Overdue, Stops}
 pub use Rattle.pulsar_calls.specs.declared.act.LinkAct.{LinkAct}

@@ -6,6 +6,7 @@ use Rattle.pulsar_laws.proofs.ActWords.{Notice, opens, Outcome, Who}
 use Rattle.pulsar_laws.proofs.RunWords.{arranged, Each, In, notice, put_all}
 use Rattle.pulsar_laws.proofs.LinkWords.{tells_asker}
 use Rattle.pulsar_run.specs.Order.{put}
+use Rattle.pulsar_run.specs.Things.{along}
 use Rattle.pulsar_calls.specs.Order.{alone}
 
 pub in_left : {A : Type 0} (x : A) (xs ys : List A) → In x xs → In x (xs ++ ys)
@@ -36,6 +37,12 @@ pub in_each : {A : Type 0} (P : A → Type 0) (x : A) (xs : List A) → In x xs 
 in_each P x [] i k = absurd i
 in_each P x (y ∷ xs) (inl e) k = subst P (sym e) k.0
 in_each P x (y ∷ xs) (inr i) k = in_each P x xs i k.1
+
+-- what is so of one, and stays so by each act of a kind, is so behind several of these
+pub each_along : {E S : Type 0} (after : E → S → S) (P : E → Type 0) (I : S → Type 0) → ((e : E) (s : S) → P e → I s → I (after e s)) →
+    (es : List E) (s : S) → Each P es → I s → I (along after es s)
+each_along after P I more [] s k i = i
+each_along after P I more (e ∷ es) s k i = more e (along after es s) k.0 (each_along after P I more es s k.1 i)
 
 pub each_made : {A B : Type 0} (P : B → Type 0) (f : A → B) → ((x : A) → P (f x)) → (xs : List A) → Each P (map f xs)
 each_made P f k [] = tt

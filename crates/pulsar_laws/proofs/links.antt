@@ -2,6 +2,7 @@ pub mod Attempts
 pub mod Newest
 pub mod Moments
 pub mod Spending
+pub mod Rows
 pub mod Alone
 pub mod Writing
 pub mod OfLink

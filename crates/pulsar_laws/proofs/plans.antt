@@ -32,3 +32,6 @@ pub mod Unbatched
 pub mod Sharing
 pub mod Waiting
 pub mod Again
+pub mod Retried
+pub mod Retries
+pub mod Remade

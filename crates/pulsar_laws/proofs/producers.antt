@@ -9,6 +9,7 @@ pub mod EachOnce
 pub mod Flushing
 pub mod Keepers
 pub mod Limits
+pub mod MadeLast
 pub mod Numbering
 pub mod Drawing
 pub mod Free
@@ -22,6 +23,7 @@ pub mod TurnActs
 pub mod TurnRun
 pub mod Awaiting
 pub mod OneAtATime
+pub mod Others
 pub mod Owed
 pub mod Since
 pub mod Spotting
@@ -30,3 +32,4 @@ pub mod Reread
 pub mod Texts
 pub mod TextReplies
 pub mod Named
+pub mod Spelled

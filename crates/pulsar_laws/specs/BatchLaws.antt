@@ -10,10 +10,11 @@ use Rattle.pulsar_messages.specs.Content.{ProducerMessageValues}
 use Rattle.pulsar_messages.specs.Words as words
 use Rattle.pulsar_messages.specs.Words.{Words}
 use Rattle.pulsar_searches.specs.declared.turn.Ways.{Ways}
-use Rattle.pulsar_wire.specs.Failures.{Failure, Shutdown}
+use Rattle.pulsar_wire.specs.Failures.{Disconnected, Encoding, Failure, OfBatch, Shutdown}
 use Rattle.pulsar_wire.specs.declared.error.Reason.{Reason}
 use Rattle.pulsar_exchange.specs.Messages.{Reply, is_body}
-use Rattle.pulsar_outgoing.specs.Batch.{batch_of, cut_report, entries_in, entry_of, failed, member_of, not_written, receipt_fate, reports}
+use Rattle.pulsar_outgoing.specs.Batch.{batch_of, entries_in, entry_of, placed}
+use Rattle.pulsar_outgoing.specs.Errors.{in_producer}
 use Rattle.pulsar_producer.specs.BatchLaws.{items_of, joined, taken_of}
 use Rattle.pulsar_messages.specs.Message.{with_version}
 use Rattle.pulsar_outgoing.specs.Storage.{Item, SingleMessage, Flush, bytes_of, is_nothing}
@@ -27,6 +28,7 @@ use Rattle.pulsar_outgoing.specs.declared.orders.Errand.{Errand}
 use Rattle.pulsar_outgoing.specs.declared.orders.ProducerOrder.{ProducerOrder}
 use Rattle.pulsar_calls.specs.declared.act.Act.TheVariants.{Answers, Comes, Starts, Told, Does}
 use Rattle.pulsar_calls.specs.declared.act.Action.{Action}
+use Rattle.pulsar_calls.specs.declared.act.Action.TheVariants as action
 use Rattle.pulsar_calls.specs.declared.act.Action.TheVariants.{OfTopic, Ask, Get, Shut, TellAll, Wait}
 use Rattle.pulsar_calls.specs.declared.act.Alarm.TheVariants.{Wake}
 use Rattle.pulsar_calls.specs.declared.act.TopicAsk.TheVariants.{Store, TakeBatch}
@@ -38,13 +40,13 @@ use Rattle.pulsar_calls.specs.declared.act.Procedure.TheVariants as procedure
 use Rattle.pulsar_calls.specs.declared.act.Share.{Share}
 use Rattle.pulsar_calls.specs.declared.act.Verdict.{Verdict}
 use Rattle.pulsar_calls.specs.declared.act.Who.{Who}
-use Rattle.pulsar_calls.specs.declared.act.Who.TheVariants.{Call, Producer}
+use Rattle.pulsar_calls.specs.declared.act.Who.TheVariants.{Call, Consumer, Producer}
 use Rattle.pulsar_plans.specs.declared.plan.Plan.{Plan}
 use Rattle.pulsar_plans.specs.declared.plan.Plan.TheVariants as plan
 use Rattle.pulsar_producer_table.specs.declared.table.Topic.{Topic}
 use Rattle.pulsar_calls.specs.Content.{Asked, Failed, Receipt, sent_by}
 use Rattle.pulsar_laws.specs.Laws.{AreActs, FailsSo, IsDropped, started}
-use Rattle.pulsar_plans.specs.Plan.{closed_notice, fails, overrides, told_to, verdict}
+use Rattle.pulsar_plans.specs.Plan.{closed_notice, fails, overrides, verdict}
 use Rattle.pulsar_laws.specs.ProducerLaws.{acts_on, asks_in, is_queued, queued_times, version_told}
 use Rattle.pulsar_producer_table.specs.Producers.{is_bare, next_batch_at, numbers_at, stored_at, timeout_at}
 use Rattle.pulsar_acts.specs.Rules.{call_part, notice, ready_notice}
@@ -87,12 +89,21 @@ WaitsForNothing who v =
     ((l place : ℕ) (seat : Seat) → v.links.live l ≡ Some seat → seat.askers place ≡ Some who → ⊥)
     × ((key : List ℕ) → In who (v.addresses.base key).waiting → ⊥) × (moment_of (Wake who) v.alarms ≡ None)
 
--- what comes from others, or with time
+-- what comes from others, or with time; what topic producers and consumers are asked comes from the client itself
 abbrev pub asks_others : Action → Bool
 asks_others (Get p) = true
 asks_others (Ask l request) = true
 asks_others (Wait delay) = true
-asks_others _ = false
+asks_others (OfTopic m ask) = false
+asks_others action.Number = false
+asks_others (action.Hold l m) = false
+asks_others (Shut t) = false
+asks_others (action.TakeNumber wanted) = false
+asks_others (action.OfConsumer ask) = false
+asks_others (action.Tell notice) = false
+asks_others (TellAll notices) = false
+asks_others action.StopAll = false
+asks_others action.Rest = false
 
 -- A topic producer waits for one thing at a time: as it asks for something it waits for nothing else.
 abbrev pub OneThingAtATime : Type 0
@@ -139,14 +150,19 @@ FailedSo n log items cause =
     (w : Ways) × (e : Errand) × (m : ProducerMessageValues) × (e.producer ≡ n) × (batch_of (entries_in items) ≡ Ok m)
     × FailsSo (procedure.Send w e None m) (told_since n log) cause
 
+-- what a reply that is a receipt makes of it: its messages fail with their connection where the reply has none
+abbrev pub fate_by : Option (Values send_receipt) → Fate
+fate_by (Some receipt) = fate.Receipt receipt
+fate_by None = fate.Failed (OfBatch (in_producer Disconnected))
+
 -- its frame was queued, once, and its receipt came: that of the one that its topic producer asked for since it took this batch; or its send
 -- failed, for this cause; or it could not be written; or the client was stopped; or there was no message in it
 abbrev pub IsFateOf : Options → (number : ℕ) → List Entry → List Item → Outcome → Fate → Type 0
 IsFateOf o n log items u f =
     ((r : Reply) × (s : ℕ) × (u ≡ outcome.Replied r) × (is_body 7 r.content.body ≡ true) × (r.content.key ≡ Some (key.ProducerSend n s))
-    × AskedSince n s log × (frames_queued o n log ≡ 1) × (f ≡ receipt_fate r.content))
-    ⊎ ((cause : Failure) × FailedSo n log items cause × (f ≡ failed cause))
-    ⊎ ((r : Reason) × (batch_of (entries_in items) ≡ Err r) × (f ≡ not_written r))
+    × AskedSince n s log × (frames_queued o n log ≡ 1) × (f ≡ fate_by r.content.receipt))
+    ⊎ ((cause : Failure) × FailedSo n log items cause × (f ≡ fate.Failed (OfBatch cause)))
+    ⊎ ((r : Reason) × (batch_of (entries_in items) ≡ Err r) × (f ≡ fate.Failed (OfBatch (in_producer (Encoding r)))))
     ⊎ ((overrides u ≡ true) × (f ≡ fate.Halted))
     ⊎ ((entries_in items ≡ []) × (f ≡ fate.Flushed))
 
@@ -155,23 +171,65 @@ abbrev pub ReceiptsOfBatches : Type 0
 ReceiptsOfBatches = (o : Options) (log : List Entry) (n : ℕ) (r : Reply) → IsRun o (Then (Told (notice (Producer n) (outcome.Replied r))) ∷ log) →
     is_body 7 r.content.body ≡ true → (s : ℕ) × (r.content.key ≡ Some (key.ProducerSend n s)) × AskedSince n s log
 
+-- what the i-th of n messages is told of what became of its batch: the receipt, with i and n in its id; why the batch failed, for just this cause; or
+-- that the client was stopped
+abbrev pub message_told : (i n : ℕ) → Fate → Outcome
+message_told i n (fate.Receipt receipt) = outcome.Settled (Ok (placed i n receipt))
+message_told i n (fate.Failed f) = outcome.Settled (Err f)
+message_told i n fate.Halted = outcome.Stopped
+message_told i n fate.Flushed = outcome.Granted news.Done
+
+-- and a flush, which is done also where its batch failed
+abbrev pub flush_told : Fate → Outcome
+flush_told (fate.Receipt receipt) = outcome.Granted news.Done
+flush_told (fate.Failed f) = outcome.Granted news.Done
+flush_told fate.Halted = outcome.Stopped
+flush_told fate.Flushed = outcome.Granted news.Done
+
+abbrev pub item_told : (i n : ℕ) → Fate → Item → Notice
+item_told i n f (SingleMessage ticket e) = notice (Call ticket) (message_told i n f)
+item_told i n f (Flush ticket) = notice (Call ticket) (flush_told f)
+
+-- what all of them are told, in order
+abbrev pub batch_told : (i n : ℕ) → Fate → List Item → List Notice
+batch_told i n f [] = []
+batch_told i n f (x ∷ xs) = item_told i n f x ∷ batch_told (i + 1) n f xs
+
+-- what one is told where the client is stopped while the frame waits for its receipt
+abbrev pub cut_told : Item → Notice
+cut_told (SingleMessage ticket e) = notice (Call ticket) (outcome.Settled (Err (OfBatch (in_producer Disconnected))))
+cut_told (Flush ticket) = notice (Call ticket) outcome.Stopped
+
 -- Those of a batch are told together, right behind what its producer is told of it: each what became of its message, with its place in the
 -- batch and the count of its messages. Where the client is stopped while its frame waits for a receipt, its messages are lost.
 abbrev pub TellsBatch : Options → (number : ℕ) → List Notice → List Entry → Type 0
 TellsBatch o n ns log =
     (items : List Item) × (u : Outcome) × (older : List Entry) × (under_way o n log ≡ Some items) × (log ≡ Then (Told (notice (Producer n) u)) ∷ older)
-    × (((f : Fate) × IsFateOf o n log items u f × (ns ≡ map told_to (reports (length (entries_in items)) f (map member_of items))))
-    ⊎ ((overrides u ≡ true) × (ns ≡ map told_to (map cut_report (map member_of items)))))
+    × (((f : Fate) × IsFateOf o n log items u f × (ns ≡ batch_told 0 (length (entries_in items)) f items))
+    ⊎ ((overrides u ≡ true) × (ns ≡ map cut_told items)))
 
 abbrev pub MembersAreTold : Type 0
 MembersAreTold = (o : Options) (log : List Entry) (n : ℕ) (ns : List Notice) → IsRun o (Then (Does (Producer n) (TellAll ns)) ∷ log) → TellsBatch o n ns log
 
 -- what a topic producer is told of what it does itself, or of the place of its frame
 abbrev pub is_granted : Outcome → Bool
-is_granted (outcome.Granted n) = true
+is_granted (outcome.GotLink l) = false
+is_granted outcome.NotFound = false
+is_granted (outcome.Failed kind) = false
+is_granted outcome.Canceled = false
 is_granted outcome.Queued = true
 is_granted outcome.InLine = true
-is_granted _ = false
+is_granted (outcome.Refused cause) = false
+is_granted (outcome.Replied r) = false
+is_granted outcome.TimedOut = false
+is_granted outcome.Disconnected = false
+is_granted outcome.Woken = false
+is_granted (outcome.Granted n) = true
+is_granted (outcome.Parted ticket f) = false
+is_granted (outcome.Settled f) = false
+is_granted (outcome.Word w) = false
+is_granted outcome.Cut = false
+is_granted outcome.Stopped = false
 
 -- A batch whose frame was queued waits for what becomes of that: nothing that its topic producer is granted settles it, so that the next one is
 -- taken.
@@ -224,7 +282,8 @@ times_under t (Some items) = times_in t items
 -- how often it is queued as a message of a batch, at all topic producers together
 abbrev pub batched_at : Options → (ticket : ℕ) → List Entry → Who → Outcome → ℕ
 batched_at o t log (Producer n) u = if is_queued u && asks_batch ((view o log).stand (Producer n)) then times_under t (under_way o n log) else 0
-batched_at o t log _ u = 0
+batched_at o t log (Call ticket) u = 0
+batched_at o t log (Consumer number ticket) u = 0
 
 abbrev pub batched_times : Options → (ticket : ℕ) → List Entry → ℕ
 batched_times o t [] = 0

@@ -22,27 +22,73 @@ use Rattle.pulsar_acts.specs.Run.{Entry, IsRun, Then}
 use Rattle.pulsar_machine.specs.Options.{Options}
 use Rattle.pulsar_laws.specs.Laws.{Acts, AsksSo, AttemptEnds, BecomesReady, DrawsNone, FailsSo, Finds, Gets, GetsTurn, GrantsSo, IsDropped, IsReady, IsReplied, IsStopped, IsUnknown, IsWoken, LineEnds, MovesUp, RequestEnds, WordComes, base_of, outcomes, started}
 use Rattle.pulsar_laws.specs.BatchLaws.{TellsBatch}
+use Rattle.pulsar_laws.specs.ProducerLaws.{is_queued}
 
 -- WHAT A PART OF A CALL TELLS IT
 
 -- of which call one is a part, and with which ticket
 abbrev pub share_in : Procedure → Option Share
+share_in (procedure.Build p) = None
+share_in procedure.Stop = None
+share_in (procedure.Ask place request says) = None
+share_in (procedure.Search ways what) = None
+share_in (procedure.Produce ways order) = None
 share_in (procedure.Send w e share m) = share
 share_in (procedure.Store n share e) = share
+share_in (procedure.Batch ways errand) = None
 share_in (procedure.FailShare s r) = Some s
-share_in _ = None
+share_in (procedure.Gather first count) = None
+share_in (procedure.Go round numbers) = None
+share_in (procedure.Close ticket numbers) = None
+share_in (procedure.Subscribe ways order) = None
+share_in (procedure.Serve ways number) = None
+share_in (procedure.Acknowledge link request) = None
+share_in (procedure.Leave consumer number) = None
+share_in (procedure.Refuse r) = None
 
 -- its frame is queued, or its message stored
+abbrev pub is_done : Outcome → Bool
+is_done (outcome.Granted news.Done) = true
+is_done _ = false
+
 abbrev pub is_taken : Procedure → Outcome → Bool
-is_taken (procedure.Send w e share m) outcome.Queued = true
-is_taken (procedure.Store n share e) (outcome.Granted news.Done) = true
-is_taken _ _ = false
+is_taken (procedure.Build p) u = false
+is_taken procedure.Stop u = false
+is_taken (procedure.Ask place request says) u = false
+is_taken (procedure.Search ways what) u = false
+is_taken (procedure.Produce ways order) u = false
+is_taken (procedure.Send w e share m) u = is_queued u
+is_taken (procedure.Store n share e) u = is_done u
+is_taken (procedure.Batch ways errand) u = false
+is_taken (procedure.FailShare s r) u = false
+is_taken (procedure.Gather first count) u = false
+is_taken (procedure.Go round numbers) u = false
+is_taken (procedure.Close ticket numbers) u = false
+is_taken (procedure.Subscribe ways order) u = false
+is_taken (procedure.Serve ways number) u = false
+is_taken (procedure.Acknowledge link request) u = false
+is_taken (procedure.Leave consumer number) u = false
+is_taken (procedure.Refuse r) u = false
 
 -- the client was stopped
 abbrev pub is_stopped : Outcome → Bool
+is_stopped (outcome.GotLink l) = false
+is_stopped outcome.NotFound = false
+is_stopped (outcome.Failed kind) = false
+is_stopped outcome.Canceled = false
+is_stopped outcome.Queued = false
+is_stopped outcome.InLine = false
+is_stopped (outcome.Refused cause) = false
+is_stopped (outcome.Replied r) = false
+is_stopped outcome.TimedOut = false
+is_stopped outcome.Disconnected = false
+is_stopped outcome.Woken = false
+is_stopped (outcome.Granted n) = false
+is_stopped (outcome.Parted ticket f) = false
+is_stopped (outcome.Settled f) = false
+is_stopped (outcome.Word w) = false
 is_stopped outcome.Cut = true
 is_stopped outcome.Stopped = true
-is_stopped _ = false
 
 -- what it was told last, right before, is so
 abbrev pub WasTold : Who → (Outcome → Bool) → List Entry → Type 0

@@ -12,7 +12,6 @@ use Rattle.pulsar_session.specs.declared.states.Asked.{Asked as Placed}
 use Rattle.pulsar_session.specs.declared.states.Asked.TheVariants as placed
 use Rattle.pulsar_frame.specs.Items.{Item, Given, Faulty}
 use Rattle.pulsar_exchange.specs.Messages.{Reply, is_body}
-use Rattle.pulsar_exchange.specs.Request.{closed_consumer}
 use Rattle.pulsar_consumer.specs.Frames.{frame_in}
 use Rattle.pulsar_consumer.specs.Laws.{IsFinished, arrivals, asked_since, begun, items_of, weighed_before, weights}
 use Rattle.pulsar_consumer.specs.Topic as reader
@@ -21,13 +20,13 @@ use Rattle.pulsar_incoming.specs.declared.polled.Ending.{Ending}
 use Rattle.pulsar_incoming.specs.declared.polled.Ending.TheVariants.{Closed, TopicEnded, Stopped}
 use Rattle.pulsar_calls.specs.declared.act.Act.{Act}
 use Rattle.pulsar_calls.specs.declared.act.Act.TheVariants.{Comes, Starts, Told, Does, Answers}
-use Rattle.pulsar_calls.specs.declared.act.Action.TheVariants.{Ask, TakeFlow, Revive, FailConsumer, StopAll}
+use Rattle.pulsar_calls.specs.declared.act.Action.TheVariants.{Ask, OfConsumer}
+use Rattle.pulsar_calls.specs.declared.act.ConsumerAsk.TheVariants.{TakeFlow, Revive}
 use Rattle.pulsar_calls.specs.declared.act.Arrival.{Arrival}
 use Rattle.pulsar_calls.specs.declared.act.Arrival.TheVariants.{Nothing, Readied, Settles, Gives, Passes, Bad}
-use Rattle.pulsar_calls.specs.declared.act.LinkAct.TheVariants.{Reads, Ends}
 use Rattle.pulsar_calls.specs.declared.act.Makes.{Makes}
 use Rattle.pulsar_calls.specs.declared.act.Makes.TheVariants as makes
-use Rattle.pulsar_calls.specs.declared.act.Part.TheVariants.{ToLink, Polls}
+use Rattle.pulsar_calls.specs.declared.act.Part.TheVariants.{Polls}
 use Rattle.pulsar_calls.specs.declared.act.Procedure.{Procedure}
 use Rattle.pulsar_calls.specs.declared.act.Who.{Who}
 use Rattle.pulsar_calls.specs.declared.act.Outcome.TheVariants as outcome
@@ -37,11 +36,12 @@ use Rattle.pulsar_calls.specs.Content as content
 use Rattle.pulsar_calls.specs.Content.{Asked, Heard, Poll, Shown, Hands, Faults, FindsNothing, FindsEnd}
 use Rattle.pulsar_calls.specs.Who.{is_same, ticket_of}
 use Rattle.pulsar_consumer_table.specs.Consumers as consumer
-use Rattle.pulsar_consumer_table.specs.Consumers.{Member, is_closed_by}
+use Rattle.pulsar_consumer_table.specs.Consumers.{Arrives, ClientStops, CloseAsked, Deed, FlowTaken, IsPolled, IsSought, LinkEnds, Member, NotRevived, Revived, is_closed_by, member_by}
+use Rattle.pulsar_run.specs.Things.{along}
 use Rattle.pulsar_links.specs.Links.{line_places}
-use Rattle.pulsar_acts.specs.View.{View, setup_of}
+use Rattle.pulsar_acts.specs.View.{View, member_acts, setup_of}
 use Rattle.pulsar_machine.specs.Options.{Options}
-use Rattle.pulsar_links.specs.Seats.{Seat, answer_at, arrival_at, closing, is_asked, place_of, url_at}
+use Rattle.pulsar_links.specs.Seats.{Seat, answer_at, is_asked, place_of, url_at}
 use Rattle.pulsar_acts.specs.Rules.{call_part, notice}
 use Rattle.pulsar_acts.specs.Run.{Entry, Begins, Then, IsRun, Rests, agenda, steps, view}
 use Rattle.pulsar_calls.specs.Steps.{Step}
@@ -78,17 +78,25 @@ abbrev pub subscription_does : (link : ℕ) → Option Parts → List Done
 subscription_does l None = []
 subscription_does l (Some url) = Lives l url ∷ []
 
--- by an act, to the consumer of a ticket
+-- by each deed
+abbrev pub deed_does : Deed → Member → List Done
+deed_does (Arrives l a) m = arrival_does l a m.seen
+deed_does (LinkEnds l cause) m = loss_does l cause
+deed_does (CloseAsked closed l is_asked) m = close_does closed l is_asked m
+deed_does (IsPolled clock) m = Polled clock ∷ []
+deed_does (IsSought who) m = []
+deed_does FlowTaken m = Asks ∷ []
+deed_does (Revived l url) m = subscription_does l url
+deed_does (NotRevived f) m = Fails f ∷ []
+deed_does ClientStops m = Over Stopped ∷ []
+
+-- by several, the newest first, and by those of an act to the consumer of a ticket
+abbrev pub deeds_do : List Deed → Member → List Done
+deeds_do [] m = []
+deeds_do (d ∷ ds) m = deed_does d (along member_by ds m) ++ deeds_do ds m
+
 abbrev pub does_to : View → (ticket : ℕ) → Member → Act → List Done
-does_to v t m (Comes (ToLink l Reads)) = arrival_does l (arrival_at (v.links.live l)) m.seen
-does_to v t m (Comes (ToLink l (Ends end))) = loss_does l (closing end v.now (v.links.live l))
-does_to v t m (Comes (Polls u)) = if t == u then Polled v.now ∷ [] else []
-does_to v t m (Does who (Ask l request)) = close_does (closed_consumer request) l (is_asked (answer_at v.now request (v.links.live l))) m
-does_to v t m (Does who TakeFlow) = if t == ticket_of who then Asks ∷ [] else []
-does_to v t m (Does who (Revive l)) = if t == ticket_of who then subscription_does l (url_at (v.links.live l)) else []
-does_to v t m (Does who (FailConsumer f)) = if t == ticket_of who then Fails f ∷ [] else []
-does_to v t m (Does who StopAll) = Over Stopped ∷ []
-does_to v t m _ = []
+does_to v t m a = deeds_do (member_acts v t a) m
 
 -- and by the verdict that makes it: its first subscription
 abbrev pub made_as : Makes → Option Setup
@@ -141,6 +149,13 @@ abbrev pub items_given : ℕ → List Step → List Item
 items_given t [] = []
 items_given t (s ∷ h) = items_given t h ++ flat_map (given_by t) s.effects
 
+-- the effect of its next poll: it gives the first of what is left; where nothing is, it finds the end if the consumer has ended, and else nothing
+abbrev pub shows_next : (ticket : ℕ) → (topic : List ℕ) → (left : List Item) → (ended : Option Ending) → Shown
+shows_next t topic (Given id size metadata payload ∷ left) ended = Hands t topic id size metadata payload
+shows_next t topic (Faulty fault ∷ left) ended = Faults t fault
+shows_next t topic [] (Some why) = FindsEnd t
+shows_next t topic [] None = FindsNothing t
+
 -- The polls of a consumer give just the items of its arrivals, in order, each once and without gap: behind what they gave stands what is left. What
 -- arrives are the messages that come for its number on the link of its live subscription, and why it could not be subscribed again. Its next
 -- poll gives the first that is left; where none is left it gives the end if it has ended, and else nothing.
@@ -149,6 +164,7 @@ PollsFollow = (o : Options) (log : List Entry) (t : ℕ) (m : Member) → IsRun 
     (s : Setup) × (left : List Item) × (made_with t log ≡ Some s)
     × (items_given t (steps o log) ++ left ≡ items_of (arrivals s (done_to o t log)))
     × (reader.polled m.seen ≡ polled_from (first_of left) m.seen.ended)
+    × (consumer.polled t m ≡ shows_next t m.seen.topic left m.seen.ended)
 
 -- A consumer is polled where the user asks for it, and that is the one effect of that step.
 abbrev pub PollsAreAnswered : Type 0
@@ -205,13 +221,23 @@ arrival_ends l (Gives number reply) s = if s.number == number then frame_ends l 
 arrival_ends l Passes s = false
 arrival_ends l (Bad cause) s = false
 
+abbrev pub deed_ends : Deed → Member → Bool
+deed_ends (Arrives l a) m = arrival_ends l a m.seen
+deed_ends (LinkEnds l cause) m = is_some cause && (lives_on l m.seen && m.seen.is_raw)
+deed_ends (CloseAsked closed l is_asked) m = is_asked && is_closed_by closed l m
+deed_ends (IsPolled clock) m = false
+deed_ends (IsSought who) m = false
+deed_ends FlowTaken m = false
+deed_ends (Revived l url) m = false
+deed_ends (NotRevived f) m = true
+deed_ends ClientStops m = true
+
+abbrev pub deeds_end : List Deed → Member → Bool
+deeds_end [] m = false
+deeds_end (d ∷ ds) m = deeds_end ds m || deed_ends d (along member_by ds m)
+
 abbrev pub ends_by : View → (ticket : ℕ) → Member → Act → Bool
-ends_by v t m (Comes (ToLink l Reads)) = arrival_ends l (arrival_at (v.links.live l)) m.seen
-ends_by v t m (Comes (ToLink l (Ends end))) = is_some (closing end v.now (v.links.live l)) && (lives_on l m.seen && m.seen.is_raw)
-ends_by v t m (Does who (Ask l request)) = is_asked (answer_at v.now request (v.links.live l)) && is_closed_by (closed_consumer request) l m
-ends_by v t m (Does who (FailConsumer f)) = t == ticket_of who
-ends_by v t m (Does who StopAll) = true
-ends_by v t m _ = false
+ends_by v t m a = deeds_end (member_acts v t a) m
 
 abbrev pub ends_at : View → (ticket : ℕ) → Option Member → Act → Bool
 ends_at v t None a = false
@@ -252,7 +278,7 @@ PermitsAreKept = (o : Options) (log : List Entry) (t : ℕ) (m : Member) (l : Li
 -- The plan of a consumer gives permits only by a flow that it took from it: the frame that it asks for bears its number and these permits, on the link
 -- of the subscription that is live where it takes them; and it asks for it in that step, right behind what it is told of it.
 abbrev pub TakesSo : Options → (number ticket link permits : ℕ) → Entry → List Entry → Type 0
-TakesSo o n t l p e older = (e ≡ Then (Does (Consumer n t) TakeFlow)) × (consumer.flow_at ((view o older).consumers.rows t) ≡ Some (l, p))
+TakesSo o n t l p e older = (e ≡ Then (Does (Consumer n t) (OfConsumer TakeFlow))) × (consumer.flow_at ((view o older).consumers.rows t) ≡ Some (l, p))
 
 abbrev pub FlowsAreTaken : Type 0
 FlowsAreTaken = (o : Options) (log : List Entry) (n t l m p : ℕ) → IsRun o (Then (Does (Consumer n t) (Ask l (words.SendFlow m p))) ∷ log) →
@@ -261,10 +287,10 @@ FlowsAreTaken = (o : Options) (log : List Entry) (n t l m p : ℕ) → IsRun o (
 
 -- Each flow that it takes is asked for: it is told of it next, and next it asks for it.
 abbrev pub FlowsAreAsked : Type 0
-FlowsAreAsked = (o : Options) (older : List Entry) (n t l p : ℕ) → IsRun o (Then (Does (Consumer n t) TakeFlow) ∷ older) →
+FlowsAreAsked = (o : Options) (older : List Entry) (n t l p : ℕ) → IsRun o (Then (Does (Consumer n t) (OfConsumer TakeFlow)) ∷ older) →
     consumer.flow_at ((view o older).consumers.rows t) ≡ Some (l, p) →
-    (first (agenda o (Then (Does (Consumer n t) TakeFlow) ∷ older)) ≡ Some (Told (notice (Consumer n t) (outcome.Word (word.Flow l p)))))
-    × (first (agenda o (Then (Told (notice (Consumer n t) (outcome.Word (word.Flow l p)))) ∷ Then (Does (Consumer n t) TakeFlow) ∷ older))
+    (first (agenda o (Then (Does (Consumer n t) (OfConsumer TakeFlow)) ∷ older)) ≡ Some (Told (notice (Consumer n t) (outcome.Word (word.Flow l p)))))
+    × (first (agenda o (Then (Told (notice (Consumer n t) (outcome.Word (word.Flow l p)))) ∷ Then (Does (Consumer n t) (OfConsumer TakeFlow)) ∷ older))
     ≡ Some (Does (Consumer n t) (Ask l (words.SendFlow n p))))
 
 -- No flow that is asked for is refused: the subscription is live there, and its link ready. It is queued at once where there is room, and else it
@@ -284,7 +310,7 @@ pub record Flow : Type 0 where
 
 -- those that the plan of a consumer has asked for since its subscription was made, newest first: with another one they begin anew
 abbrev pub flows_after : View → (ticket : ℕ) → Act → List Flow → List Flow
-flows_after v t (Does who (Revive l)) fs = if t == ticket_of who && is_some (v.links.live l) then [] else fs
+flows_after v t (Does who (OfConsumer (Revive l))) fs = if t == ticket_of who && is_some (v.links.live l) then [] else fs
 flows_after v t (Does (Consumer n u) (Ask l (words.SendFlow m p))) fs =
     if t == u then record { place = place_of (answer_at v.now (words.SendFlow m p) (v.links.live l)); permits = p } ∷ fs else fs
 flows_after v t a fs = fs

@@ -1,10 +1,11 @@
 -- What follows from the definition of a good run, in plain words.
 use Rattle.std.specs.Prelude.{◌≡◌, ◌⊎◌, ℕ, ◌+◌, ◌-◌, ◌^◌, ◌≤◌, ◌==◌, nat_le, nat_lt, ◌&&◌, not, Bool, true, false, if◌then◌else◌, List, [], ◌∷◌, ◌++◌, Option, Some, None, Result, Err, pos}
-use Rattle.std.specs.List.{flat_map, list_any}
+use Rattle.std.specs.List.{filter_map, flat_map, list_any}
 use Rattle.std.specs.Option.{is_some, option_to_list}
 use Rattle.pulsar_run.specs.Laws.{Arises, In, InThisStep}
 use Rattle.pulsar_run.specs.Order.{AllInOrder, InOrder, arranged}
 use Rattle.pulsar_run.specs.Run.{events, steps_done}
+use Rattle.pulsar_run.specs.Things.{since}
 use Rattle.pulsar_wire.specs.declared.error.ConnectionError.{ConnectionError}
 use Rattle.pulsar_frame.specs.Frame.{cut}
 use Rattle.pulsar_frame.specs.Message.{MessageValues}
@@ -14,13 +15,12 @@ use Rattle.pulsar_requests.specs.Waits.{Pending, Waits, is_listed, later_of, req
 use Rattle.pulsar_session.specs.declared.states.Asked.{Asked as Placed}
 use Rattle.pulsar_wire.specs.Failures.{ProducerClosed, OfProducer, ConsumerClosed, OfConsumer, DiscoveryConnection, DiscoveryCanceled, DiscoveryFault, DiscoveryNotFound, DiscoveryShutdown, DnsLookup, Dummy, Exhausted, Failure, Fault, OfConnection, OfDiscovery, OfPartialSend, Query, Disconnected}
 use Rattle.pulsar_session.specs.Laws.{bytes_fed, messages_taken}
-use Rattle.pulsar_session.specs.Link.{Act as Act', Asks, Feeds, Seen, Setup, came, due, ends}
+use Rattle.pulsar_session.specs.Link.{Act as Act', Seen, Setup, came, due, ends}
 use Rattle.pulsar_messages.specs.Claims.{is_spent}
 use Rattle.pulsar_exchange.specs.Messages.{Reply, read}
 use Rattle.pulsar_exchange.specs.Request.{closed_consumer, request_number}
-use Rattle.pulsar_addresses.specs.Address.{Place, address_key}
+use Rattle.pulsar_addresses.specs.Address.{Place, address_key, in_discovery}
 use Rattle.pulsar_searches.specs.Replies.{query, unexpected, fails_by, is_choice, place_at, count_in}
-use Rattle.pulsar_addresses.specs.Address.{in_discovery}
 use Rattle.pulsar_outgoing.specs.Errors.{in_producer}
 use Rattle.pulsar_producer.specs.News.{News}
 use Rattle.pulsar_addresses.specs.Backoff.{allow_retry}
@@ -28,15 +28,16 @@ use Rattle.pulsar_searches.specs.declared.turn.Ways.{Ways}
 use Rattle.pulsar_frame.specs.Reply.{Reply as Content, is_body}
 use Rattle.pulsar_links.specs.Alarms.{ringing, rings}
 use Rattle.pulsar_calls.specs.declared.act.Act.{Act}
-use Rattle.pulsar_calls.specs.declared.act.Act.TheVariants.{Comes, Starts, Told, Does, Answers, Dials}
+use Rattle.pulsar_calls.specs.declared.act.Act.TheVariants.{Comes, Starts, Told, Does, Answers}
 use Rattle.pulsar_calls.specs.declared.act.Action.{Action}
-use Rattle.pulsar_calls.specs.declared.act.Action.TheVariants.{OfTopic, Get, Ask, Number, Hold, Shut, TakeNumber, FindConsumer, TakeFlow, RecallConsumer, Revive, FailConsumer, Tell, TellAll, StopAll, Rest}
+use Rattle.pulsar_calls.specs.declared.act.Action.TheVariants.{OfTopic, Get, Ask, Number, Hold, Shut, TakeNumber, Tell, TellAll, StopAll, Rest, OfConsumer}
+use Rattle.pulsar_calls.specs.declared.act.ConsumerAsk.TheVariants.{Find as FindConsumer, TakeFlow, Recall as RecallConsumer, Revive, Fail as FailConsumer}
 use Rattle.pulsar_calls.specs.declared.act.TopicAsk.TheVariants.{TakeTurn, PassTurn, Draw, Recall, Remake, Find, Store, Flush, TakeBatch}
 use Rattle.pulsar_calls.specs.declared.act.Alarm.{Alarm}
 use Rattle.pulsar_calls.specs.declared.act.Alarm.TheVariants.{Retry, Wake, Batch, KeepAlive, CheckIdle}
 use Rattle.pulsar_calls.specs.declared.act.Arrival.TheVariants.{Readied}
 use Rattle.pulsar_calls.specs.declared.act.End.{End}
-use Rattle.pulsar_calls.specs.declared.act.End.TheVariants.{Overdue, Stops}
+use Rattle.pulsar_calls.specs.declared.act.End.TheVariants.{Broken, Idles, Lost, Overdue, Stops, Unopened}
 use Rattle.pulsar_calls.specs.declared.act.LinkAct.{LinkAct}
 use Rattle.pulsar_calls.specs.declared.act.LinkAct.TheVariants.{Reads, Drains, Ends}
 use Rattle.pulsar_calls.specs.declared.act.Makes.{Makes}
@@ -57,28 +58,27 @@ use Rattle.pulsar_calls.specs.declared.act.Word.TheVariants as word
 use Rattle.pulsar_calls.specs.declared.content.Joining.{Joining}
 use Rattle.pulsar_links.specs.declared.addresses.Series.TheVariants.{Runs}
 use Rattle.pulsar_plans.specs.declared.plan.Plan.{Plan}
-use Rattle.pulsar_plans.specs.declared.plan.Turn.{Turn}
-use Rattle.pulsar_calls.specs.Content.{Asked, Bytes, Ticked, Said, Shown, Queued, Write, Failed, lacks_tickets, shares}
-use Rattle.pulsar_calls.specs.Order.{effect_below, is_before3}
+use Rattle.pulsar_calls.specs.Content.{Asked, Ticked, Said, Shown, Queued, Write, Failed, lacks_tickets, shares, numbers_from}
+use Rattle.pulsar_calls.specs.Order.{effect_below, is_before3, below}
 use Rattle.pulsar_links.specs.Links.{arrival, call_of, closed_by, line_places, new_places}
-use Rattle.pulsar_calls.specs.Content.{numbers_from}
 use Rattle.pulsar_calls.specs.Parts.{outcomes_of}
 use Rattle.pulsar_producer_table.specs.Producers.{advice, turn_passed, drawn, is_settled_at, is_woken, link_at, next_batch_at, number_drawn, numbers_at, recalled, stored_at, turn_taken, unsent_at, waiting_at}
 use Rattle.pulsar_producer.specs.Topic as topic
 use Rattle.pulsar_plans.specs.Plan.{begins, failure_of, fails, fault_of, reply_says, told}
 use Rattle.pulsar_acts.specs.Rules.{call_part, notice, starts, stopped_with, brings}
+use Rattle.pulsar_links.specs.Asks.{call_by}
 use Rattle.pulsar_links.specs.LinkRules.{dropped, fails_so}
-use Rattle.pulsar_calls.specs.Order.{below}
 use Rattle.pulsar_acts.specs.Run.{Entry, Begins, Then, Good, IsRun, Rests, agenda, rules, steps, tickets_in, view}
 use Rattle.pulsar_calls.specs.Steps.{Step}
 use Rattle.pulsar_consumer_table.specs.Consumers as consumer
 use Rattle.pulsar_consumer_table.specs.Consumers.{Member}
 use Rattle.pulsar_consumer_table.specs.declared.numbers.Numbering.TheVariants.{Has, InUse, Spent}
-use Rattle.pulsar_consumer_table.specs.declared.row.Sought.TheVariants.{Gone}
+use Rattle.pulsar_consumer_table.specs.declared.row.LinkAnswer.TheVariants.{Gone}
 use Rattle.pulsar_consumer.specs.Plans.{in_use, not_found}
 use Rattle.pulsar_incoming.specs.declared.orders.ConsumerOrder.{ConsumerOrder}
 use Rattle.pulsar_consumer.specs.Topic as reader
-use Rattle.pulsar_acts.specs.View.{View, builds, member_on, pause_of, setup, setup_of, room_of}
+use Rattle.pulsar_acts.specs.Things as things
+use Rattle.pulsar_acts.specs.View.{View, builds, link_born, member_on, pause_of, setup_of, room_of}
 use Rattle.pulsar_machine.specs.Options.{Options}
 use Rattle.pulsar_links.specs.Seats.{Base, Seat, answer_at, arrival_at, closing, is_asked, url_at}
 use Rattle.pulsar_calls.specs.Who.{in_turn, is_same, rank, ticket_of, turn_of as taken_as}
@@ -87,9 +87,10 @@ use Rattle.pulsar_session.specs.Link as session
 use Rattle.pulsar_outgoing.specs.declared.news.News.TheVariants as news
 use Rattle.pulsar_calls.specs.declared.act.Outcome.TheVariants as outcome
 use Rattle.pulsar_calls.specs.declared.act.Procedure.TheVariants as procedure
-use Rattle.pulsar_plans.specs.declared.plan.Turn.TheVariants as turn
 use Rattle.pulsar_links.specs.Links as links
 use Rattle.pulsar_searches.specs.declared.replies.Heard.TheVariants.{Says as CountIs}
+use Rattle.pulsar_searches.specs.declared.transition.Transition.TheVariants as transition
+use Rattle.pulsar_plans.specs.Transitions.{PlanTransition}
 
 -- THE RUN
 
@@ -161,10 +162,10 @@ abbrev pub acted : Action → List Deed
 acted Rest = []
 acted action = Acted action ∷ []
 
-abbrev pub course : Turn Plan Verdict → List Outcome → List Deed
-course (turn.Gives verdict) os = Answered verdict ∷ []
-course (turn.Stays plan action) [] = acted action
-course (turn.Stays plan action) (o ∷ os) = acted action ++ course (told plan o) os
+abbrev pub course : PlanTransition → List Outcome → List Deed
+course (transition.Gives verdict) os = Answered verdict ∷ []
+course (transition.Stays plan action) [] = acted action
+course (transition.Stays plan action) (o ∷ os) = acted action ++ course (told plan o) os
 
 -- Wherever nothing is left to do, that is at the end of each step, each of those who have plans has done what its plan gives along
 -- its outcomes: each action, and the verdict, in the step of its outcome, none more and none less.
@@ -178,9 +179,9 @@ act_of w (Acted action) = Does w action
 act_of w (Answered verdict) = Answers w verdict
 
 -- a plan comes to where this is done, or gives this verdict
-abbrev pub Leads : Deed → Turn Plan Verdict → Type 0
-Leads (Acted action) t = (plan : Plan) × (t ≡ turn.Stays plan action)
-Leads (Answered verdict) t = t ≡ turn.Gives verdict
+abbrev pub Leads : Deed → PlanTransition → Type 0
+Leads (Acted action) t = (plan : Plan) × (t ≡ transition.Stays plan action)
+Leads (Answered verdict) t = t ≡ transition.Gives verdict
 
 -- a plan starts so; it is told an outcome that leads there; or a call comes for which no ticket is left, and ends with no plan
 abbrev pub StartsSo : Who → Deed → Entry → Type 0
@@ -192,7 +193,8 @@ IsToldSo o w d e older =
 
 abbrev pub ComesLate : Options → Who → Deed → Entry → List Entry → Type 0
 ComesLate o w d e older =
-    (asked : Asked) × (said : List (Option ℕ)) × (e ≡ Then (Comes (Calls asked said))) × (w ≡ Call (2 ^ 64 - 1)) × (lacks_tickets (view o older).calls.drawn (shares asked) ≡ true)
+    (asked : Asked) × (said : List (Option ℕ)) × (e ≡ Then (Comes (Calls asked said))) × (w ≡ Call (2 ^ 64 - 1))
+    × (lacks_tickets (view o older).calls.drawn (shares asked) ≡ true)
     × (d ≡ Answered (fails Exhausted))
 
 -- Each action of a plan, and its verdict, comes right behind the start of the plan or the outcome that leads to it. So it stands in the
@@ -210,7 +212,7 @@ verdicts_in (Acted action ∷ ds) = verdicts_in ds
 verdicts_in (Answered verdict ∷ ds) = verdicts_in ds + 1
 
 abbrev pub AnswersOnce : Type 0
-AnswersOnce = (turn : Turn Plan Verdict) (os : List Outcome) → verdicts_in (course turn os) ≤ 1
+AnswersOnce = (turn : PlanTransition) (os : List Outcome) → verdicts_in (course turn os) ≤ 1
 
 -- how often a call began, and how often it ended
 abbrev pub start_of : ℕ → Act → ℕ
@@ -273,12 +275,23 @@ has_come now w (Some r) = nat_le r.deadline now && not (r.creates && is_listed w
 -- It is late where its link ends by the deadline of a tick, and its frame was queued before that tick.
 abbrev pub is_late : End → (now : ℕ) → Seen → (place : ℕ) → Bool
 is_late (Overdue queued) now v place = nat_lt place queued && has_come now v.waits (request_at place v.waits.waiting)
-is_late _ now v place = false
+is_late (Unopened kind) now v place = false
+is_late Lost now v place = false
+is_late (Broken cause) now v place = false
+is_late Idles now v place = false
+is_late Stops now v place = false
 
 -- what one is told whose request ends with its link: the client was stopped, it timed out where it is late, and else it is lost
+abbrev pub lost_as : (is_late : Bool) → Outcome
+lost_as is_late = if is_late then outcome.TimedOut else outcome.Disconnected
+
 abbrev pub ended_as : End → (is_late : Bool) → Outcome
 ended_as Stops is_late = outcome.Cut
-ended_as end is_late = if is_late then outcome.TimedOut else outcome.Disconnected
+ended_as (Overdue queued) is_late = lost_as is_late
+ended_as (Unopened kind) is_late = lost_as is_late
+ended_as Lost is_late = lost_as is_late
+ended_as (Broken cause) is_late = lost_as is_late
+ended_as Idles is_late = lost_as is_late
 
 -- a request that this one asked for ends with its link, and this is told
 abbrev pub RequestEnds : Options → Who → Outcome → Entry → List Entry → Type 0
@@ -352,7 +365,7 @@ DrawsNone _ _ v = ⊥
 -- it asks for the link of a topic producer, or of a consumer, which is this
 abbrev pub Finds : (link : ℕ) → Action → View → Type 0
 Finds link (OfTopic n Find) v = link_at (v.producers.topics n) ≡ Some link
-Finds link (FindConsumer t) v = consumer.link_at (v.consumers.rows t) ≡ Some link
+Finds link (OfConsumer (FindConsumer t)) v = consumer.link_at (v.consumers.rows t) ≡ Some link
 Finds link _ v = ⊥
 
 -- it asks of a topic producer that is not known, or of its own consumer, where that is not
@@ -360,7 +373,7 @@ abbrev pub IsUnknown : Who → Action → View → Type 0
 IsUnknown who (OfTopic n TakeTurn) v = v.producers.topics n ≡ None
 IsUnknown who (OfTopic n Recall) v = recalled v.producers n ≡ None
 IsUnknown who (OfTopic n Find) v = v.producers.topics n ≡ None
-IsUnknown who RecallConsumer v = v.consumers.rows (ticket_of who) ≡ None
+IsUnknown who (OfConsumer RecallConsumer) v = v.consumers.rows (ticket_of who) ≡ None
 IsUnknown who _ v = ⊥
 
 -- What it asks of consumers is said at once: the number that it has for a new one, or that this is in use; that the consumer whose link it wants has
@@ -369,13 +382,13 @@ IsUnknown who _ v = ⊥
 abbrev pub SaysSo : Who → Word → Action → View → Type 0
 SaysSo who (word.Numbered n) (TakeNumber wanted) v = consumer.numbering v.consumers wanted ≡ Has n
 SaysSo who word.InUse (TakeNumber wanted) v = consumer.numbering v.consumers wanted ≡ InUse
-SaysSo who word.Closed (FindConsumer t) v = consumer.sought (v.consumers.rows t) ≡ Gone
-SaysSo who (word.Flow link permits) TakeFlow v = consumer.flow_at (v.consumers.rows (ticket_of who)) ≡ Some (link, permits)
-SaysSo who word.NoFlow TakeFlow v = consumer.flow_at (v.consumers.rows (ticket_of who)) ≡ None
-SaysSo who (word.Recalled c) RecallConsumer v = consumer.recalled (v.consumers.rows (ticket_of who)) ≡ Some c
-SaysSo who word.Lives (Revive l) v = consumer.is_ended_at (v.consumers.rows (ticket_of who)) ≡ false
-SaysSo who word.Over (Revive l) v = consumer.is_ended_at (v.consumers.rows (ticket_of who)) ≡ true
-SaysSo who word.Over (FailConsumer f) v = Unit {0}
+SaysSo who word.Closed (OfConsumer (FindConsumer t)) v = consumer.sought (v.consumers.rows t) ≡ Gone
+SaysSo who (word.Flow link permits) (OfConsumer TakeFlow) v = consumer.flow_at (v.consumers.rows (ticket_of who)) ≡ Some (link, permits)
+SaysSo who word.NoFlow (OfConsumer TakeFlow) v = consumer.flow_at (v.consumers.rows (ticket_of who)) ≡ None
+SaysSo who (word.Recalled c) (OfConsumer RecallConsumer) v = consumer.recalled (v.consumers.rows (ticket_of who)) ≡ Some c
+SaysSo who word.Lives (OfConsumer (Revive l)) v = consumer.is_ended_at (v.consumers.rows (ticket_of who)) ≡ false
+SaysSo who word.Over (OfConsumer (Revive l)) v = consumer.is_ended_at (v.consumers.rows (ticket_of who)) ≡ true
+SaysSo who word.Over (OfConsumer (FailConsumer f)) v = Unit {0}
 SaysSo who _ _ v = ⊥
 
 -- this one is the plan of a consumer
@@ -406,7 +419,7 @@ PolledDue o who e older =
 
 abbrev pub RevivedDue : Options → Who → Entry → List Entry → Type 0
 RevivedDue o who e older =
-    (l : ℕ) × (other : Who) × (m : Member) × (e ≡ Then (Does other (Revive l))) × IsServedAs (view o older) who (ticket_of other) m
+    (l : ℕ) × (other : Who) × (m : Member) × (e ≡ Then (Does other (OfConsumer (Revive l)))) × IsServedAs (view o older) who (ticket_of other) m
     × (reader.is_due (consumer.revived l (url_at ((view o older).links.live l)) m).seen ≡ true)
 
 abbrev pub BuiltDue : Options → Who → Entry → List Entry → Type 0
@@ -418,7 +431,7 @@ BuiltDue o who e older =
 abbrev pub SeeksAgain : Options → Who → Entry → List Entry → Type 0
 SeeksAgain o who e older =
     (other : Who) × In who (consumer.seekers_at ((view o older).consumers.rows (ticket_of other)))
-    × (((l : ℕ) × (e ≡ Then (Does other (Revive l)))) ⊎ ((f : Failure) × (e ≡ Then (Does other (FailConsumer f)))))
+    × (((l : ℕ) × (e ≡ Then (Does other (OfConsumer (Revive l))))) ⊎ ((f : Failure) × (e ≡ Then (Does other (OfConsumer (FailConsumer f))))))
 
 -- what one is told of a consumer: it is said at once, or its consumer hears, loses or leaves so; a flow is due; or it is to look once more
 abbrev pub WordComes : Options → Who → Word → Entry → List Entry → Type 0
@@ -649,20 +662,17 @@ call_at x now (Some seat) = option_to_list (call_of x now seat.seen)
 
 -- the calls of the connection of a link since it was dialed, newest first
 abbrev pub calls_of : Options → ℕ → List Entry → List Act'
-calls_of o l [] = []
-calls_of o l (Begins (Bytes k piece) ∷ log) = if l == k then Feeds piece ∷ calls_of o l log else calls_of o l log
-calls_of o l (Then (Comes (ToLink k x)) ∷ log) =
-    if l == k then call_at x (view o log).now ((view o log).links.live l) ++ calls_of o l log else calls_of o l log
-calls_of o l (Then (Does who (Ask k request)) ∷ log) = if l == k then Asks (view o log).now request ∷ calls_of o l log else calls_of o l log
-calls_of o l (Then (Dials p starter retries) ∷ log) = if l == (view o log).links.started then [] else calls_of o l log
-calls_of o l (_ ∷ log) = calls_of o l log
+calls_of o l log = filter_map call_by (since rules things.links o log l)
 
 -- what it was dialed with
+abbrev pub dialed_last : Option Seat → Option Setup → Option Setup
+dialed_last None before = before
+dialed_last (Some seat) before = Some seat.seen.setup
+
 abbrev pub dialed_with : Options → ℕ → List Entry → Option Setup
 dialed_with o l [] = None
-dialed_with o l (Then (Dials p starter retries) ∷ log) =
-    if l == (view o log).links.started then Some (setup o.chosen l (view o log).now p) else dialed_with o l log
-dialed_with o l (_ ∷ log) = dialed_with o l log
+dialed_with o l (Begins e ∷ log) = dialed_with o l log
+dialed_with o l (Then a ∷ log) = dialed_last (link_born (view o log) l a) (dialed_with o l log)
 
 -- A link that has not ended is what the calls of its connection made of it, and nothing else. So all that holds of a connection over
 -- any acts holds of it: its requests are settled by the first later frame that bears their key, what is written is the first of what

@@ -8,3 +8,4 @@ pub mod LinkLaws
 pub mod Traces
 pub mod RetryLaws
 pub mod PartLaws
+pub mod AgainLaws

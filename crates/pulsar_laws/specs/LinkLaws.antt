@@ -10,7 +10,7 @@ use Rattle.pulsar_links.specs.Seats.{Seat, closing, has_ended}
 use Rattle.pulsar_calls.specs.declared.act.Act.TheVariants.{Comes}
 use Rattle.pulsar_calls.specs.declared.act.End.TheVariants.{Overdue}
 use Rattle.pulsar_calls.specs.declared.act.LinkAct.{LinkAct}
-use Rattle.pulsar_calls.specs.declared.act.LinkAct.TheVariants.{Ends}
+use Rattle.pulsar_calls.specs.declared.act.LinkAct.TheVariants.{Drains, Ends, Opens, Pings, Reads}
 use Rattle.pulsar_calls.specs.declared.act.Part.TheVariants.{ToLink}
 use Rattle.pulsar_calls.specs.declared.effect.Settlement.{Settlement}
 use Rattle.pulsar_calls.specs.declared.effect.Settlement.TheVariants.{Reply, TimedOut, Disconnected}
@@ -37,7 +37,10 @@ settled_at l place h = map (λ s. flat_map (settles_at l place) s.effects) h
 -- and it is late; else it is disconnected.
 abbrev pub is_late_at : LinkAct → (now : ℕ) → Seen → (place : ℕ) → Bool
 is_late_at (Ends end) now v place = is_late end now v place
-is_late_at _ now v place = false
+is_late_at Opens now v place = false
+is_late_at Reads now v place = false
+is_late_at (Drains most) now v place = false
+is_late_at Pings now v place = false
 
 abbrev pub settled_so : LinkAct → (now : ℕ) → Seen → (place : ℕ) → Fate → Settlement
 settled_so x now v place (Replied m) = Reply
@@ -82,7 +85,10 @@ DueLinksEnd = (o : Options) (newer older : List Entry) (now l : ℕ) (seat : Sea
 -- what comes to a link ends it: an end comes that closes its connection
 abbrev pub is_end : LinkAct → (now : ℕ) → Option Seat → Bool
 is_end (Ends end) now row = is_some (closing end now row)
-is_end _ now row = false
+is_end Opens now row = false
+is_end Reads now row = false
+is_end (Drains most) now row = false
+is_end Pings now row = false
 
 -- an end of a link stands in the log
 abbrev pub end_in : Options → (link : ℕ) → List Entry → Bool

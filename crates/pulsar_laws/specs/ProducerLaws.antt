@@ -1,7 +1,7 @@
 -- What follows of producers, in plain words.
 use Rattle.std.specs.Prelude.{◌≡◌, ◌⊎◌, ℕ, ◌+◌, ◌^◌, ◌≤◌, ◌<◌, ◌==◌, ◌&&◌, Bool, true, false, if◌then◌else◌, List, [], ◌∷◌, ◌++◌, Option, Some, None, Ok, Err}
 use Rattle.std.specs.BTreeMap.{is_at}
-use Rattle.std.specs.List.{list_any}
+use Rattle.std.specs.List.{AllByRecursion, list_any}
 use Rattle.std.specs.Map.{lookup}
 use Rattle.std.specs.Ordering.{nat_cmp}
 use Rattle.std.specs.Option.{option_map}
@@ -9,11 +9,12 @@ use Rattle.pulsar_run.specs.Laws.{In}
 use Rattle.pulsar_wire.specs.declared.error.ConnectionError.TheVariants as error
 use Rattle.pulsar_wire.specs.declared.key.RequestKey.TheVariants as key
 use Rattle.pulsar_wire.specs.Fits.{InRange}
+use Rattle.pulsar_wire.specs.Row.{Bytes, Content, Embedded, End, Flag, Int32, Int64, Kind, Numbers, Plain, Row, Text, Uint32, Uint64, Values, items}
 use Rattle.pulsar_wire.specs.Rows.{message_metadata}
+use Rattle.pulsar_frame.specs.Batch.{EntryValues}
 use Rattle.pulsar_frame.specs.Checksum.{AreBytes}
 use Rattle.pulsar_frame.specs.Frame.{Whole, frame_bytes, front}
 use Rattle.pulsar_frame.specs.Message.{MessageValues}
-use Rattle.pulsar_frame.specs.Payload.{covered_bytes}
 use Rattle.pulsar_messages.specs.Content.{ProducerMessageValues}
 use Rattle.pulsar_messages.specs.Messages.{metadata_of}
 use Rattle.pulsar_messages.specs.Words as words
@@ -28,7 +29,9 @@ use Rattle.pulsar_messages.specs.Message.{with_version}
 use Rattle.pulsar_producer.specs.Laws.{AreAbove}
 use Rattle.pulsar_producer.specs.Topic as topic
 use Rattle.pulsar_producer.specs.Topic.{Act as TopicAct}
+use Rattle.pulsar_outgoing.specs.Batch.{batch_of}
 use Rattle.pulsar_outgoing.specs.declared.content.Built.{Built}
+use Rattle.pulsar_outgoing.specs.declared.replies.Given.{Given}
 use Rattle.pulsar_outgoing.specs.declared.storage.Limits.{Limits}
 use Rattle.pulsar_outgoing.specs.declared.news.News.TheVariants as news
 use Rattle.pulsar_outgoing.specs.declared.orders.Errand.{Errand}
@@ -38,9 +41,10 @@ use Rattle.pulsar_producer.specs.declared.batching.Batching.{Batching}
 use Rattle.pulsar_producer.specs.declared.batching.Batching.TheVariants as batching
 use Rattle.pulsar_searches.specs.declared.turn.Ways.{Ways}
 use Rattle.pulsar_calls.specs.declared.act.Act.{Act}
-use Rattle.pulsar_calls.specs.declared.act.Act.TheVariants.{Told, Does}
+use Rattle.pulsar_calls.specs.declared.act.Act.TheVariants.{Answers, Does, Told}
 use Rattle.pulsar_calls.specs.declared.act.Action.TheVariants.{OfTopic, Ask}
-use Rattle.pulsar_calls.specs.declared.act.TopicAsk.TheVariants.{PassTurn}
+use Rattle.pulsar_calls.specs.declared.act.TopicAsk.TheVariants.{PassTurn, Remake}
+use Rattle.pulsar_calls.specs.declared.act.Makes.{Makes}
 use Rattle.pulsar_calls.specs.declared.act.Makes.TheVariants as makes
 use Rattle.pulsar_calls.specs.declared.act.Share.{Share}
 use Rattle.pulsar_calls.specs.declared.act.Outcome.{Outcome}
@@ -108,11 +112,36 @@ TopicsAlone = (o : Options) (log : List Entry) (n : ℕ) (t : Topic) → IsRun o
     (b : Built) × (limits : Limits) × (b.number ≡ n)
     × (t.seen ≡ topic.seen (record { built = b; first_number = o.chosen.first_number; limits = limits }) (acts_on o n log))
 
--- The number of a new topic producer is none that a raw call has named before, no other one has it, and none that was drawn before is as great:
--- so none is drawn twice.
+-- with what one of a number is built: its link, and what its broker says of it; of several the last
+abbrev pub built_in : (number : ℕ) → List Built → (before : Option (ℕ × Given)) → Option (ℕ × Given)
+built_in n [] before = before
+built_in n (b ∷ bs) before = built_in n bs (if n == b.number then Some (b.link, b.given) else before)
+
+abbrev pub built_by : (number : ℕ) → Makes → (before : Option (ℕ × Given)) → Option (ℕ × Given)
+built_by n makes.Nothing before = before
+built_by n makes.Client before = before
+built_by n (makes.Consumer j) before = before
+built_by n (makes.RawConsumer l made) before = before
+built_by n (makes.Producer b) before = built_in n b.parts before
+
+-- with what the topic producer of a number was made last: with its newest remaking since it was built, else as it was built
+abbrev pub made_last : (number : ℕ) → List Entry → Option (ℕ × Given)
+made_last n [] = None
+made_last n (Then (Answers who verdict) ∷ log) = built_by n verdict.makes (made_last n log)
+made_last n (Then (Does who (OfTopic m (Remake r))) ∷ log) = if n == m then Some (r.link, r.given) else made_last n log
+made_last n (_ ∷ log) = made_last n log
+
+-- The link of a topic producer, its name and the version of its schema are those with which it was made last.
+abbrev pub AsMadeLast : Type 0
+AsMadeLast = (o : Options) (log : List Entry) (n : ℕ) (t : Topic) → (view o log).producers.topics n ≡ Some t →
+    made_last n log ≡ Some (t.seen.link, t.seen.given)
+
+-- No other topic producer has the number of a new one, and none that was drawn before is as great: so none is drawn twice. And it is none that a raw call
+-- has named before, where the first number of the options has 64 bits, as its type says: one of 2^64 is the number of the first topic producer, also where
+-- a raw call has named it.
 abbrev pub NumbersAreFree : Type 0
-NumbersAreFree = (o : Options) (log : List Entry) (n : ℕ) → o.chosen.first_number < 2 ^ 64 → IsRun o log → number_drawn (view o log).producers ≡ Some n →
-    (list_any (λ k. k == n) (view o log).producers.named ≡ false) × ((view o log).producers.topics n ≡ None)
+NumbersAreFree = (o : Options) (log : List Entry) (n : ℕ) → IsRun o log → number_drawn (view o log).producers ≡ Some n →
+    (o.chosen.first_number < 2 ^ 64 → list_any (λ k. k == n) (view o log).producers.named ≡ false) × ((view o log).producers.topics n ≡ None)
     × ((who : Who) (m : ℕ) → In (Then (Told (notice who (outcome.Granted (news.Numbered m))))) log → m < n)
 
 -- Where a send of a call asks for its frame, it is the call's own message by the name that its topic producer has then, on its link and in its
@@ -133,20 +162,43 @@ QueuedAsAsked = (o : Options) (log : List Entry) (l place : ℕ) (seat : Seat) (
     (id : ℕ) × (frame : List ℕ) × (frame_for (message_of id (view o log).now request) ≡ Some frame)
     × (frame_at place (session.after (Asks (view o log).now request) seat.seen) ≡ Some frame)
 
--- What the types of a client's values say of a message: its numbers and texts are in range, the moment has 64 bits, and what is written is bytes.
-abbrev pub IsTyped : (now sequence : ℕ) → (name : List ℕ) → ProducerMessageValues → Type 0
-IsTyped now s name m =
-    (now < 2 ^ 64) × InRange message_metadata (metadata_of 0 [] 0 m)
-    × AreBytes (covered_bytes (record { metadata = metadata_of now name s m; bytes = m.payload }))
+-- what is held as bytes is bytes
+abbrev pub HoldsBytes : (k : Kind) → Content k → Type 0
+HoldsBytes Text bytes = Unit {0}
+HoldsBytes Bytes bytes = AreBytes bytes
+HoldsBytes Uint32 n = Unit {0}
+HoldsBytes Uint64 n = Unit {0}
+HoldsBytes Int32 z = Unit {0}
+HoldsBytes Int64 z = Unit {0}
+HoldsBytes Flag b = Unit {0}
+
+abbrev pub HoldBytes : (row : Row) → Values row → Type 0
+HoldBytes End vs = Unit {0}
+HoldBytes (Plain n r k row) vs = AllByRecursion (HoldsBytes k) (items r vs.0) × HoldBytes row vs.1
+HoldBytes (Embedded n r inner row) vs = AllByRecursion (HoldBytes inner) (items r vs.0) × HoldBytes row vs.1
+HoldBytes (Numbers n row) vs = HoldBytes row vs.1
+
+-- What the types say of what a message says: its numbers and texts are in range. Of a batch it follows, since its count was checked.
+abbrev pub SaysInRange : ProducerMessageValues → Type 0
+SaysInRange m =
+    InRange message_metadata (metadata_of 0 [] 0 m)
+    ⊎ ((es : List EntryValues) × (whole : ProducerMessageValues) × (version : Option (List ℕ)) × (batch_of es ≡ Ok whole) × (m ≡ with_version version whole))
+
+-- and of its bytes
+abbrev pub IsTyped : ProducerMessageValues → Type 0
+IsTyped m = SaysInRange m × HoldBytes message_metadata (metadata_of 0 [] 0 m) × AreBytes m.payload
 
 -- And whoever decodes it reads the message: its payload, and what it says of that, under the producer's name and the number. Its sizes fit, since it
--- was queued, or stands in the line; so do the numbers of the producer and of the message, of which none is drawn beyond 64 bits; and the name is a
--- text, since a reply of the broker said it.
+-- was queued, or stands in the line; so do the numbers of the producer and of the message, of which none is drawn beyond 64 bits; the name is a text,
+-- since a reply of the broker said it; and what the checksum covers is bytes. What is left the types say, and no run checks it. Each of these frames is
+-- refused by whoever reads it: the first of a producer where the first number of the options is 2^64, or their moment, or that of a tick before, or the
+-- event time of the message, since no such number is read; one that says a property whose key is the byte 255, which is no text; and one whose payload ends
+-- with a byte of 2^40, since its checksum has more than 32 bits.
 abbrev pub FramesAreReadAgain : Type 0
 FramesAreReadAgain = (o : Options) (log : List Entry) (id l n s : ℕ) (name : List ℕ) (m : ProducerMessageValues) (block : Bool) (place : Asked)
     (row : Topic) (behind : List ℕ) →
-    o.chosen.first_number < 2 ^ 64 → IsRun o log → (view o log).producers.topics n ≡ Some row → row.seen.next ≡ s + 1 → row.seen.given.name ≡ name →
-    answer_at (view o log).now (words.Send n name s m block) ((view o log).links.live l) ≡ Ok place → IsTyped (view o log).now s name m →
+    o.chosen.first_number < 2 ^ 64 → (view o log).now < 2 ^ 64 → IsRun o log → (view o log).producers.topics n ≡ Some row → row.seen.next ≡ s + 1 →
+    row.seen.given.name ≡ name → answer_at (view o log).now (words.Send n name s m block) ((view o log).links.live l) ≡ Ok place → IsTyped m →
     (read : MessageValues)
     × (front (frame_bytes (message_of id (view o log).now (words.Send n name s m block)) ++ behind) ≡ Whole read behind)
     × (read.payload ≡ Some (record { metadata = metadata_of (view o log).now name s m; bytes = m.payload }))

@@ -23,8 +23,6 @@ use Rattle.pulsar_searches.specs.declared.turn.Action.{Action as Wish}
 use Rattle.pulsar_searches.specs.declared.turn.Action.TheVariants as wish
 use Rattle.pulsar_searches.specs.declared.turn.SearchOutcome.{SearchOutcome as News}
 use Rattle.pulsar_searches.specs.declared.turn.SearchOutcome.TheVariants as news
-use Rattle.pulsar_searches.specs.declared.turn.Turn.{Turn}
-use Rattle.pulsar_searches.specs.declared.turn.Turn.TheVariants.{Stays, Gives}
 use Rattle.pulsar_searches.specs.declared.turn.Ways.{Ways}
 use Rattle.pulsar_producer.specs.Topic as topic
 use Rattle.pulsar_calls.specs.declared.act.Act.{Act}
@@ -54,6 +52,8 @@ use Rattle.pulsar_acts.specs.Run.{Entry, Begins, Then, IsRun, Rests, view}
 use Rattle.pulsar_acts.specs.View.{Turned, View, builds, turned}
 use Rattle.pulsar_machine.specs.Options.{Chosen, Options}
 use Rattle.pulsar_laws.specs.Laws.{Acted, Deed, deeds, started, ways_in}
+use Rattle.pulsar_searches.specs.declared.transition.Transition.TheVariants.{Stays, Gives}
+use Rattle.pulsar_searches.specs.Transitions.{SearchTransition}
 
 -- WHEN AN ALARM COMES
 
@@ -196,7 +196,7 @@ AttemptsAreSpent =
 -- HOW OFTEN AN OPERATION IS MADE
 
 -- what a machine comes to along what it is told, and how often it rested on the way
-abbrev pub turn_along : {S A : Type 0} → (S → News → Turn S A) → Turn S A → List News → Turn S A
+abbrev pub turn_along : {S A : Type 0} → (S → News → SearchTransition S A) → SearchTransition S A → List News → SearchTransition S A
 turn_along told (Gives a) os = Gives a
 turn_along told (Stays s action) [] = Stays s action
 turn_along told (Stays s action) (o ∷ os) = turn_along told (told s o) os
@@ -204,7 +204,7 @@ turn_along told (Stays s action) (o ∷ os) = turn_along told (told s o) os
 abbrev pub one_if : Bool → ℕ
 one_if b = if b then 1 else 0
 
-abbrev pub rests_along : {S A : Type 0} → (S → Wish → Bool) → (S → News → Turn S A) → Turn S A → List News → ℕ
+abbrev pub rests_along : {S A : Type 0} → (S → Wish → Bool) → (S → News → SearchTransition S A) → SearchTransition S A → List News → ℕ
 rests_along test told (Gives a) os = 0
 rests_along test told (Stays s action) [] = one_if (test s action)
 rests_along test told (Stays s action) (o ∷ os) = one_if (test s action) + rests_along test told (told s o) os
@@ -219,7 +219,7 @@ HasRetried None n = ⊥
 HasRetried (Some most) n = most ≤ n
 
 -- It is made again behind a wait where fewer retries were made than the options allow; and it is given up, with this failure, where as many were.
-abbrev pub AgainOrNot : {S A : Type 0} → Ways → (retries : ℕ) → (rests : S) → Failure → Turn S (Result A Failure) → Type 0
+abbrev pub AgainOrNot : {S A : Type 0} → Ways → (retries : ℕ) → (rests : S) → Failure → SearchTransition S (Result A Failure) → Type 0
 AgainOrNot w n rests f turn =
     (MayRetry w.max_retries n × (turn ≡ Stays rests (wish.Wait w.retry_delay))) ⊎ (HasRetried w.max_retries n × (turn ≡ Gives (Err f)))
 

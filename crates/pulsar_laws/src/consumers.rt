@@ -7,7 +7,8 @@ pub fn consumers_alone()
     ensures { ConsumersAlone }
 {}
 
-/// The polls of a consumer give the items of its arrivals, in order, each once and without gap.
+/// The polls of a consumer give the items of its arrivals, in order, each once and without gap; where none is left, they find the end where
+/// it has ended, and else nothing.
 pub fn polls_follow()
     ensures { PollsFollow }
 {}

@@ -1,11 +1,13 @@
 //! What follows of producers from the definition of a good run: each contract is a law, and its body is empty.
 
 ghost use Rattle.pulsar_laws.specs.PartLaws.{PartsAreReported};
-ghost use Rattle.pulsar_laws.specs.ProducerLaws.{FramesAreOfTheirSends, FramesAreReadAgain, NumbersAreFree, NumbersOfFramesRise, PartsAreGathered, PassedInTurn, QueuedAsAsked, QueuedInTurn, ReceiptsAreOwn, SentOnce, SlowDownLeavesAll, ToldInTurn, TopicsAlone};
+ghost use Rattle.pulsar_laws.specs.ProducerLaws.{AsMadeLast, FramesAreOfTheirSends, FramesAreReadAgain, NumbersAreFree, NumbersOfFramesRise, PartsAreGathered, PassedInTurn, QueuedAsAsked, QueuedInTurn, ReceiptsAreOwn, SentOnce, SlowDownLeavesAll, ToldInTurn, TopicsAlone};
 
-/// A topic producer is what the acts on it made of it since it was built, and nothing else.
+/// A topic producer is what the acts on it made of it since it was built, and nothing else. Its link, its name and the version of its
+/// schema are those with which it was made last.
 pub fn topics_alone()
-    ensures { TopicsAlone }
+    ensures acts { TopicsAlone }
+    ensures made { AsMadeLast }
 {}
 
 /// The number of a new topic producer is none that a raw call has named, and none that was drawn before.

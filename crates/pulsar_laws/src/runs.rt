@@ -6,6 +6,7 @@ ghost use Rattle.pulsar_laws.specs.Laws.{AlarmsAreTicked, AllIsDone, AnswersOnce
 ghost use Rattle.pulsar_laws.specs.CauseLaws.{OutcomesAreCaused};
 ghost use Rattle.pulsar_laws.specs.LinkLaws.{DueLinksEnd, EndedIs, PiecesDontMatter, SettledAsTold, SettledOnce};
 ghost use Rattle.pulsar_laws.specs.AddressLaws.{AttemptsFollow, IdleEnds, NoneAfterStop, OneLinkEach, SeriesIsNewest, KeepAlivePings};
+ghost use Rattle.pulsar_laws.specs.AgainLaws.{AgainWhileAllowed, GivenUpAtOnce, MadeAgainInTime, MadeAgainOrGivenUp};
 ghost use Rattle.pulsar_laws.specs.RetryLaws.{AttemptsAreSpent, CountsAgain, LooksAgain, MakesAgain, MomentsAreSet, PlansWait, QuestionsAreBounded, RetriesAreCounted, WaysAreChosen};
 ghost use Rattle.pulsar_laws.specs.Traces.{IsGood, LocalIsKnown, attempt_fails, attempt_is_retried, batch_is_sent, client_is_stopped, consumer_is_polled, deadline_comes, line_moves_up, lookup_is_redirected, message_is_sent, reply_comes_early, request_is_answered};
 ghost use Rattle.pulsar_acts.specs.Run.{Good};
@@ -150,6 +151,16 @@ pub fn operations_are_made_again()
     ensures looks { LooksAgain }
     ensures makes { MakesAgain }
     ensures bounded { QuestionsAreBounded }
+{}
+
+/// Wherever a plan makes an operation: one that rests was made again fewer times than the options allow; one that fails so that another time may
+/// help rests, or is given up where it was made again as often as they allow; one that rests is made again behind its wait; and a command that
+/// fails otherwise is given up at once.
+pub fn operations_are_counted()
+    ensures again { AgainWhileAllowed }
+    ensures fails { MadeAgainOrGivenUp }
+    ensures in_time { MadeAgainInTime }
+    ensures once { GivenUpAtOnce }
 {}
 
 /// From a Stop on no attempt begins.

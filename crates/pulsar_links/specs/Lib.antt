@@ -6,3 +6,4 @@ pub mod Kept
 pub mod Seats
 pub mod LinkRules
 pub mod LinkEffects
+pub mod Asks

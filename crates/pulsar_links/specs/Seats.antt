@@ -6,8 +6,6 @@ use Rattle.url.specs.Parts.{Parts}
 use Rattle.pulsar_wire.specs.Sink.{capped}
 use Rattle.pulsar_wire.specs.declared.error.ConnectionError.{ConnectionError}
 use Rattle.pulsar_wire.specs.declared.error.ConnectionError.TheVariants as error
-use Rattle.pulsar_wire.specs.declared.error.IoKind.{IoKind}
-use Rattle.pulsar_wire.specs.declared.error.IoKind.TheVariants.{ConnectionRefused, TimedOut, Other}
 use Rattle.pulsar_addresses.specs.Address.{Place, address_key}
 use Rattle.pulsar_messages.specs.Words.{Words, SendPing}
 use Rattle.pulsar_requests.specs.Waits.{is_empty}
@@ -16,6 +14,7 @@ use Rattle.pulsar_session.specs.declared.states.Asked.TheVariants as asked
 use Rattle.pulsar_wire.specs.Failures.{Fault}
 use Rattle.pulsar_session.specs.Link as session
 use Rattle.pulsar_session.specs.Link.{Asks, Feeds, Seen, came, has_room, is_ready}
+pub use Rattle.pulsar_session.specs.Series.{is_followed, is_passing}
 use Rattle.pulsar_exchange.specs.Request.{is_awaited}
 use Rattle.pulsar_calls.specs.declared.act.Arrival.{Arrival}
 use Rattle.pulsar_calls.specs.declared.act.Arrival.TheVariants as arrivals
@@ -167,11 +166,6 @@ got_at None now l row = row
 got_at (Some k) now l row = if l == k then option_map (seat_got now) row else row
 
 -- an attempt that ended so may go well another time
-abbrev pub is_passing : IoKind → Bool
-is_passing ConnectionRefused = true
-is_passing TimedOut = true
-is_passing Other = false
-
 abbrev pub is_retryable : End → Bool
 is_retryable (Unopened kind) = is_passing kind
 is_retryable Lost = false
@@ -180,11 +174,10 @@ is_retryable (Broken cause) = false
 is_retryable Idles = false
 is_retryable Stops = false
 
--- An attempt is made again where that may help, and fewer retries were made than the options allow: for the one who started the series,
--- behind so many retries.
+-- another attempt is to follow one that failed: for the one who started the series, behind so many retries
 abbrev pub may_retry : (most : ℕ) → End → Series → Option (Who × ℕ)
 may_retry most end Nobody = None
-may_retry most end (Runs starter retries link) = if is_retryable end && nat_lt retries most then Some (starter, retries) else None
+may_retry most end (Runs starter retries link) = if is_followed most retries (is_retryable end) then Some (starter, retries) else None
 may_retry most end (Pauses link) = None
 may_retry most end (Serves link) = None
 

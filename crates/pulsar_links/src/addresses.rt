@@ -7,11 +7,12 @@ ghost use Rattle.pulsar_links.specs.Kept.{addresses_of, base_at, base_of, follow
 ghost use Rattle.pulsar_links.specs.Links.{Becomes};
 ghost use Rattle.pulsar_calls.specs.Notices.{notice};
 ghost use Rattle.pulsar_links.specs.LinkRules.{failed, failed_at, failed_over, failed_so, fails_so, served_by, stopped_at};
-ghost use Rattle.pulsar_links.specs.Seats.{base_dialed, base_over, base_turned, base_waiting, is_for, is_passing, is_retryable, may_retry, nobody, pause_put};
+ghost use Rattle.pulsar_links.specs.Seats.{base_dialed, base_over, base_turned, base_waiting, is_for, is_retryable, may_retry, nobody, pause_put};
 
 use pulsar_addresses::content::Address;
 use pulsar_calls::act::{End, Notice, Outcome, Who};
 use pulsar_calls::who::is_same;
+use pulsar_session::series::{is_followed, is_passing};
 use pulsar_wire::error::{IoKind, NoMemory};
 use std::alloc::Global;
 use std::collections::BTreeMap;
@@ -287,7 +288,7 @@ fn again(series: Series, end: &End, most: u32) -> Option<(Who, u32)>
             starter,
             retries,
             link: _,
-        } if is_retryable(end) && retries < most => Some((starter, retries)),
+        } if is_followed(most, retries, is_retryable(end)) => Some((starter, retries)),
         Series::Nobody | Series::Runs { .. } | Series::Pauses { .. } | Series::Serves { .. } =>
             None,
     }
@@ -301,15 +302,6 @@ fn is_retryable(end: &End) -> bool
         End::Unopened(kind) => is_passing(*kind),
         End::Overdue { .. } => true,
         End::Lost | End::Broken(_) | End::Idles | End::Stops => false,
-    }
-}
-
-fn is_passing(kind: IoKind) -> bool
-    ensures { result ≡ is_passing kind }
-{
-    match kind {
-        IoKind::ConnectionRefused | IoKind::TimedOut => true,
-        IoKind::Other => false,
     }
 }
 

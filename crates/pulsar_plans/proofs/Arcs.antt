@@ -5,7 +5,8 @@ use Rattle.std.specs.Prelude.{◌&&◌, not}
 use Rattle.pulsar_addresses.specs.Address.{Named, Place}
 use Rattle.pulsar_calls.specs.Content.{Said}
 use Rattle.pulsar_calls.specs.declared.act.Action.{Action}
-use Rattle.pulsar_calls.specs.declared.act.Action.TheVariants.{Ask, FailConsumer, FindConsumer, Get, Number, OfTopic, RecallConsumer, Rest, Revive, Shut, StopAll, TakeFlow, TakeNumber, TellAll, Wait}
+use Rattle.pulsar_calls.specs.declared.act.Action.TheVariants.{Ask, Get, Number, OfConsumer, OfTopic, Rest, Shut, StopAll, TakeNumber, TellAll, Wait}
+use Rattle.pulsar_calls.specs.declared.act.ConsumerAsk.TheVariants as consumer_ask
 use Rattle.pulsar_calls.specs.declared.act.Makes.TheVariants.{Nothing}
 use Rattle.pulsar_calls.specs.declared.act.Outcome.{Outcome}
 use Rattle.pulsar_calls.specs.declared.act.Place.TheVariants.{Link}
@@ -25,8 +26,6 @@ use Rattle.pulsar_outgoing.specs.declared.orders.ProducerOrder.{ProducerOrder}
 use Rattle.pulsar_plans.specs.Plan.{action_of, batches_on, begins, is_answer, news_in, news_of, overrides, told, told_to, verdict}
 use Rattle.pulsar_plans.specs.declared.plan.Plan.{Plan}
 use Rattle.pulsar_plans.specs.declared.plan.Plan.TheVariants.{Asking, Awaiting, Batching, Leaving, Producing, Reporting, Serving, Stored, Storing, Subscribing, Visiting}
-use Rattle.pulsar_plans.specs.declared.plan.Turn.{Turn}
-use Rattle.pulsar_plans.specs.declared.plan.Turn.TheVariants.{Gives, Stays}
 use Rattle.pulsar_producer.specs.News.{News}
 use Rattle.pulsar_producer.specs.declared.batching.Batching.{Batching as Batches}
 use Rattle.pulsar_producer.specs.declared.building.BuildingProducer.{BuildingProducer as Build}
@@ -36,7 +35,6 @@ use Rattle.pulsar_searches.specs.declared.making.Command.{Command}
 use Rattle.pulsar_searches.specs.declared.names.Naming.{Naming}
 use Rattle.pulsar_searches.specs.declared.plan.Sought.{Sought}
 use Rattle.pulsar_searches.specs.declared.turn.Action.{Action as Wish}
-use Rattle.pulsar_searches.specs.declared.turn.Turn.{Turn as SearchTurn}
 use Rattle.pulsar_searches.specs.declared.turn.Ways.{Ways}
 use Rattle.pulsar_wire.specs.Failures.{Failure}
 use Rattle.pulsar_frame.specs.Batch.{EntryValues}
@@ -45,11 +43,9 @@ use Rattle.pulsar_messages.specs.Words as words
 use Rattle.pulsar_wire.specs.declared.error.Reason.{Reason}
 use Rattle.pulsar_exchange.specs.Request.{is_answered, request_number}
 use Rattle.pulsar_searches.specs.Plans as search
-use Rattle.pulsar_searches.specs.declared.closing.Step.TheVariants as building_step
 use Rattle.pulsar_searches.specs.declared.plan.Answer.{Answer}
 use Rattle.pulsar_searches.specs.declared.plan.SearchPlan.{SearchPlan as Search}
 use Rattle.pulsar_searches.specs.declared.turn.Action.TheVariants as wish
-use Rattle.pulsar_searches.specs.declared.turn.Turn.TheVariants as search_turn
 use Rattle.pulsar_consumer.specs.Plans as consume
 use Rattle.pulsar_consumer.specs.declared.building.BuildingConsumer.{BuildingConsumer as ConsumerBuild}
 use Rattle.pulsar_consumer.specs.declared.building.BuildingConsumer.TheVariants as consumer_build
@@ -68,7 +64,6 @@ use Rattle.pulsar_producer.specs.declared.batching.Batching.TheVariants as batch
 use Rattle.pulsar_producer.specs.declared.batching.Goes.{Goes}
 use Rattle.pulsar_producer.specs.declared.deed.Deed.TheVariants as deed
 use Rattle.pulsar_outgoing.specs.declared.news.News.TheVariants as news
-use Rattle.pulsar_producer.specs.declared.deed.Step.TheVariants as step
 use Rattle.pulsar_producer.specs.declared.sending.Sending.TheVariants as send
 use Rattle.pulsar_calls.specs.Parts.{failed_with}
 use Rattle.pulsar_calls.specs.declared.act.Outcome.TheVariants as outcome
@@ -92,23 +87,26 @@ use Rattle.pulsar_calls.specs.Content.{Done}
 use Rattle.pulsar_calls.specs.declared.act.Makes.TheVariants.{Client}
 use Rattle.pulsar_consumer.specs.declared.building.Built.{Built as ConsumerBuilt}
 use Rattle.pulsar_producer.specs.declared.building.BuildingProducer.TheVariants as build
+use Rattle.pulsar_searches.specs.declared.transition.Transition.TheVariants.{Stays, Gives}
+use Rattle.pulsar_searches.specs.Transitions.{SearchTransition}
+use Rattle.pulsar_plans.specs.Transitions.{PlanTransition}
 
 -- where a turn stays, the plan and what it does are so
-abbrev pub StaysSo : (Plan → Action → Type 0) → Turn Plan Verdict → Type 0
+abbrev pub StaysSo : (Plan → Action → Type 0) → PlanTransition → Type 0
 StaysSo P (Stays plan action) = P plan action
 StaysSo P (Gives verdict) = Unit {0}
 
 -- and where it ends, so is the verdict
-abbrev pub TurnTo : (Plan → Action → Type 0) → (Verdict → Type 0) → Turn Plan Verdict → Type 0
+abbrev pub TurnTo : (Plan → Action → Type 0) → (Verdict → Type 0) → PlanTransition → Type 0
 TurnTo P E (Stays q a) = P q a
 TurnTo P E (Gives v) = E v
 
-turn_if : (P : Plan → Action → Type 0) (E : Verdict → Type 0) (b : Bool) (t u : Turn Plan Verdict) → (b ≡ true → TurnTo P E t) → (b ≡ false → TurnTo P E u) →
+turn_if : (P : Plan → Action → Type 0) (E : Verdict → Type 0) (b : Bool) (t u : PlanTransition) → (b ≡ true → TurnTo P E t) → (b ≡ false → TurnTo P E u) →
     TurnTo P E (cond b t u)
 turn_if P E true t u p q = p refl
 turn_if P E false t u p q = q refl
 
-turn_by : (P : Turn Plan Verdict → Type 0) (A : Plan → Action → Type 0) (E : Verdict → Type 0) (t : Turn Plan Verdict) →
+turn_by : (P : PlanTransition → Type 0) (A : Plan → Action → Type 0) (E : Verdict → Type 0) (t : PlanTransition) →
     ((q : Plan) (a : Action) → A q a → P (Stays q a)) →
     ((v : Verdict) → E v → P (Gives v)) → TurnTo A E t → P t
 turn_by P A E (Stays q a) f g k = f q a k
@@ -155,9 +153,9 @@ module _ (w : Ways) (e : Errand) where
 
   batch_sent : (ms : List Member) (c : ℕ) (s : Send) (y : News) (x : produce.Sent) → StepSo (SendArc w e s y) x →
       BatchSo (BatchArc w e (batching.Sending ms c s) y) (batches.sends ms c x)
-  batch_sent ms c s y (step.Stays q d) k = batch_sends k
-  batch_sent ms c s y (step.Gives (Ok r)) k = batch_settles (receipt_fate r)
-  batch_sent ms c s y (step.Gives (Err f)) k = batch_settles (failed f)
+  batch_sent ms c s y (Stays q d) k = batch_sends k
+  batch_sent ms c s y (Gives (Ok r)) k = batch_settles (receipt_fate r)
+  batch_sent ms c s y (Gives (Err f)) k = batch_settles (failed f)
 
   batch_arcs : (b : Batches) (y : News) → BatchSo (BatchArc w e b y) (batches.told w e b y)
   batch_arcs batching.Resting y = rests_on y
@@ -182,11 +180,11 @@ pub data Arc : Plan → Outcome → Plan → Action → Type 0 where
   queued_waits : {x : Wanted} → Arc (Asking x) outcome.Queued (Awaiting x) Rest
   stands_on : {x : Wanted} → Arc (Asking x) outcome.InLine (Asking x) Rest
   search_rests : {w : Ways} {s : Search} {u : Outcome} → Arc (Searching w s) u (Searching w s) Rest
-  searches_gets : {w : Ways} {s q : Search} {u : Outcome} {at : Place} → search.told w s (news_in u) ≡ search_turn.Stays q (wish.Get at) →
+  searches_gets : {w : Ways} {s q : Search} {u : Outcome} {at : Place} → search.told w s (news_in u) ≡ Stays q (wish.Get at) →
       Arc (Searching w s) u (Searching w q) (Get at)
-  searches_asks : {w : Ways} {s q : Search} {u : Outcome} {l : ℕ} {request : Words} → search.told w s (news_in u) ≡ search_turn.Stays q (wish.Ask l request) →
+  searches_asks : {w : Ways} {s q : Search} {u : Outcome} {l : ℕ} {request : Words} → search.told w s (news_in u) ≡ Stays q (wish.Ask l request) →
       Arc (Searching w s) u (Searching w q) (Ask l request)
-  searches_waits : {w : Ways} {s q : Search} {u : Outcome} {delay : ℕ} → search.told w s (news_in u) ≡ search_turn.Stays q (wish.Wait delay) →
+  searches_waits : {w : Ways} {s q : Search} {u : Outcome} {delay : ℕ} → search.told w s (news_in u) ≡ Stays q (wish.Wait delay) →
       Arc (Searching w s) u (Searching w q) (Wait delay)
   builds_on : {w : Ways} {o : ProducerOrder} {b q : Build} {u : Outcome} (d : Deed) → BuildArc w o b (news_of u) q d →
       Arc (Producing w o b) u (Producing w o q) (action_of d)
@@ -234,75 +232,76 @@ pub data Arc : Plan → Outcome → Plan → Action → Type 0 where
   subscribing_rests : {w : Ways} {o : ConsumerOrder} {b : ConsumerBuild} {u : Outcome} → consumer_news_of u ≡ None →
       Arc (Subscribing w o b) u (Subscribing w o b) Rest
   subscribes_on_gets : {w : Ways} {o : ConsumerOrder} {b q : ConsumerBuild} {u : Outcome} {y : ConsumerNews} {at : Place} → consumer_news_of u ≡ Some y →
-      consume.build_told w o b y ≡ building_step.Stays q (consumer_deed.Does (wish.Get at)) → Arc (Subscribing w o b) u (Subscribing w o q) (Get at)
+      consume.build_told w o b y ≡ Stays q (consumer_deed.Does (wish.Get at)) → Arc (Subscribing w o b) u (Subscribing w o q) (Get at)
   subscribes_on_asks : {w : Ways} {o : ConsumerOrder} {b q : ConsumerBuild} {u : Outcome} {y : ConsumerNews} {l : ℕ} {request : Words} →
-      consumer_news_of u ≡ Some y → consume.build_told w o b y ≡ building_step.Stays q (consumer_deed.Does (wish.Ask l request)) →
+      consumer_news_of u ≡ Some y → consume.build_told w o b y ≡ Stays q (consumer_deed.Does (wish.Ask l request)) →
       Arc (Subscribing w o b) u (Subscribing w o q) (Ask l request)
   subscribes_on_waits : {w : Ways} {o : ConsumerOrder} {b q : ConsumerBuild} {u : Outcome} {y : ConsumerNews} {delay : ℕ} → consumer_news_of u ≡ Some y →
-      consume.build_told w o b y ≡ building_step.Stays q (consumer_deed.Does (wish.Wait delay)) → Arc (Subscribing w o b) u (Subscribing w o q) (Wait delay)
+      consume.build_told w o b y ≡ Stays q (consumer_deed.Does (wish.Wait delay)) → Arc (Subscribing w o b) u (Subscribing w o q) (Wait delay)
   subscribed_numbers : {w : Ways} {o : ConsumerOrder} {b q : ConsumerBuild} {u : Outcome} {y : ConsumerNews} {number : Option ℕ} → consumer_news_of u ≡ Some y →
-      consume.build_told w o b y ≡ building_step.Stays q (consumer_deed.Numbers number) → Arc (Subscribing w o b) u (Subscribing w o q) (TakeNumber number)
+      consume.build_told w o b y ≡ Stays q (consumer_deed.Numbers number) → Arc (Subscribing w o b) u (Subscribing w o q) (TakeNumber number)
   subscribed_rests : {w : Ways} {o : ConsumerOrder} {b q : ConsumerBuild} {u : Outcome} {y : ConsumerNews} → consumer_news_of u ≡ Some y →
-      consume.build_told w o b y ≡ building_step.Stays q consumer_deed.Rests → Arc (Subscribing w o b) u (Subscribing w o q) Rest
+      consume.build_told w o b y ≡ Stays q consumer_deed.Rests → Arc (Subscribing w o b) u (Subscribing w o q) Rest
   serving_rests : {w : Ways} {n : ℕ} {s : Service} {u : Outcome} → (waits_flow s && is_flow u) ≡ false → Arc (Serving w n s) u (Serving w n s) Rest
-  due_takes : {w : Ways} {n : ℕ} → Arc (Serving w n service.Resting) (outcome.Word word.Due) (Serving w n service.Taking) TakeFlow
-  lost_recalls : {w : Ways} {n : ℕ} → Arc (Serving w n service.Resting) (outcome.Word word.Lost) (Serving w n service.Recalling) RecallConsumer
+  due_takes : {w : Ways} {n : ℕ} → Arc (Serving w n service.Resting) (outcome.Word word.Due) (Serving w n service.Taking) (OfConsumer consumer_ask.TakeFlow)
+  lost_recalls : {w : Ways} {n : ℕ} →
+      Arc (Serving w n service.Resting) (outcome.Word word.Lost) (Serving w n service.Recalling) (OfConsumer consumer_ask.Recall)
   ended_closes : {w : Ways} {n : ℕ} {l : ℕ} →
       Arc (Serving w n service.Resting) (outcome.Word (word.TopicEnded l)) (Serving w n service.Closing) (Ask l (words.CloseConsumerUnawaited n))
   flow_asks : {w : Ways} {n : ℕ} {l permits : ℕ} →
       Arc (Serving w n service.Taking) (outcome.Word (word.Flow l permits)) (Serving w n service.Asking) (Ask l (words.SendFlow n permits))
   no_flow_rests : {w : Ways} {n : ℕ} → Arc (Serving w n service.Taking) (outcome.Word word.NoFlow) (Serving w n service.Resting) Rest
-  flowed_takes : {w : Ways} {n : ℕ} {u : Outcome} → Arc (Serving w n service.Asking) u (Serving w n service.Taking) TakeFlow
-  recalled_resumes_gets : {w : Ways} {n : ℕ} {c : Command} {q : Resuming} {at : Place} → consume.resume_begins w ≡ search_turn.Stays q (wish.Get at) →
+  flowed_takes : {w : Ways} {n : ℕ} {u : Outcome} → Arc (Serving w n service.Asking) u (Serving w n service.Taking) (OfConsumer consumer_ask.TakeFlow)
+  recalled_resumes_gets : {w : Ways} {n : ℕ} {c : Command} {q : Resuming} {at : Place} → consume.resume_begins w ≡ Stays q (wish.Get at) →
       Arc (Serving w n service.Recalling) (outcome.Word (word.Recalled c)) (Serving w n (resubscribing c q)) (Get at)
   recalled_resumes_asks : {w : Ways} {n : ℕ} {c : Command} {q : Resuming} {l : ℕ} {request : Words} →
-      consume.resume_begins w ≡ search_turn.Stays q (wish.Ask l request) →
+      consume.resume_begins w ≡ Stays q (wish.Ask l request) →
       Arc (Serving w n service.Recalling) (outcome.Word (word.Recalled c)) (Serving w n (resubscribing c q)) (Ask l request)
-  recalled_resumes_waits : {w : Ways} {n : ℕ} {c : Command} {q : Resuming} {delay : ℕ} → consume.resume_begins w ≡ search_turn.Stays q (wish.Wait delay) →
+  recalled_resumes_waits : {w : Ways} {n : ℕ} {c : Command} {q : Resuming} {delay : ℕ} → consume.resume_begins w ≡ Stays q (wish.Wait delay) →
       Arc (Serving w n service.Recalling) (outcome.Word (word.Recalled c)) (Serving w n (resubscribing c q)) (Wait delay)
   recalled_revives : {w : Ways} {n : ℕ} {c : Command} {l : ℕ} →
-      Arc (Serving w n service.Recalling) (outcome.Word (word.Recalled c)) (Serving w n (service.Reviving l)) (Revive l)
+      Arc (Serving w n service.Recalling) (outcome.Word (word.Recalled c)) (Serving w n (service.Reviving l)) (OfConsumer (consumer_ask.Revive l))
   recalled_fails : {w : Ways} {n : ℕ} {c : Command} {f : Failure} →
-      Arc (Serving w n service.Recalling) (outcome.Word (word.Recalled c)) (Serving w n service.Failing) (FailConsumer f)
+      Arc (Serving w n service.Recalling) (outcome.Word (word.Recalled c)) (Serving w n service.Failing) (OfConsumer (consumer_ask.Fail f))
   resumes_on_gets : {w : Ways} {n : ℕ} {s : Resubscribing} {u : Outcome} {q : Resuming} {at : Place} →
-      consume.resume_told w s.command s.resuming (news_in u) ≡ search_turn.Stays q (wish.Get at) →
+      consume.resume_told w s.command s.resuming (news_in u) ≡ Stays q (wish.Get at) →
       Arc (Serving w n (service.Resuming s)) u (Serving w n (resubscribing s.command q)) (Get at)
   resumes_on_asks : {w : Ways} {n : ℕ} {s : Resubscribing} {u : Outcome} {q : Resuming} {l : ℕ} {request : Words} →
-      consume.resume_told w s.command s.resuming (news_in u) ≡ search_turn.Stays q (wish.Ask l request) →
+      consume.resume_told w s.command s.resuming (news_in u) ≡ Stays q (wish.Ask l request) →
       Arc (Serving w n (service.Resuming s)) u (Serving w n (resubscribing s.command q)) (Ask l request)
   resumes_on_waits : {w : Ways} {n : ℕ} {s : Resubscribing} {u : Outcome} {q : Resuming} {delay : ℕ} →
-      consume.resume_told w s.command s.resuming (news_in u) ≡ search_turn.Stays q (wish.Wait delay) →
+      consume.resume_told w s.command s.resuming (news_in u) ≡ Stays q (wish.Wait delay) →
       Arc (Serving w n (service.Resuming s)) u (Serving w n (resubscribing s.command q)) (Wait delay)
   resumed_revives : {w : Ways} {n : ℕ} {s : Resubscribing} {u : Outcome} {l : ℕ} →
-      Arc (Serving w n (service.Resuming s)) u (Serving w n (service.Reviving l)) (Revive l)
+      Arc (Serving w n (service.Resuming s)) u (Serving w n (service.Reviving l)) (OfConsumer (consumer_ask.Revive l))
   resumed_fails : {w : Ways} {n : ℕ} {s : Resubscribing} {u : Outcome} {f : Failure} →
-      Arc (Serving w n (service.Resuming s)) u (Serving w n service.Failing) (FailConsumer f)
+      Arc (Serving w n (service.Resuming s)) u (Serving w n service.Failing) (OfConsumer (consumer_ask.Fail f))
   lives_rests : {w : Ways} {n : ℕ} {l : ℕ} → Arc (Serving w n (service.Reviving l)) (outcome.Word word.Lives) (Serving w n service.Resting) Rest
   over_closes : {w : Ways} {n : ℕ} {l : ℕ} →
       Arc (Serving w n (service.Reviving l)) (outcome.Word word.Over) (Serving w n service.Closing) (Ask l (words.CloseConsumerUnawaited n))
   departs_asks : {t n l : ℕ} → Arc (Departing t n) (outcome.GotLink l) (Asking (wanted l (words.CloseConsumer n) says.Nothing)) (Ask l (words.CloseConsumer n))
-  departs_again : {t n : ℕ} → Arc (Departing t n) (outcome.Word word.Again) (Departing t n) (FindConsumer t)
+  departs_again : {t n : ℕ} → Arc (Departing t n) (outcome.Word word.Again) (Departing t n) (OfConsumer (consumer_ask.Find t))
 
-searches : {w : Ways} {s q : Search} {u : Outcome} (a : Wish) → search.told w s (news_in u) ≡ search_turn.Stays q a →
+searches : {w : Ways} {s q : Search} {u : Outcome} (a : Wish) → search.told w s (news_in u) ≡ Stays q a →
     Arc (Searching w s) u (Searching w q) (wished a)
 searches (wish.Get at) e = searches_gets e
 searches (wish.Ask l request) e = searches_asks e
 searches (wish.Wait delay) e = searches_waits e
 
 subscribes_on : {w : Ways} {o : ConsumerOrder} {b q : ConsumerBuild} {u : Outcome} {y : ConsumerNews} (a : Wish) → consumer_news_of u ≡ Some y →
-    consume.build_told w o b y ≡ building_step.Stays q (consumer_deed.Does a) → Arc (Subscribing w o b) u (Subscribing w o q) (wished a)
+    consume.build_told w o b y ≡ Stays q (consumer_deed.Does a) → Arc (Subscribing w o b) u (Subscribing w o q) (wished a)
 subscribes_on (wish.Get at) i e = subscribes_on_gets i e
 subscribes_on (wish.Ask l request) i e = subscribes_on_asks i e
 subscribes_on (wish.Wait delay) i e = subscribes_on_waits i e
 
-recalled_resumes : {w : Ways} {n : ℕ} {c : Command} {q : Resuming} (a : Wish) → consume.resume_begins w ≡ search_turn.Stays q a →
+recalled_resumes : {w : Ways} {n : ℕ} {c : Command} {q : Resuming} (a : Wish) → consume.resume_begins w ≡ Stays q a →
     Arc (Serving w n service.Recalling) (outcome.Word (word.Recalled c)) (Serving w n (resubscribing c q)) (wished a)
 recalled_resumes (wish.Get at) e = recalled_resumes_gets e
 recalled_resumes (wish.Ask l request) e = recalled_resumes_asks e
 recalled_resumes (wish.Wait delay) e = recalled_resumes_waits e
 
 resumes_on : {w : Ways} {n : ℕ} {s : Resubscribing} {u : Outcome} {q : Resuming} (a : Wish) →
-    consume.resume_told w s.command s.resuming (news_in u) ≡ search_turn.Stays q a →
+    consume.resume_told w s.command s.resuming (news_in u) ≡ Stays q a →
     Arc (Serving w n (service.Resuming s)) u (Serving w n (resubscribing s.command q)) (wished a)
 resumes_on (wish.Get at) e = resumes_on_gets e
 resumes_on (wish.Ask l request) e = resumes_on_asks e
@@ -321,36 +320,36 @@ pub data End : Plan → Outcome → Verdict → Type 0 where
   produced : {w : Ways} {o : ProducerOrder} {b : Build} {u : Outcome} {parts : List Built} → BuildEnd b (news_of u) (Ok parts) →
       End (Producing w o b) u (verdict (built_of o parts) Done)
   subscribed : {w : Ways} {o : ConsumerOrder} {b : ConsumerBuild} {u : Outcome} {y : ConsumerNews} (x : ConsumerBuilt) → consumer_news_of u ≡ Some y →
-      consume.build_told w o b y ≡ building_step.Gives (Ok x) → End (Subscribing w o b) u (verdict (consumer_of o x) Done)
+      consume.build_told w o b y ≡ Gives (Ok x) → End (Subscribing w o b) u (verdict (consumer_of o x) Done)
 
-abbrev pub ToldTo : Plan → Outcome → Turn Plan Verdict → Type 0
+abbrev pub ToldTo : Plan → Outcome → PlanTransition → Type 0
 ToldTo p u = TurnTo (Arc p u) (End p u)
 
-told_if : (p : Plan) (u : Outcome) (b : Bool) (t v : Turn Plan Verdict) → (b ≡ true → ToldTo p u t) → (b ≡ false → ToldTo p u v) → ToldTo p u (cond b t v)
+told_if : (p : Plan) (u : Outcome) (b : Bool) (t v : PlanTransition) → (b ≡ true → ToldTo p u t) → (b ≡ false → ToldTo p u v) → ToldTo p u (cond b t v)
 told_if p u = turn_if (Arc p u) (End p u)
 
 -- BUILDINGS AND SENDS
 
-goes_arcs : (w : Ways) (s : Search) (u : Outcome) (t : SearchTurn Search (Result Answer Failure)) → search.told w s (news_in u) ≡ t →
+goes_arcs : (w : Ways) (s : Search) (u : Outcome) (t : SearchTransition Search (Result Answer Failure)) → search.told w s (news_in u) ≡ t →
     ToldTo (Searching w s) u (goes w t)
-goes_arcs w s u (search_turn.Stays q x) e = searches x e
-goes_arcs w s u (search_turn.Gives a) e = ends _ refl
+goes_arcs w s u (Stays q x) e = searches x e
+goes_arcs w s u (Gives a) e = ends _ refl
 
 building : (w : Ways) (o : ProducerOrder) (b : Build) (u : Outcome) (x : produce.Builds) → BuildTo w o b (news_of u) x →
     ToldTo (Producing w o b) u (builds w o x)
-building w o b u (step.Stays q d) k = builds_on d k
-building w o b u (step.Gives (Ok parts)) k = produced k
-building w o b u (step.Gives (Err f)) k = ends _ refl
+building w o b u (Stays q d) k = builds_on d k
+building w o b u (Gives (Ok parts)) k = produced k
+building w o b u (Gives (Err f)) k = ends _ refl
 
 module _ (w : Ways) (e : Errand) (s : Send) (u : Outcome) where
   sending : (share : Option Share) (x : produce.Sent) → StepSo (SendArc w e s (news_of u)) x →
       ToldTo (Sending w e share s) u (goes_on_sending w e share x)
-  sending None (step.Stays q d) k = sends d k
-  sending (Some h) (step.Stays q d) k =
+  sending None (Stays q d) k = sends d k
+  sending (Some h) (Stays q d) k =
       told_if (Sending w e (Some h) s) u (is_sent_send q) _ _ (λ b. part_tells q d k b) (λ b. part_sends d k b)
-  sending share (step.Gives (Ok r)) k = ends _ refl
-  sending None (step.Gives (Err f)) k = ends _ refl
-  sending (Some h) (step.Gives (Err f)) k = part_fails
+  sending share (Gives (Ok r)) k = ends _ refl
+  sending None (Gives (Err f)) k = ends _ refl
+  sending (Some h) (Gives (Err f)) k = part_fails
 
   halting : (share : Option Share) → overrides u ≡ true → ToldTo (Sending w e share s) u (halted share u)
   halting None b = ends _ refl
@@ -407,11 +406,11 @@ visiting r n left at.Awaiting _ = ends _ refl
 module _ (w : Ways) (o : ConsumerOrder) (b : ConsumerBuild) (u : Outcome) where
   subscribing : (y : ConsumerNews) (x : consume.Builds) → consumer_news_of u ≡ Some y → consume.build_told w o b y ≡ x →
       ToldTo (Subscribing w o b) u (subscribes w o x)
-  subscribing y (building_step.Stays q (consumer_deed.Does x)) i e = subscribes_on x i e
-  subscribing y (building_step.Stays q (consumer_deed.Numbers n)) i e = subscribed_numbers i e
-  subscribing y (building_step.Stays q consumer_deed.Rests) i e = subscribed_rests i e
-  subscribing y (building_step.Gives (Ok x)) i e = subscribed x i e
-  subscribing y (building_step.Gives (Err f)) i e = ends _ refl
+  subscribing y (Stays q (consumer_deed.Does x)) i e = subscribes_on x i e
+  subscribing y (Stays q (consumer_deed.Numbers n)) i e = subscribed_numbers i e
+  subscribing y (Stays q consumer_deed.Rests) i e = subscribed_rests i e
+  subscribing y (Gives (Ok x)) i e = subscribed x i e
+  subscribing y (Gives (Err f)) i e = ends _ refl
 
   subscribing_news : (n : Option ConsumerNews) → consumer_news_of u ≡ n → ToldTo (Subscribing w o b) u (in_subscribing w o b n)
   subscribing_news None i = subscribing_rests i
@@ -419,15 +418,15 @@ module _ (w : Ways) (o : ConsumerOrder) (b : ConsumerBuild) (u : Outcome) where
 
 recalling : (w : Ways) (n : ℕ) (c : Command) (x : consume.Resumes) → consume.resume_begins w ≡ x →
     ToldTo (Serving w n service.Recalling) (outcome.Word (word.Recalled c)) (resubscribes w n c x)
-recalling w n c (search_turn.Stays q x) e = recalled_resumes x e
-recalling w n c (search_turn.Gives (Ok l)) e = recalled_revives
-recalling w n c (search_turn.Gives (Err f)) e = recalled_fails
+recalling w n c (Stays q x) e = recalled_resumes x e
+recalling w n c (Gives (Ok l)) e = recalled_revives
+recalling w n c (Gives (Err f)) e = recalled_fails
 
 resuming : (w : Ways) (n : ℕ) (s : Resubscribing) (u : Outcome) (x : consume.Resumes) → consume.resume_told w s.command s.resuming (news_in u) ≡ x →
     ToldTo (Serving w n (service.Resuming s)) u (resubscribes w n s.command x)
-resuming w n s u (search_turn.Stays q x) e = resumes_on x e
-resuming w n s u (search_turn.Gives (Ok l)) e = resumed_revives
-resuming w n s u (search_turn.Gives (Err f)) e = resumed_fails
+resuming w n s u (Stays q x) e = resumes_on x e
+resuming w n s u (Gives (Ok l)) e = resumed_revives
+resuming w n s u (Gives (Err f)) e = resumed_fails
 
 serving : (w : Ways) (n : ℕ) (s : Service) (u : Outcome) → ToldTo (Serving w n s) u (told_service w n s u)
 serving w n service.Resting (outcome.Word word.Due) = due_takes
@@ -500,7 +499,7 @@ told_arcs (Departing t n) (outcome.Word _) = ends _ refl
 told_arcs Stopping outcome.Stopped = ends _ refl
 told_arcs _ _ = ends _ refl
 
-pub by_arcs : (P : Turn Plan Verdict → Type 0) (p : Plan) (u : Outcome) → ((q : Plan) (a : Action) → Arc p u q a → P (Stays q a)) →
+pub by_arcs : (P : PlanTransition → Type 0) (p : Plan) (u : Outcome) → ((q : Plan) (a : Action) → Arc p u q a → P (Stays q a)) →
     ((v : Verdict) → End p u v → P (Gives v)) → P (told p u)
 by_arcs P p u f g = turn_by P (Arc p u) (End p u) (told p u) f g (told_arcs p u)
 
@@ -521,17 +520,17 @@ pub data Begun : Procedure → Plan → Action → Type 0 where
   begins_stop : Begun procedure.Stop Stopping StopAll
   begins_getting : {place : Place} {request : Words} {s : Says} → Begun (procedure.Ask (At place) request s) (Getting request s) (Get place)
   begins_asking : {l : ℕ} {request : Words} {s : Says} → Begun (procedure.Ask (Link l) request s) (Asking (wanted l request s)) (Ask l request)
-  begins_search_gets : {w : Ways} {what : Sought} {q : Search} {at : Place} → search.begins w what ≡ search_turn.Stays q (wish.Get at) →
+  begins_search_gets : {w : Ways} {what : Sought} {q : Search} {at : Place} → search.begins w what ≡ Stays q (wish.Get at) →
       Begun (procedure.Search w what) (Searching w q) (Get at)
-  begins_search_asks : {w : Ways} {what : Sought} {q : Search} {l : ℕ} {request : Words} → search.begins w what ≡ search_turn.Stays q (wish.Ask l request) →
+  begins_search_asks : {w : Ways} {what : Sought} {q : Search} {l : ℕ} {request : Words} → search.begins w what ≡ Stays q (wish.Ask l request) →
       Begun (procedure.Search w what) (Searching w q) (Ask l request)
-  begins_search_waits : {w : Ways} {what : Sought} {q : Search} {delay : ℕ} → search.begins w what ≡ search_turn.Stays q (wish.Wait delay) →
+  begins_search_waits : {w : Ways} {what : Sought} {q : Search} {delay : ℕ} → search.begins w what ≡ Stays q (wish.Wait delay) →
       Begun (procedure.Search w what) (Searching w q) (Wait delay)
-  begins_produce_gets : {w : Ways} {o : ProducerOrder} {k : Naming} {at : Place} → search.names_begins w o.topic ≡ search_turn.Stays k (wish.Get at) →
+  begins_produce_gets : {w : Ways} {o : ProducerOrder} {k : Naming} {at : Place} → search.names_begins w o.topic ≡ Stays k (wish.Get at) →
       Begun (procedure.Produce w o) (Producing w o (build.Naming k)) (Get at)
   begins_produce_asks : {w : Ways} {o : ProducerOrder} {k : Naming} {l : ℕ} {request : Words} →
-      search.names_begins w o.topic ≡ search_turn.Stays k (wish.Ask l request) → Begun (procedure.Produce w o) (Producing w o (build.Naming k)) (Ask l request)
-  begins_produce_waits : {w : Ways} {o : ProducerOrder} {k : Naming} {delay : ℕ} → search.names_begins w o.topic ≡ search_turn.Stays k (wish.Wait delay) →
+      search.names_begins w o.topic ≡ Stays k (wish.Ask l request) → Begun (procedure.Produce w o) (Producing w o (build.Naming k)) (Ask l request)
+  begins_produce_waits : {w : Ways} {o : ProducerOrder} {k : Naming} {delay : ℕ} → search.names_begins w o.topic ≡ Stays k (wish.Wait delay) →
       Begun (procedure.Produce w o) (Producing w o (build.Naming k)) (Wait delay)
   begins_numbers : {w : Ways} {o : ProducerOrder} (m : Named) (left : List Named) →
       Begun (procedure.Produce w o) (Producing w o (build.Numbering (record { topic = m.name; place = m.place; left = left; made = [] }))) Number
@@ -544,32 +543,32 @@ pub data Begun : Procedure → Plan → Action → Type 0 where
   begins_checks : {n : ℕ} {left : List ℕ} → Begun (procedure.Go Checks (n ∷ left)) (Visiting Checks n left at.Turning) (OfTopic n TakeTurn)
   begins_visits : {r : Round} {n : ℕ} {left : List ℕ} → Begun (procedure.Go r (n ∷ left)) (Visiting r n left at.Settling) (OfTopic n Flush)
   begins_close : {t : ℕ} {ns : List ℕ} → Begun (procedure.Close t ns) (Shutting ns) (Shut t)
-  begins_subscribe_gets : {w : Ways} {o : ConsumerOrder} {k : Naming} {at : Place} → search.names_begins w o.topic ≡ search_turn.Stays k (wish.Get at) →
+  begins_subscribe_gets : {w : Ways} {o : ConsumerOrder} {k : Naming} {at : Place} → search.names_begins w o.topic ≡ Stays k (wish.Get at) →
       Begun (procedure.Subscribe w o) (Subscribing w o (consumer_build.Naming k)) (Get at)
   begins_subscribe_asks : {w : Ways} {o : ConsumerOrder} {k : Naming} {l : ℕ} {request : Words} →
-      search.names_begins w o.topic ≡ search_turn.Stays k (wish.Ask l request) →
+      search.names_begins w o.topic ≡ Stays k (wish.Ask l request) →
       Begun (procedure.Subscribe w o) (Subscribing w o (consumer_build.Naming k)) (Ask l request)
-  begins_subscribe_waits : {w : Ways} {o : ConsumerOrder} {k : Naming} {delay : ℕ} → search.names_begins w o.topic ≡ search_turn.Stays k (wish.Wait delay) →
+  begins_subscribe_waits : {w : Ways} {o : ConsumerOrder} {k : Naming} {delay : ℕ} → search.names_begins w o.topic ≡ Stays k (wish.Wait delay) →
       Begun (procedure.Subscribe w o) (Subscribing w o (consumer_build.Naming k)) (Wait delay)
   begins_numbered : {w : Ways} {o : ConsumerOrder} (n : Named) →
       Begun (procedure.Subscribe w o) (Subscribing w o (consumer_build.Numbering n.name n.place)) (TakeNumber o.config.consumer_id)
   begins_serve : {w : Ways} {n : ℕ} → Begun (procedure.Serve w n) (Serving w n service.Resting) Rest
   begins_acknowledge : {l : ℕ} {request : Words} → Begun (procedure.Acknowledge (Some l) request) Acknowledging (Ask l request)
-  begins_leave : {t n : ℕ} → Begun (procedure.Leave t n) (Departing t n) (FindConsumer t)
+  begins_leave : {t n : ℕ} → Begun (procedure.Leave t n) (Departing t n) (OfConsumer (consumer_ask.Find t))
 
-begins_search : {w : Ways} {what : Sought} {q : Search} (a : Wish) → search.begins w what ≡ search_turn.Stays q a →
+begins_search : {w : Ways} {what : Sought} {q : Search} (a : Wish) → search.begins w what ≡ Stays q a →
     Begun (procedure.Search w what) (Searching w q) (wished a)
 begins_search (wish.Get at) e = begins_search_gets e
 begins_search (wish.Ask l request) e = begins_search_asks e
 begins_search (wish.Wait delay) e = begins_search_waits e
 
-begins_produce : {w : Ways} {o : ProducerOrder} {k : Naming} (a : Wish) → search.names_begins w o.topic ≡ search_turn.Stays k a →
+begins_produce : {w : Ways} {o : ProducerOrder} {k : Naming} (a : Wish) → search.names_begins w o.topic ≡ Stays k a →
     Begun (procedure.Produce w o) (Producing w o (build.Naming k)) (wished a)
 begins_produce (wish.Get at) e = begins_produce_gets e
 begins_produce (wish.Ask l request) e = begins_produce_asks e
 begins_produce (wish.Wait delay) e = begins_produce_waits e
 
-begins_subscribe : {w : Ways} {o : ConsumerOrder} {k : Naming} (a : Wish) → search.names_begins w o.topic ≡ search_turn.Stays k a →
+begins_subscribe : {w : Ways} {o : ConsumerOrder} {k : Naming} (a : Wish) → search.names_begins w o.topic ≡ Stays k a →
     Begun (procedure.Subscribe w o) (Subscribing w o (consumer_build.Naming k)) (wished a)
 begins_subscribe (wish.Get at) e = begins_subscribe_gets e
 begins_subscribe (wish.Ask l request) e = begins_subscribe_asks e
@@ -579,33 +578,33 @@ pub data BegunEnd : Procedure → Verdict → Type 0 where
   begins_not : {p : Procedure} (x : Said) → BegunEnd p (verdict Nothing x)
   begins_none : {w : Ways} {o : ProducerOrder} → BegunEnd (procedure.Produce w o) (verdict (built_of o []) Done)
 
-abbrev BegunTo : Procedure → Turn Plan Verdict → Type 0
+abbrev BegunTo : Procedure → PlanTransition → Type 0
 BegunTo p = TurnTo (Begun p) (BegunEnd p)
 
-begun_search : (w : Ways) (what : Sought) (t : SearchTurn Search (Result Answer Failure)) → search.begins w what ≡ t →
+begun_search : (w : Ways) (what : Sought) (t : SearchTransition Search (Result Answer Failure)) → search.begins w what ≡ t →
     BegunTo (procedure.Search w what) (goes w t)
-begun_search w what (search_turn.Stays q x) e = begins_search x e
-begun_search w what (search_turn.Gives a) e = begins_not _
+begun_search w what (Stays q x) e = begins_search x e
+begun_search w what (Gives a) e = begins_not _
 
 begun_names : (w : Ways) (o : ProducerOrder) (names : List Named) → BegunTo (procedure.Produce w o) (builds w o (produce.build_next deed.Numbers names []))
 begun_names w o [] = begins_none
 begun_names w o (n ∷ names) = begins_numbers n names
 
-begun_building : (w : Ways) (o : ProducerOrder) (t : SearchTurn Naming (Result (List Named) Failure)) → search.names_begins w o.topic ≡ t →
+begun_building : (w : Ways) (o : ProducerOrder) (t : SearchTransition Naming (Result (List Named) Failure)) → search.names_begins w o.topic ≡ t →
     BegunTo (procedure.Produce w o) (builds w o (produce.build_names t))
-begun_building w o (search_turn.Stays q x) e = begins_produce x e
-begun_building w o (search_turn.Gives (Ok names)) e = begun_names w o names
-begun_building w o (search_turn.Gives (Err f)) e = begins_not _
+begun_building w o (Stays q x) e = begins_produce x e
+begun_building w o (Gives (Ok names)) e = begun_names w o names
+begun_building w o (Gives (Err f)) e = begins_not _
 
 begun_numbering : (w : Ways) (o : ConsumerOrder) (n : Option Named) → BegunTo (procedure.Subscribe w o) (subscribes w o (consume.build_numbers o n))
 begun_numbering w o None = begins_not _
 begun_numbering w o (Some n) = begins_numbered n
 
-begun_subscribing : (w : Ways) (o : ConsumerOrder) (t : SearchTurn Naming (Result (List Named) Failure)) → search.names_begins w o.topic ≡ t →
+begun_subscribing : (w : Ways) (o : ConsumerOrder) (t : SearchTransition Naming (Result (List Named) Failure)) → search.names_begins w o.topic ≡ t →
     BegunTo (procedure.Subscribe w o) (subscribes w o (consume.build_names o t))
-begun_subscribing w o (search_turn.Stays q x) e = begins_subscribe x e
-begun_subscribing w o (search_turn.Gives (Ok names)) e = begun_numbering w o (consume.only names)
-begun_subscribing w o (search_turn.Gives (Err f)) e = begins_not _
+begun_subscribing w o (Stays q x) e = begins_subscribe x e
+begun_subscribing w o (Gives (Ok names)) e = begun_numbering w o (consume.only names)
+begun_subscribing w o (Gives (Err f)) e = begins_not _
 
 pub begins_arcs : (p : Procedure) → BegunTo p (begins p)
 begins_arcs (procedure.Build base) = begins_build
@@ -633,7 +632,7 @@ begins_arcs (procedure.Acknowledge (Some l) request) = begins_acknowledge
 begins_arcs (procedure.Leave t n) = begins_leave
 begins_arcs (procedure.Refuse r) = begins_not _
 
-pub by_begun : (P : Turn Plan Verdict → Type 0) (p : Procedure) → ((q : Plan) (a : Action) → Begun p q a → P (Stays q a)) →
+pub by_begun : (P : PlanTransition → Type 0) (p : Procedure) → ((q : Plan) (a : Action) → Begun p q a → P (Stays q a)) →
     ((v : Verdict) → BegunEnd p v → P (Gives v)) → P (begins p)
 by_begun P p f g = turn_by P (Begun p) (BegunEnd p) (begins p) f g (begins_arcs p)
 

@@ -1,2 +1,3 @@
+pub mod Transitions
 pub mod Plan
 pub mod Standing

@@ -6,14 +6,15 @@ use Rattle.std.specs.Option.{option_to_list}
 use Rattle.pulsar_wire.specs.declared.error.IoKind.TheVariants as io_kind
 use Rattle.pulsar_messages.specs.Words.{Words}
 use Rattle.pulsar_messages.specs.Words as words
-use Rattle.pulsar_wire.specs.Failures.{Failure, Fault, Io, Disconnected, Encoding, Canceled, Shutdown, OfConnection, OfProducer, NotFound, Custom, OfConsumer, ConsumerClosed, ProducerClosed, ProducerCustom}
+use Rattle.pulsar_wire.specs.Failures.{Failure, Fault, Io, Disconnected, Encoding, Canceled, Shutdown, OfConnection, OfProducer, NotFound, Custom, OfConsumer as ConsumerFault, ConsumerClosed, ProducerClosed, ProducerCustom}
 use Rattle.pulsar_frame.specs.Reply as session
 use Rattle.pulsar_exchange.specs.Messages.{Reply, Written, is_body}
 use Rattle.pulsar_exchange.specs.Refusals.{refused}
 use Rattle.pulsar_exchange.specs.Request.{Subscribed, answer_of, is_answered, request_number, subscribed}
 use Rattle.pulsar_calls.specs.declared.act.Action.{Action}
-use Rattle.pulsar_calls.specs.declared.act.Action.TheVariants.{OfTopic, Get, Ask, Wait, Number, Hold, Shut, TakeNumber, FindConsumer, TakeFlow, RecallConsumer, Revive, FailConsumer, Tell, TellAll, StopAll, Rest}
+use Rattle.pulsar_calls.specs.declared.act.Action.TheVariants.{OfTopic, Get, Ask, Wait, Number, Hold, Shut, TakeNumber, OfConsumer, Tell, TellAll, StopAll, Rest}
 use Rattle.pulsar_calls.specs.declared.act.TopicAsk.TheVariants.{TakeTurn, PassTurn, Draw, Recall, Remake, Find, Store, Flush, TakeBatch}
+use Rattle.pulsar_calls.specs.declared.act.ConsumerAsk.TheVariants as consumer_ask
 use Rattle.pulsar_calls.specs.declared.act.Makes.{Makes}
 use Rattle.pulsar_calls.specs.declared.act.Makes.TheVariants.{Nothing, Client, Consumer, RawConsumer, Producer}
 use Rattle.pulsar_calls.specs.declared.act.Round.{Round}
@@ -41,8 +42,6 @@ use Rattle.pulsar_plans.specs.declared.plan.Plan.TheVariants.{Building, Getting,
 use Rattle.pulsar_plans.specs.declared.service.Service.{Service}
 use Rattle.pulsar_plans.specs.declared.service.Service.TheVariants as service
 use Rattle.pulsar_plans.specs.declared.states.Resubscribing.{Resubscribing}
-use Rattle.pulsar_plans.specs.declared.plan.Turn.{Turn}
-use Rattle.pulsar_plans.specs.declared.plan.Turn.TheVariants.{Stays, Gives}
 use Rattle.pulsar_plans.specs.declared.plan.Wanted.{Wanted}
 use Rattle.pulsar_consumer.specs.Plans as consume
 use Rattle.pulsar_consumer.specs.declared.building.BuildingConsumer.{BuildingConsumer as ConsumerBuild}
@@ -54,7 +53,6 @@ use Rattle.pulsar_consumer.specs.declared.building.News.TheVariants as consumer_
 use Rattle.pulsar_incoming.specs.declared.orders.ConsumerOrder.{ConsumerOrder}
 use Rattle.pulsar_searches.specs.Plans as search
 use Rattle.pulsar_consumer.specs.declared.resuming.Resuming.{Resuming}
-use Rattle.pulsar_searches.specs.declared.closing.Step.TheVariants as building_step
 use Rattle.pulsar_searches.specs.declared.making.Command.{Command}
 use Rattle.pulsar_searches.specs.declared.plan.Answer.{Answer}
 use Rattle.pulsar_searches.specs.declared.plan.Answer.TheVariants as answer
@@ -63,8 +61,6 @@ use Rattle.pulsar_searches.specs.declared.turn.Action.{Action as Wish}
 use Rattle.pulsar_searches.specs.declared.turn.Action.TheVariants as wish
 use Rattle.pulsar_searches.specs.declared.turn.SearchOutcome.{SearchOutcome as News}
 use Rattle.pulsar_searches.specs.declared.turn.SearchOutcome.TheVariants as news
-use Rattle.pulsar_searches.specs.declared.turn.Turn.{Turn as SearchTurn}
-use Rattle.pulsar_searches.specs.declared.turn.Turn.TheVariants as search_turn
 use Rattle.pulsar_searches.specs.declared.turn.Ways.{Ways}
 use Rattle.pulsar_outgoing.specs.Errors.{in_producer}
 use Rattle.pulsar_wire.specs.declared.error.Reason.TheVariants as reason
@@ -86,14 +82,16 @@ use Rattle.pulsar_producer.specs.declared.deed.Deed.{Deed}
 use Rattle.pulsar_producer.specs.declared.deed.Deed.TheVariants as deed
 use Rattle.pulsar_producer.specs.News.{News as Granting}
 use Rattle.pulsar_outgoing.specs.declared.news.News.TheVariants as granting
-use Rattle.pulsar_producer.specs.declared.deed.Step.{Step}
-use Rattle.pulsar_producer.specs.declared.deed.Step.TheVariants as step
 use Rattle.pulsar_outgoing.specs.declared.orders.Errand.{Errand}
 use Rattle.pulsar_producer.specs.declared.sending.Sending.{Sending as Send}
 use Rattle.pulsar_producer.specs.declared.sending.Sending.TheVariants as send
 use Rattle.pulsar_calls.specs.Content as content
 use Rattle.pulsar_calls.specs.Content.{Said, Done, Names, Receipt, Replies, Failed}
 use Rattle.pulsar_calls.specs.Parts.{failed_with, sent_from}
+use Rattle.pulsar_searches.specs.declared.transition.Transition.TheVariants.{Stays, Gives}
+use Rattle.pulsar_searches.specs.Transitions.{SearchTransition}
+use Rattle.pulsar_producer.specs.Transitions.{ProducerTransition}
+use Rattle.pulsar_plans.specs.Transitions.{PlanTransition}
 
 -- WHAT A REPLY SAYS
 
@@ -152,7 +150,7 @@ failure_of refusal.NumberInUse = OfProducer (ProducerCustom (codes "number in us
 failure_of refusal.TooLarge = in_producer (Encoding reason.Batch)
 failure_of refusal.NoTopics = Custom (codes "Cannot create consumer with no topics and no topic prefix")
 failure_of refusal.ManyTopics = consume.not_found
-failure_of refusal.ConsumerClosed = OfConsumer ConsumerClosed
+failure_of refusal.ConsumerClosed = ConsumerFault ConsumerClosed
 failure_of refusal.ConsumerInUse = consume.in_use
 
 -- Why a plan fails at an outcome. An outcome that it doesn't wait for counts as the loss of what it waits for.
@@ -189,15 +187,15 @@ makes link request = makes_of link (subscribed request)
 abbrev pub wanted : (link : ℕ) → Words → Says → Wanted
 wanted link request s = record { number = request_number request; says = s; makes = makes link request }
 
-abbrev pub asks : (link : ℕ) → Words → Says → Turn Plan Verdict
+abbrev pub asks : (link : ℕ) → Words → Says → PlanTransition
 asks link request s = Stays (Asking (wanted link request s)) (Ask link request)
 
 -- its frame is queued: its reply is waited for, where it has one
-abbrev pub waits : Wanted → Turn Plan Verdict
+abbrev pub waits : Wanted → PlanTransition
 waits w = if is_answered w.number then Stays (Awaiting w) Rest else Gives (verdict Nothing Done)
 
 -- its frame stands in the line: that it is queued is waited for, where it has a reply
-abbrev pub stands : Wanted → Turn Plan Verdict
+abbrev pub stands : Wanted → PlanTransition
 stands w = if is_answered w.number then Stays (Asking w) Rest else Gives (verdict Nothing Done)
 
 abbrev pub replied : Wanted → Reply → Verdict
@@ -229,9 +227,9 @@ abbrev pub found_so : Result Answer Failure → Said
 found_so (Ok a) = found a
 found_so (Err f) = Failed f
 
-abbrev pub goes : Ways → SearchTurn Search (Result Answer Failure) → Turn Plan Verdict
-goes w (search_turn.Stays s action) = Stays (Searching w s) (wished action)
-goes w (search_turn.Gives a) = Gives (verdict Nothing (found_so a))
+abbrev pub goes : Ways → SearchTransition Search (Result Answer Failure) → PlanTransition
+goes w (Stays s action) = Stays (Searching w s) (wished action)
+goes w (Gives a) = Gives (verdict Nothing (found_so a))
 
 -- PRODUCERS. Their plans are machines of pulsar_producer, along the same outcomes. What they do at a topic producer is told at once.
 
@@ -268,7 +266,7 @@ news_of InLine = granting.InLine
 news_of (Granted n) = n
 news_of o = granting.Told (news_in o)
 
-abbrev pub fails_with : Failure → Turn Plan Verdict
+abbrev pub fails_with : Failure → PlanTransition
 fails_with f = Gives (verdict Nothing (Failed f))
 
 -- A BUILDING leaves a producer behind.
@@ -276,10 +274,10 @@ fails_with f = Gives (verdict Nothing (Failed f))
 abbrev pub built_of : ProducerOrder → List Built → Makes
 built_of o parts = Producer (record { topic = o.topic; settings = o.options; parts = parts })
 
-abbrev pub builds : Ways → ProducerOrder → Step Build (Result (List Built) Failure) → Turn Plan Verdict
-builds w o (step.Stays b d) = Stays (Producing w o b) (action_of d)
-builds w o (step.Gives (Ok parts)) = Gives (verdict (built_of o parts) Done)
-builds w o (step.Gives (Err f)) = fails_with f
+abbrev pub builds : Ways → ProducerOrder → ProducerTransition Build (Result (List Built) Failure) → PlanTransition
+builds w o (Stays b d) = Stays (Producing w o b) (action_of d)
+builds w o (Gives (Ok parts)) = Gives (verdict (built_of o parts) Done)
+builds w o (Gives (Err f)) = fails_with f
 
 -- A SEND. Where it is a part of another call, that is told once it is queued, or why it failed before; and where the client is stopped
 -- before, that call is stopped with it.
@@ -290,15 +288,15 @@ tells s o = Tell (record { who = Call s.of; outcome = o })
 abbrev pub parted : Share → Option Failure → Outcome
 parted s f = Parted s.ticket f
 
-abbrev pub leaves : Option Share → Failure → Turn Plan Verdict
+abbrev pub leaves : Option Share → Failure → PlanTransition
 leaves None f = fails_with f
 leaves (Some s) f = Stays (Leaving f) (tells s (parted s (Some f)))
 
-abbrev pub halted_with : Option Share → Failure → Turn Plan Verdict
+abbrev pub halted_with : Option Share → Failure → PlanTransition
 halted_with None f = fails_with f
 halted_with (Some s) f = Stays (Leaving f) (tells s Stopped)
 
-abbrev pub halted : Option Share → Outcome → Turn Plan Verdict
+abbrev pub halted : Option Share → Outcome → PlanTransition
 halted share o = halted_with share (OfConnection (fault_of o))
 
 -- its receipt, by its bytes
@@ -306,20 +304,20 @@ abbrev pub receipt_said : Option Written → Said
 receipt_said None = Replies []
 receipt_said (Some body) = if body.number == 7 then Receipt body.bytes else Replies []
 
-abbrev pub receipted : session.Reply → Turn Plan Verdict
+abbrev pub receipted : session.Reply → PlanTransition
 receipted r = Gives (verdict Nothing (receipt_said r.body))
 
-abbrev pub sends_stay : Ways → Errand → Option Share → Send → Deed → Turn Plan Verdict
+abbrev pub sends_stay : Ways → Errand → Option Share → Send → Deed → PlanTransition
 sends_stay w e None s d = Stays (Sending w e None s) (action_of d)
 sends_stay w e (Some share) s d =
     if is_sent_send s then Stays (Reporting w e) (tells share (parted share None)) else Stays (Sending w e (Some share) s) (action_of d)
 
-abbrev pub goes_on_sending : Ways → Errand → Option Share → produce.Sent → Turn Plan Verdict
-goes_on_sending w e share (step.Stays s d) = sends_stay w e share s d
-goes_on_sending w e share (step.Gives (Ok r)) = receipted r
-goes_on_sending w e share (step.Gives (Err f)) = leaves share f
+abbrev pub goes_on_sending : Ways → Errand → Option Share → produce.Sent → PlanTransition
+goes_on_sending w e share (Stays s d) = sends_stay w e share s d
+goes_on_sending w e share (Gives (Ok r)) = receipted r
+goes_on_sending w e share (Gives (Err f)) = leaves share f
 
-abbrev pub reported : Ways → Errand → Turn Plan Verdict
+abbrev pub reported : Ways → Errand → PlanTransition
 reported w e = Stays (Sending w e None send.Sent) (OfTopic e.producer PassTurn)
 
 -- the stop of the client overrides it, until it is queued
@@ -342,25 +340,25 @@ overrides (Parted ticket f) = false
 overrides (Settled f) = false
 overrides (Hears w) = false
 
-abbrev pub told_send : Ways → Errand → Option Share → Send → Outcome → Turn Plan Verdict
+abbrev pub told_send : Ways → Errand → Option Share → Send → Outcome → PlanTransition
 told_send w e share s o =
     if overrides o && not (is_sent_send s) then halted share o else goes_on_sending w e share (produce.send_told w e s (news_of o))
 
 -- A MESSAGE THAT IS STORED waits for what becomes of its batch. Where it is a part of another call, that is told at once.
 
-abbrev pub stored : Option Share → Turn Plan Verdict
+abbrev pub stored : Option Share → PlanTransition
 stored None = Stays Stored Rest
 stored (Some s) = Stays Stored (tells s (parted s None))
 
-abbrev pub in_storing : Option Share → Outcome → Turn Plan Verdict
+abbrev pub in_storing : Option Share → Outcome → PlanTransition
 in_storing share (Granted granting.Done) = stored share
 in_storing share o = fails_with (OfConnection (fault_of o))
 
-abbrev pub settled : Result (Values send_receipt) Failure → Turn Plan Verdict
+abbrev pub settled : Result (Values send_receipt) Failure → PlanTransition
 settled (Ok receipt) = Gives (verdict Nothing (Receipt (spelling send_receipt receipt)))
 settled (Err f) = fails_with f
 
-abbrev pub in_stored : Outcome → Turn Plan Verdict
+abbrev pub in_stored : Outcome → PlanTransition
 in_stored (Settled f) = settled f
 in_stored (Granted granting.Done) = Stays Stored Rest
 in_stored o = fails_with (OfConnection (fault_of o))
@@ -371,16 +369,16 @@ closed_notice t = record { who = Call t; outcome = Settled (Err (OfProducer Prod
 
 -- THE BATCHES of a topic producer have a plan of their own. The stop of the client overrides it.
 
-abbrev pub batches_on : Ways → Errand → Goes → Turn Plan Verdict
+abbrev pub batches_on : Ways → Errand → Goes → PlanTransition
 batches_on w e g = Stays (Batching w e g.state) (action_of g.deed)
 
-abbrev pub told_batch : Ways → Errand → Batches → Outcome → Turn Plan Verdict
+abbrev pub told_batch : Ways → Errand → Batches → Outcome → PlanTransition
 told_batch w e b o =
     if overrides o then batches_on w e (batches.halted b) else batches_on w e (batches.told w e b (news_of o))
 
 -- A CALL WITH PARTS ends once each was queued, or failed before.
 
-abbrev pub gathers : (first count left : ℕ) → List (ℕ × Failure) → Turn Plan Verdict
+abbrev pub gathers : (first count left : ℕ) → List (ℕ × Failure) → PlanTransition
 gathers first count left failures =
     if left == 0 then Gives (verdict Nothing (sent_from first count failures)) else Stays (Gathering first count left failures) Rest
 
@@ -396,63 +394,63 @@ failure_in Checks f = OfConnection f
 failure_in Flushes f = OfConnection f
 failure_in Closes f = in_producer f
 
-abbrev pub fails_in : Round → Fault → Turn Plan Verdict
+abbrev pub fails_in : Round → Fault → PlanTransition
 fails_in r f = fails_with (failure_in r f)
 
-abbrev pub stays_at : Round → (number : ℕ) → List ℕ → Stage → Action → Turn Plan Verdict
+abbrev pub stays_at : Round → (number : ℕ) → List ℕ → Stage → Action → PlanTransition
 stays_at r n left x action = Stays (Visiting r n left x) action
 
 -- the turn is over, and then it fails
-abbrev pub quits : Round → (number : ℕ) → Fault → Turn Plan Verdict
+abbrev pub quits : Round → (number : ℕ) → Fault → PlanTransition
 quits r n f = Stays (Leaving (failure_in r f)) (OfTopic n PassTurn)
 
 -- what a topic producer stores is settled before it is closed, and before its flush is done
-abbrev pub visits : Round → (number : ℕ) → List ℕ → Turn Plan Verdict
+abbrev pub visits : Round → (number : ℕ) → List ℕ → PlanTransition
 visits Checks n left = stays_at Checks n left at.Turning (OfTopic n TakeTurn)
 visits Flushes n left = stays_at Flushes n left at.Settling (OfTopic n Flush)
 visits Closes n left = stays_at Closes n left at.Settling (OfTopic n Flush)
 
-abbrev pub goes_round : Round → List ℕ → Turn Plan Verdict
+abbrev pub goes_round : Round → List ℕ → PlanTransition
 goes_round r [] = Gives (verdict Nothing Done)
 goes_round r (n ∷ left) = visits r n left
 
-abbrev pub is_settled : Round → (number : ℕ) → List ℕ → Turn Plan Verdict
+abbrev pub is_settled : Round → (number : ℕ) → List ℕ → PlanTransition
 is_settled Checks n left = stays_at Checks n left at.Turning (OfTopic n TakeTurn)
 is_settled Flushes n left = goes_round Flushes left
 is_settled Closes n left = stays_at Closes n left at.Turning (OfTopic n TakeTurn)
 
-abbrev pub in_settling : Round → (number : ℕ) → List ℕ → Outcome → Turn Plan Verdict
+abbrev pub in_settling : Round → (number : ℕ) → List ℕ → Outcome → PlanTransition
 in_settling r n left (Granted granting.Done) = is_settled r n left
 in_settling r n left o = fails_in r (fault_of o)
 
-abbrev pub in_turning : Round → (number : ℕ) → List ℕ → Outcome → Turn Plan Verdict
+abbrev pub in_turning : Round → (number : ℕ) → List ℕ → Outcome → PlanTransition
 in_turning r n left (Granted (granting.HasTurn version)) = stays_at r n left at.Finding (OfTopic n Find)
 in_turning r n left o = fails_in r (fault_of o)
 
-abbrev pub in_finding : Round → (number : ℕ) → List ℕ → Outcome → Turn Plan Verdict
+abbrev pub in_finding : Round → (number : ℕ) → List ℕ → Outcome → PlanTransition
 in_finding r n left (GotLink link) = stays_at r n left at.Asking (Ask link (asks_of r n))
 in_finding r n left o = quits r n (fault_of o)
 
-abbrev pub in_asking : Round → (number : ℕ) → List ℕ → Outcome → Turn Plan Verdict
+abbrev pub in_asking : Round → (number : ℕ) → List ℕ → Outcome → PlanTransition
 in_asking r n left Queued = stays_at r n left at.Passing (OfTopic n PassTurn)
 in_asking r n left InLine = stays_at r n left at.Passing (OfTopic n PassTurn)
 in_asking r n left o = quits r n (fault_of o)
 
-abbrev pub in_passing : Round → (number : ℕ) → List ℕ → Outcome → Turn Plan Verdict
+abbrev pub in_passing : Round → (number : ℕ) → List ℕ → Outcome → PlanTransition
 in_passing r n left (Granted granting.Done) = stays_at r n left at.Awaiting Rest
 in_passing r n left o = fails_in r (fault_of o)
 
-abbrev pub visited : Round → List ℕ → (number : ℕ) → Reply → Turn Plan Verdict
+abbrev pub visited : Round → List ℕ → (number : ℕ) → Reply → PlanTransition
 visited r left n reply =
     if is_answer (request_number (asks_of r n)) reply.content.body then goes_round r left
     else fails_in r (refused reply reply.content.body)
 
-abbrev pub in_awaiting : Round → (number : ℕ) → List ℕ → Outcome → Turn Plan Verdict
+abbrev pub in_awaiting : Round → (number : ℕ) → List ℕ → Outcome → PlanTransition
 in_awaiting r n left (Replied reply) = visited r left n reply
 in_awaiting r n left Queued = stays_at r n left at.Awaiting Rest
 in_awaiting r n left o = fails_in r (fault_of o)
 
-abbrev pub told_at : Round → (number : ℕ) → List ℕ → Stage → Outcome → Turn Plan Verdict
+abbrev pub told_at : Round → (number : ℕ) → List ℕ → Stage → Outcome → PlanTransition
 told_at r n left at.Settling o = in_settling r n left o
 told_at r n left at.Turning o = in_turning r n left o
 told_at r n left at.Finding o = in_finding r n left o
@@ -494,41 +492,41 @@ consumer_news_of InLine = None
 consumer_news_of (Hears w) = news_by w
 consumer_news_of o = Some (consumer_news.Told (news_in o))
 
-abbrev pub subscribes : Ways → ConsumerOrder → consume.Builds → Turn Plan Verdict
-subscribes w o (building_step.Stays b d) = Stays (Subscribing w o b) (subscribing_does d)
-subscribes w o (building_step.Gives (Ok b)) = Gives (verdict (consumer_of o b) Done)
-subscribes w o (building_step.Gives (Err f)) = fails_with f
+abbrev pub subscribes : Ways → ConsumerOrder → consume.Builds → PlanTransition
+subscribes w o (Stays b d) = Stays (Subscribing w o b) (subscribing_does d)
+subscribes w o (Gives (Ok b)) = Gives (verdict (consumer_of o b) Done)
+subscribes w o (Gives (Err f)) = fails_with f
 
-abbrev pub in_subscribing : Ways → ConsumerOrder → ConsumerBuild → Option ConsumerNews → Turn Plan Verdict
+abbrev pub in_subscribing : Ways → ConsumerOrder → ConsumerBuild → Option ConsumerNews → PlanTransition
 in_subscribing w o b None = Stays (Subscribing w o b) Rest
 in_subscribing w o b (Some n) = subscribes w o (consume.build_told w o b n)
 
-abbrev pub told_subscribing : Ways → ConsumerOrder → ConsumerBuild → Outcome → Turn Plan Verdict
+abbrev pub told_subscribing : Ways → ConsumerOrder → ConsumerBuild → Outcome → PlanTransition
 told_subscribing w o b x = if overrides x then Gives (fails (fault_of x)) else in_subscribing w o b (consumer_news_of x)
 
 -- A CONSUMER IS SERVED by a plan of its own, which begins with it and ends with it. What it does not wait for changes nothing.
 
-abbrev pub serves : Ways → (number : ℕ) → Service → Action → Turn Plan Verdict
+abbrev pub serves : Ways → (number : ℕ) → Service → Action → PlanTransition
 serves w n s action = Stays (Serving w n s) action
 
-abbrev pub stays_so : Ways → (number : ℕ) → Service → Turn Plan Verdict
+abbrev pub stays_so : Ways → (number : ℕ) → Service → PlanTransition
 stays_so w n s = serves w n s Rest
 
-abbrev pub is_over : Turn Plan Verdict
+abbrev pub is_over : PlanTransition
 is_over = Gives (verdict Nothing Done)
 
 -- Flows are asked for one after the other, until none is due.
-abbrev pub takes_flow : Ways → (number : ℕ) → Turn Plan Verdict
-takes_flow w n = serves w n service.Taking TakeFlow
+abbrev pub takes_flow : Ways → (number : ℕ) → PlanTransition
+takes_flow w n = serves w n service.Taking (OfConsumer consumer_ask.TakeFlow)
 
 -- A subscription that nobody reads any more is closed, and nobody waits for the answer.
-abbrev pub closes_on : Ways → (number link : ℕ) → Turn Plan Verdict
+abbrev pub closes_on : Ways → (number link : ℕ) → PlanTransition
 closes_on w n link = serves w n service.Closing (Ask link (words.CloseConsumerUnawaited n))
 
 -- what is told to one that rests
-abbrev pub resting_hears : Ways → (number : ℕ) → Word → Turn Plan Verdict
+abbrev pub resting_hears : Ways → (number : ℕ) → Word → PlanTransition
 resting_hears w n word.Due = takes_flow w n
-resting_hears w n word.Lost = serves w n service.Recalling RecallConsumer
+resting_hears w n word.Lost = serves w n service.Recalling (OfConsumer consumer_ask.Recall)
 resting_hears w n (word.TopicEnded link) = closes_on w n link
 resting_hears w n word.Over = is_over
 resting_hears w n (word.Numbered m) = stays_so w n service.Resting
@@ -540,11 +538,11 @@ resting_hears w n word.NoFlow = stays_so w n service.Resting
 resting_hears w n (word.Recalled c) = stays_so w n service.Resting
 resting_hears w n word.Lives = stays_so w n service.Resting
 
-abbrev pub in_resting : Ways → (number : ℕ) → Outcome → Turn Plan Verdict
+abbrev pub in_resting : Ways → (number : ℕ) → Outcome → PlanTransition
 in_resting w n (Hears x) = resting_hears w n x
 in_resting w n o = stays_so w n service.Resting
 
-abbrev pub in_taking : Ways → (number : ℕ) → Outcome → Turn Plan Verdict
+abbrev pub in_taking : Ways → (number : ℕ) → Outcome → PlanTransition
 in_taking w n (Hears (word.Flow link permits)) = serves w n service.Asking (Ask link (words.SendFlow n permits))
 in_taking w n (Hears word.NoFlow) = stays_so w n service.Resting
 in_taking w n o = stays_so w n service.Taking
@@ -553,29 +551,29 @@ in_taking w n o = stays_so w n service.Taking
 abbrev pub resubscribing : Command → Resuming → Service
 resubscribing c r = service.Resuming (record { command = c; resuming = r })
 
-abbrev pub resubscribes : Ways → (number : ℕ) → Command → consume.Resumes → Turn Plan Verdict
-resubscribes w n c (search_turn.Stays r wish) = serves w n (resubscribing c r) (wished wish)
-resubscribes w n c (search_turn.Gives (Ok link)) = serves w n (service.Reviving link) (Revive link)
-resubscribes w n c (search_turn.Gives (Err f)) = serves w n service.Failing (FailConsumer f)
+abbrev pub resubscribes : Ways → (number : ℕ) → Command → consume.Resumes → PlanTransition
+resubscribes w n c (Stays r wish) = serves w n (resubscribing c r) (wished wish)
+resubscribes w n c (Gives (Ok link)) = serves w n (service.Reviving link) (OfConsumer (consumer_ask.Revive link))
+resubscribes w n c (Gives (Err f)) = serves w n service.Failing (OfConsumer (consumer_ask.Fail f))
 
-abbrev pub in_recalling : Ways → (number : ℕ) → Outcome → Turn Plan Verdict
+abbrev pub in_recalling : Ways → (number : ℕ) → Outcome → PlanTransition
 in_recalling w n (Hears (word.Recalled c)) = resubscribes w n c (consume.resume_begins w)
 in_recalling w n o = stays_so w n service.Recalling
 
 -- That its frame is queued, or stands in the line, is no news to it, and neither is what is told of consumers.
-abbrev pub in_resuming : Ways → (number : ℕ) → Resubscribing → Outcome → Turn Plan Verdict
+abbrev pub in_resuming : Ways → (number : ℕ) → Resubscribing → Outcome → PlanTransition
 in_resuming w n s Queued = stays_so w n (service.Resuming s)
 in_resuming w n s InLine = stays_so w n (service.Resuming s)
 in_resuming w n s (Hears x) = stays_so w n (service.Resuming s)
 in_resuming w n s o = resubscribes w n s.command (consume.resume_told w s.command s.resuming (news_in o))
 
 -- Where the consumer has ended meanwhile the new subscription is closed.
-abbrev pub in_reviving : Ways → (number link : ℕ) → Outcome → Turn Plan Verdict
+abbrev pub in_reviving : Ways → (number link : ℕ) → Outcome → PlanTransition
 in_reviving w n link (Hears word.Lives) = stays_so w n service.Resting
 in_reviving w n link (Hears word.Over) = closes_on w n link
 in_reviving w n link o = stays_so w n (service.Reviving link)
 
-abbrev pub told_service : Ways → (number : ℕ) → Service → Outcome → Turn Plan Verdict
+abbrev pub told_service : Ways → (number : ℕ) → Service → Outcome → PlanTransition
 told_service w n service.Resting o = in_resting w n o
 told_service w n service.Taking o = in_taking w n o
 told_service w n service.Asking o = takes_flow w n
@@ -586,30 +584,30 @@ told_service w n service.Failing o = is_over
 told_service w n service.Closing o = is_over
 
 -- the stop of the client ends it
-abbrev pub told_serving : Ways → (number : ℕ) → Service → Outcome → Turn Plan Verdict
+abbrev pub told_serving : Ways → (number : ℕ) → Service → Outcome → PlanTransition
 told_serving w n s o = if overrides o then is_over else told_service w n s o
 
 -- AN ACKNOWLEDGEMENT is asked for where a subscription is live, and nobody waits for what becomes of it.
 
-abbrev pub acknowledges : (link : Option ℕ) → Words → Turn Plan Verdict
+abbrev pub acknowledges : (link : Option ℕ) → Words → PlanTransition
 acknowledges None request = is_over
 acknowledges (Some link) request = Stays Acknowledging (Ask link request)
 
 -- THE CLOSE of a consumer is asked for on its link. One that is subscribed again meanwhile is waited for, and one that has ended is closed.
 
-abbrev pub departs : (consumer number : ℕ) → Turn Plan Verdict
-departs t n = Stays (Departing t n) (FindConsumer t)
+abbrev pub departs : (consumer number : ℕ) → PlanTransition
+departs t n = Stays (Departing t n) (OfConsumer (consumer_ask.Find t))
 
-abbrev pub in_departing : (consumer number : ℕ) → Outcome → Turn Plan Verdict
+abbrev pub in_departing : (consumer number : ℕ) → Outcome → PlanTransition
 in_departing t n (GotLink link) = asks link (words.CloseConsumer n) says.Nothing
 in_departing t n (Hears word.Again) = departs t n
-in_departing t n (Hears word.Closed) = fails_with (OfConsumer ConsumerClosed)
+in_departing t n (Hears word.Closed) = fails_with (ConsumerFault ConsumerClosed)
 in_departing t n o = Gives (fails (fault_of o))
 
 -- ALL PLANS
 
 -- where the plan of a procedure begins
-abbrev pub begins : Procedure → Turn Plan Verdict
+abbrev pub begins : Procedure → PlanTransition
 begins (procedure.Build base) = Stays Building (Get base)
 begins procedure.Stop = Stays Stopping StopAll
 begins (procedure.Ask (At place) request s) = Stays (Getting request s) (Get place)
@@ -630,7 +628,7 @@ begins (procedure.Leave consumer number) = departs consumer number
 begins (procedure.Refuse r) = Gives (verdict Nothing (Failed (failure_of r)))
 
 -- What an outcome makes of a plan. The stop of the client overrides a search.
-abbrev pub told : Plan → Outcome → Turn Plan Verdict
+abbrev pub told : Plan → Outcome → PlanTransition
 told Building (GotLink link) = Gives (verdict Client Done)
 told Building o = Gives (fails (fault_of o))
 told (Getting request s) (GotLink link) = asks link request s

@@ -6,7 +6,7 @@ ghost use Rattle.pulsar_plans.specs.Plan.{batches_on, in_stored, in_storing, new
 ghost use Rattle.pulsar_plans.specs.Plan as plan;
 ghost use Rattle.pulsar_wire.specs.Failures.{OfConnection, fault};
 
-use crate::plan::{Plan, Turn, error_of, fails, left, overrides};
+use crate::plan::{Plan, PlanTransition, error_of, fails, left, overrides};
 use crate::producing::{action_of, news_of};
 use crate::sends::{parted, tell};
 use crate::states::BatchState;
@@ -19,6 +19,7 @@ use pulsar_outgoing::content::Reports;
 use pulsar_outgoing::orders::Errand;
 use pulsar_producer::batching::{self, Goes};
 use pulsar_producer::deed::{News, error_told};
+use pulsar_searches::transition::Transition;
 use pulsar_searches::turn::Ways;
 use pulsar_wire::error::NoMemory;
 use std::alloc::Global;
@@ -28,7 +29,7 @@ pub fn stores(
     alloc: Global,
     share: Option<Share>,
     outcome: Outcome,
-) -> Result<Turn<Plan, Verdict>, NoMemory>
+) -> Result<PlanTransition, NoMemory>
     ensures { IfOk result (λ turn. turn ≡ in_storing share outcome) }
 {
     match outcome {
@@ -37,11 +38,7 @@ pub fn stores(
     }
 }
 
-fn is_stored(
-    alloc: Global,
-    share: Option<Share>,
-    news: News,
-) -> Result<Turn<Plan, Verdict>, NoMemory>
+fn is_stored(alloc: Global, share: Option<Share>, news: News) -> Result<PlanTransition, NoMemory>
     ensures { IfOk result (λ turn. turn ≡ in_storing share (Outcome.Granted news)) }
 {
     match news {
@@ -51,17 +48,17 @@ fn is_stored(
 }
 
 /// It waits for what becomes of its batch. The call that it is a part of is told at once.
-fn waits(share: Option<Share>) -> Turn<Plan, Verdict>
+fn waits(share: Option<Share>) -> PlanTransition
     ensures { result ≡ plan.stored share }
 {
     match share {
-        Some(share) => Turn::Stays(Plan::Stored, tell(share, parted(share, None))),
-        None => Turn::Stays(Plan::Stored, Action::Rest),
+        Some(share) => Transition::Stays(Plan::Stored, tell(share, parted(share, None))),
+        None => Transition::Stays(Plan::Stored, Action::Rest),
     }
 }
 
 /// What an outcome makes of a message that is stored.
-pub fn stored(alloc: Global, outcome: Outcome) -> Result<Turn<Plan, Verdict>, NoMemory>
+pub fn stored(alloc: Global, outcome: Outcome) -> Result<PlanTransition, NoMemory>
     ensures { IfOk result (λ turn. turn ≡ in_stored outcome) }
 {
     match outcome {
@@ -72,25 +69,22 @@ pub fn stored(alloc: Global, outcome: Outcome) -> Result<Turn<Plan, Verdict>, No
 }
 
 /// The call that it is a part of was told.
-fn is_told(alloc: Global, news: News) -> Result<Turn<Plan, Verdict>, NoMemory>
+fn is_told(alloc: Global, news: News) -> Result<PlanTransition, NoMemory>
     ensures { IfOk result (λ turn. turn ≡ in_stored (Outcome.Granted news)) }
 {
     match news {
-        News::Done => Ok(Turn::Stays(Plan::Stored, Action::Rest)),
+        News::Done => Ok(Transition::Stays(Plan::Stored, Action::Rest)),
         news => fails(alloc, error_told(news)),
     }
 }
 
-fn is_settled(
-    alloc: Global,
-    fate: Result<Receipt, Refusal>,
-) -> Result<Turn<Plan, Verdict>, NoMemory>
+fn is_settled(alloc: Global, fate: Result<Receipt, Refusal>) -> Result<PlanTransition, NoMemory>
     ensures { IfOk result (λ turn. turn ≡ settled fate) }
 {
     match fate {
         Ok(receipt) => {
             let answer = Answer::Receipt(receipt.into_inner());
-            Ok(Turn::Gives(Verdict {
+            Ok(Transition::Gives(Verdict {
                 makes: Makes::Nothing,
                 said: Said::new(alloc, Ok(answer))?,
             }))
@@ -100,7 +94,7 @@ fn is_settled(
 }
 
 /// The plan of a topic producer that sends batches begins.
-pub fn begins(alloc: Global, ways: Ways, errand: Errand) -> Result<Turn<Plan, Verdict>, NoMemory>
+pub fn begins(alloc: Global, ways: Ways, errand: Errand) -> Result<PlanTransition, NoMemory>
     ensures { IfOk result (λ turn. turn ≡ batches_on ways errand meaning.begins) }
 {
     goes(alloc, ways, errand, batching::begins())
@@ -113,7 +107,7 @@ pub fn told(
     errand: Errand,
     batching: BatchState,
     outcome: Outcome,
-) -> Result<Turn<Plan, Verdict>, NoMemory>
+) -> Result<PlanTransition, NoMemory>
     ensures { IfOk result (λ turn. turn ≡ told_batch ways errand batching outcome) }
 {
     if overrides(&outcome) {
@@ -129,7 +123,7 @@ fn halts(
     ways: Ways,
     errand: Errand,
     batching: BatchState,
-) -> Result<Turn<Plan, Verdict>, NoMemory>
+) -> Result<PlanTransition, NoMemory>
     ensures { IfOk result (λ turn. turn ≡ batches_on ways errand (meaning.halted batching)) }
 {
     let step = batching::halted(alloc, batching.into_inner())?;
@@ -142,7 +136,7 @@ fn tells(
     errand: Errand,
     batching: BatchState,
     outcome: Outcome,
-) -> Result<Turn<Plan, Verdict>, NoMemory>
+) -> Result<PlanTransition, NoMemory>
     ensures { IfOk result (λ turn. turn ≡ batches_on ways errand (meaning.told ways errand batching (news_of outcome))) }
 {
     let news = news_of(alloc, outcome)?;
@@ -151,18 +145,13 @@ fn tells(
 }
 
 /// It goes on so.
-fn goes(
-    alloc: Global,
-    ways: Ways,
-    errand: Errand,
-    step: Goes,
-) -> Result<Turn<Plan, Verdict>, NoMemory>
+fn goes(alloc: Global, ways: Ways, errand: Errand, step: Goes) -> Result<PlanTransition, NoMemory>
     ensures { IfOk result (λ turn. turn ≡ batches_on ways errand step) }
 {
     let Goes { state, deed } = step;
     let batching = BatchState::new(alloc, state)?;
     let action = action_of(alloc, deed)?;
-    Ok(Turn::Stays(
+    Ok(Transition::Stays(
         Plan::Batching {
             ways,
             errand,

@@ -5,12 +5,13 @@ ghost use Rattle.pulsar_messages.specs.Words.{CloseConsumer};
 ghost use Rattle.pulsar_wire.specs.Failures.{ConsumerClosed, OfConsumer};
 ghost use Rattle.pulsar_plans.specs.Plan.{acknowledges, departs, fails_with, in_departing};
 
-use crate::plan::{Plan, Turn, asks, error_of, fails, left};
+use crate::plan::{Plan, PlanTransition, asks, error_of, fails, left};
 use crate::serving::over;
 use pulsar_addresses::content::Refusal;
-use pulsar_calls::act::{Action, Outcome, Says, Verdict, Word};
+use pulsar_calls::act::{Action, ConsumerAsk, Outcome, Says, Verdict, Word};
 use pulsar_exchange::content::Request;
 use pulsar_exchange::raw_call::RawCall;
+use pulsar_searches::transition::Transition;
 use pulsar_wire::error::{ConsumerError, Error, NoMemory};
 use std::alloc::Global;
 
@@ -19,22 +20,22 @@ pub fn acknowledges(
     alloc: Global,
     link: Option<u64>,
     request: Request,
-) -> Result<Turn<Plan, Verdict>, NoMemory>
+) -> Result<PlanTransition, NoMemory>
     ensures { IfOk result (λ turn. turn ≡ acknowledges link request) }
 {
     match link {
-        Some(link) => Ok(Turn::Stays(Plan::Acknowledging, Action::Ask { link, request })),
+        Some(link) => Ok(Transition::Stays(Plan::Acknowledging, Action::Ask { link, request })),
         None => over(alloc),
     }
 }
 
 /// The link of the consumer is found.
-pub fn begins(consumer: u64, number: u64) -> Turn<Plan, Verdict>
+pub fn begins(consumer: u64, number: u64) -> PlanTransition
     ensures { result ≡ departs consumer number }
 {
-    Turn::Stays(
+    Transition::Stays(
         Plan::Departing { consumer, number },
-        Action::FindConsumer(consumer),
+        Action::OfConsumer(ConsumerAsk::Find(consumer)),
     )
 }
 
@@ -44,7 +45,7 @@ pub fn told(
     consumer: u64,
     number: u64,
     outcome: Outcome,
-) -> Result<Turn<Plan, Verdict>, NoMemory>
+) -> Result<PlanTransition, NoMemory>
     ensures { IfOk result (λ turn. turn ≡ in_departing consumer number outcome) }
 {
     match outcome {
@@ -67,7 +68,7 @@ fn closes(alloc: Global, number: u64) -> Result<Request, NoMemory>
     )
 }
 
-fn is_closed(alloc: Global) -> Result<Turn<Plan, Verdict>, NoMemory>
+fn is_closed(alloc: Global) -> Result<PlanTransition, NoMemory>
     ensures { IfOk result (λ turn. turn ≡ fails_with (OfConsumer ConsumerClosed)) }
 {
     let error = Error::Consumer(ConsumerError::Closed);

@@ -4,14 +4,15 @@ ghost use Rattle.std.specs.Prelude.{◌≡◌, [], IfOk};
 ghost use Rattle.pulsar_plans.specs.Plan.{gathers, told};
 ghost use Rattle.pulsar_plans.specs.declared.plan.Plan.TheVariants.{Gathering};
 
-use crate::plan::{Plan, Turn, error_of, fails};
+use crate::plan::{Plan, PlanTransition, error_of, fails};
 use pulsar_calls::act::{Action, Makes, Outcome, Verdict};
 use pulsar_calls::content::{Failures, Said};
+use pulsar_searches::transition::Transition;
 use pulsar_wire::error::NoMemory;
 use std::alloc::Global;
 
 /// It waits for so many sends, whose tickets begin with this one.
-pub fn begins(alloc: Global, first: u64, count: u64) -> Result<Turn<Plan, Verdict>, NoMemory>
+pub fn begins(alloc: Global, first: u64, count: u64) -> Result<PlanTransition, NoMemory>
     ensures { IfOk result (λ turn. turn ≡ gathers first count count []) }
 {
     goes(alloc, first, count, count, Failures::new(alloc))
@@ -25,7 +26,7 @@ pub fn told(
     left: u64,
     failures: Failures,
     outcome: Outcome,
-) -> Result<Turn<Plan, Verdict>, NoMemory>
+) -> Result<PlanTransition, NoMemory>
     ensures { IfOk result (λ turn. turn ≡ told (Gathering first count left failures) outcome) }
 {
     match outcome {
@@ -44,11 +45,11 @@ fn goes(
     count: u64,
     left: u64,
     failures: Failures,
-) -> Result<Turn<Plan, Verdict>, NoMemory>
+) -> Result<PlanTransition, NoMemory>
     ensures { IfOk result (λ turn. turn ≡ gathers first count left failures) }
 {
     if left > 0 {
-        return Ok(Turn::Stays(
+        return Ok(Transition::Stays(
             Plan::Gathering {
                 first,
                 count,
@@ -59,7 +60,7 @@ fn goes(
         ));
     }
     let outcome = failures.outcome(alloc, first, count)?;
-    Ok(Turn::Gives(Verdict {
+    Ok(Transition::Gives(Verdict {
         makes: Makes::Nothing,
         said: Said::new(alloc, outcome)?,
     }))

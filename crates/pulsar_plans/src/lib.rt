@@ -8,7 +8,6 @@ pub mod gathering;
 pub mod plan;
 pub mod producing;
 pub mod search;
-pub mod search_state;
 pub mod sends;
 pub mod service;
 pub mod serving;

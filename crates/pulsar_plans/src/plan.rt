@@ -5,9 +5,8 @@ ghost use Rattle.pulsar_wire.specs.Failures.{Custom, OfProducer, ProducerCustom,
 ghost use Rattle.pulsar_plans.specs.Plan.{asks, begins, failure_of, fails, fails_with, fault_of, makes, makes_of, overrides, replied, stands, told, verdict, waits};
 ghost use Rattle.pulsar_calls.specs.Content.{Done, Failed};
 
-use crate::search_state::SearchState;
 use crate::service::Service;
-use crate::states::{BatchState, BuildState, ConsumerState, SendState};
+use crate::states::{BatchState, BuildState, ConsumerState, SearchState, SendState};
 use crate::{
     answers, batches, departing, gathering, producing, search, sends, serving, subscribing,
     visiting,
@@ -22,18 +21,15 @@ use pulsar_exchange::content::{Received, Request, Subscribed};
 use pulsar_incoming::orders::ConsumerOrder;
 use pulsar_outgoing::orders::{Errand, ProducerOrder};
 use pulsar_producer::deed;
-use pulsar_searches::turn::Ways;
+use pulsar_searches::transition::Transition;
+use pulsar_searches::turn::{SearchTransition, Ways};
 use pulsar_wire::error::{
     ConnectionError, ConsumerError, Error, IoKind, NoMemory, ProducerError, Reason,
 };
 use std::alloc::Global;
 
-/// A plan stays, in this state, and does this action, or it ends and gives its verdict.
-#[derive(Drop)]
-pub enum Turn<S, A> {
-    Stays(S, Action),
-    Gives(A),
-}
+/// What a plan does at what it is told.
+pub type PlanTransition = Transition<Plan, Action, Verdict>;
 
 /// What is known of a request that is asked for: the number of its body, how its reply is answered, and what its success
 /// leaves behind.
@@ -147,18 +143,18 @@ pub enum At {
 }
 
 /// Where a procedure begins.
-pub fn begins(alloc: Global, procedure: Procedure) -> Result<Turn<Plan, Verdict>, NoMemory>
+pub fn begins(alloc: Global, procedure: Procedure) -> Result<PlanTransition, NoMemory>
     ensures { IfOk result (λ turn. turn ≡ begins procedure) }
 {
     match procedure {
-        Procedure::Build(base) => Ok(Turn::Stays(Plan::Building, Action::Get(base))),
-        Procedure::Stop => Ok(Turn::Stays(Plan::Stopping, Action::StopAll)),
+        Procedure::Build(base) => Ok(Transition::Stays(Plan::Building, Action::Get(base))),
+        Procedure::Stop => Ok(Transition::Stays(Plan::Stopping, Action::StopAll)),
         Procedure::Ask {
             place,
             request,
             says,
         } => match place {
-            Place::At(address) => Ok(Turn::Stays(
+            Place::At(address) => Ok(Transition::Stays(
                 Plan::Getting(request, says),
                 Action::Get(address),
             )),
@@ -176,7 +172,7 @@ pub fn begins(alloc: Global, procedure: Procedure) -> Result<Turn<Plan, Verdict>
             number,
             share,
             entry,
-        } => Ok(Turn::Stays(
+        } => Ok(Transition::Stays(
             Plan::Storing(share),
             of_topic(number, TopicAsk::Store(entry)),
         )),
@@ -187,7 +183,7 @@ pub fn begins(alloc: Global, procedure: Procedure) -> Result<Turn<Plan, Verdict>
         }
         Procedure::Gather { first, count } => gathering::begins(alloc, first, count),
         Procedure::Go { round, numbers } => visiting::next(alloc, round, numbers),
-        Procedure::Close { producer, numbers } => Ok(Turn::Stays(
+        Procedure::Close { producer, numbers } => Ok(Transition::Stays(
             Plan::Shutting(numbers),
             Action::Shut(producer),
         )),
@@ -200,7 +196,7 @@ pub fn begins(alloc: Global, procedure: Procedure) -> Result<Turn<Plan, Verdict>
 }
 
 /// What an outcome makes of a plan.
-pub fn told(alloc: Global, plan: Plan, outcome: Outcome) -> Result<Turn<Plan, Verdict>, NoMemory>
+pub fn told(alloc: Global, plan: Plan, outcome: Outcome) -> Result<PlanTransition, NoMemory>
     ensures { IfOk result (λ turn. turn ≡ told plan outcome) }
 {
     match plan {
@@ -258,7 +254,7 @@ pub fn told(alloc: Global, plan: Plan, outcome: Outcome) -> Result<Turn<Plan, Ve
     }
 }
 
-fn in_building(alloc: Global, outcome: Outcome) -> Result<Turn<Plan, Verdict>, NoMemory>
+fn in_building(alloc: Global, outcome: Outcome) -> Result<PlanTransition, NoMemory>
     ensures { IfOk result (λ turn. turn ≡ told Plan.Building outcome) }
 {
     match outcome {
@@ -272,7 +268,7 @@ fn in_getting(
     request: Request,
     says: Says,
     outcome: Outcome,
-) -> Result<Turn<Plan, Verdict>, NoMemory>
+) -> Result<PlanTransition, NoMemory>
     ensures { IfOk result (λ turn. turn ≡ told (Plan.Getting request says) outcome) }
 {
     match outcome {
@@ -281,11 +277,7 @@ fn in_getting(
     }
 }
 
-fn in_asking(
-    alloc: Global,
-    wanted: Wanted,
-    outcome: Outcome,
-) -> Result<Turn<Plan, Verdict>, NoMemory>
+fn in_asking(alloc: Global, wanted: Wanted, outcome: Outcome) -> Result<PlanTransition, NoMemory>
     ensures { IfOk result (λ turn. turn ≡ told (Plan.Asking wanted) outcome) }
 {
     match outcome {
@@ -295,11 +287,7 @@ fn in_asking(
     }
 }
 
-fn in_awaiting(
-    alloc: Global,
-    wanted: Wanted,
-    outcome: Outcome,
-) -> Result<Turn<Plan, Verdict>, NoMemory>
+fn in_awaiting(alloc: Global, wanted: Wanted, outcome: Outcome) -> Result<PlanTransition, NoMemory>
     ensures { IfOk result (λ turn. turn ≡ told (Plan.Awaiting wanted) outcome) }
 {
     match outcome {
@@ -308,7 +296,7 @@ fn in_awaiting(
     }
 }
 
-fn in_stopping(alloc: Global, outcome: Outcome) -> Result<Turn<Plan, Verdict>, NoMemory>
+fn in_stopping(alloc: Global, outcome: Outcome) -> Result<PlanTransition, NoMemory>
     ensures { IfOk result (λ turn. turn ≡ told Plan.Stopping outcome) }
 {
     match outcome {
@@ -323,7 +311,7 @@ pub fn asks(
     link: u64,
     request: Request,
     says: Says,
-) -> Result<Turn<Plan, Verdict>, NoMemory>
+) -> Result<PlanTransition, NoMemory>
     ensures { IfOk result (λ turn. turn ≡ asks link request says) }
 {
     let wanted = Wanted {
@@ -331,7 +319,7 @@ pub fn asks(
         says,
         makes: makes(link, request.subscribed(alloc)?),
     };
-    Ok(Turn::Stays(Plan::Asking(wanted), Action::Ask { link, request }))
+    Ok(Transition::Stays(Plan::Asking(wanted), Action::Ask { link, request }))
 }
 
 /// What the success of a request leaves behind.
@@ -345,30 +333,30 @@ fn makes(link: u64, subscribed: Option<Subscribed>) -> Makes
 }
 
 /// A frame is queued: its reply is waited for, where it has one.
-fn waits(alloc: Global, wanted: Wanted) -> Result<Turn<Plan, Verdict>, NoMemory>
+fn waits(alloc: Global, wanted: Wanted) -> Result<PlanTransition, NoMemory>
     ensures { IfOk result (λ turn. turn ≡ waits wanted) }
 {
     if answers::is_answered(wanted.number) {
-        Ok(Turn::Stays(Plan::Awaiting(wanted), Action::Rest))
+        Ok(Transition::Stays(Plan::Awaiting(wanted), Action::Rest))
     } else {
         done(alloc, Makes::Nothing)
     }
 }
 
 /// A frame stands in the line: that it is queued is waited for, where it has a reply.
-fn stands(alloc: Global, wanted: Wanted) -> Result<Turn<Plan, Verdict>, NoMemory>
+fn stands(alloc: Global, wanted: Wanted) -> Result<PlanTransition, NoMemory>
     ensures { IfOk result (λ turn. turn ≡ stands wanted) }
 {
     if answers::is_answered(wanted.number) {
-        Ok(Turn::Stays(Plan::Asking(wanted), Action::Rest))
+        Ok(Transition::Stays(Plan::Asking(wanted), Action::Rest))
     } else {
         done(alloc, Makes::Nothing)
     }
 }
 
 /// A reply has come.
-fn replied(alloc: Global, wanted: Wanted, reply: Received) -> Result<Turn<Plan, Verdict>, NoMemory>
-    ensures { IfOk result (λ turn. turn ≡ Turn.Gives (replied wanted reply)) }
+fn replied(alloc: Global, wanted: Wanted, reply: Received) -> Result<PlanTransition, NoMemory>
+    ensures { IfOk result (λ turn. turn ≡ Transition.Gives (replied wanted reply)) }
 {
     let is_answer = answers::is_answer(wanted.number, &reply);
     let said = answers::said(alloc, wanted.says, wanted.number, reply)?;
@@ -377,23 +365,23 @@ fn replied(alloc: Global, wanted: Wanted, reply: Received) -> Result<Turn<Plan, 
     } else {
         Makes::Nothing
     };
-    Ok(Turn::Gives(Verdict { makes, said }))
+    Ok(Transition::Gives(Verdict { makes, said }))
 }
 
-pub fn done(alloc: Global, makes: Makes) -> Result<Turn<Plan, Verdict>, NoMemory>
-    ensures { IfOk result (λ turn. turn ≡ Turn.Gives (verdict makes Done)) }
+pub fn done(alloc: Global, makes: Makes) -> Result<PlanTransition, NoMemory>
+    ensures { IfOk result (λ turn. turn ≡ Transition.Gives (verdict makes Done)) }
 {
     let said = Said::new(alloc, Ok(Answer::Done))?;
-    Ok(Turn::Gives(Verdict { makes, said }))
+    Ok(Transition::Gives(Verdict { makes, said }))
 }
 
 /// A call that is not made.
-fn refused(alloc: Global, refusal: CallRefusal) -> Result<Turn<Plan, Verdict>, NoMemory>
-    ensures { IfOk result (λ turn. turn ≡ Turn.Gives (verdict Makes.Nothing (Failed (failure_of refusal)))) }
+fn refused(alloc: Global, refusal: CallRefusal) -> Result<PlanTransition, NoMemory>
+    ensures { IfOk result (λ turn. turn ≡ Transition.Gives (verdict Makes.Nothing (Failed (failure_of refusal)))) }
 {
     let error = refusal_error(alloc, refusal)?;
     let said = Said::new(alloc, Err(error))?;
-    Ok(Turn::Gives(Verdict {
+    Ok(Transition::Gives(Verdict {
         makes: Makes::Nothing,
         said,
     }))
@@ -439,11 +427,11 @@ fn custom_in_producer(alloc: Global, text: &str) -> Result<Error, NoMemory>
 }
 
 /// The end of a plan that failed so.
-pub fn left(alloc: Global, failure: Failure) -> Result<Turn<Plan, Verdict>, NoMemory>
+pub fn left(alloc: Global, failure: Failure) -> Result<PlanTransition, NoMemory>
     ensures { IfOk result (λ turn. turn ≡ fails_with failure) }
 {
     let said = Said::new(alloc, Err(failure.into_inner()))?;
-    Ok(Turn::Gives(Verdict {
+    Ok(Transition::Gives(Verdict {
         makes: Makes::Nothing,
         said,
     }))
@@ -457,10 +445,10 @@ pub fn of_topic(number: u64, ask: TopicAsk) -> Action
 }
 
 /// The end of a plan that failed.
-pub fn fails(alloc: Global, error: ConnectionError) -> Result<Turn<Plan, Verdict>, NoMemory>
-    ensures { IfOk result (λ turn. turn ≡ Turn.Gives (fails (fault error))) }
+pub fn fails(alloc: Global, error: ConnectionError) -> Result<PlanTransition, NoMemory>
+    ensures { IfOk result (λ turn. turn ≡ Transition.Gives (fails (fault error))) }
 {
-    Ok(Turn::Gives(failure(alloc, error)?))
+    Ok(Transition::Gives(failure(alloc, error)?))
 }
 
 pub fn failure(alloc: Global, error: ConnectionError) -> Result<Verdict, NoMemory>

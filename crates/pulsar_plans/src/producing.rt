@@ -8,7 +8,7 @@ ghost use Rattle.pulsar_plans.specs.Plan.{action_of, built_of, builds, news_of, 
 ghost use Rattle.pulsar_plans.specs.declared.plan.Plan.TheVariants.{Producing};
 
 use crate::batches::tells_all;
-use crate::plan::{Plan, Turn, error_of, fails, left, of_topic, overrides};
+use crate::plan::{Plan, PlanTransition, error_of, fails, left, of_topic, overrides};
 use crate::search::{news_in, wished};
 use crate::states::BuildState;
 use pulsar_calls::act::{Action, Makes, Outcome, TopicAsk, Verdict};
@@ -19,17 +19,14 @@ use pulsar_exchange::raw_call::RawCall;
 use pulsar_outgoing::content::Parts;
 use pulsar_outgoing::orders::ProducerOrder;
 use pulsar_producer::building::{self, BuildingProducer, Builds};
-use pulsar_producer::deed::{Deed, News, Send, Step};
+use pulsar_producer::deed::{Deed, News, Send};
+use pulsar_searches::transition::Transition;
 use pulsar_searches::turn::Ways;
 use pulsar_wire::error::NoMemory;
 use std::alloc::Global;
 
 /// A building begins.
-pub fn begins(
-    alloc: Global,
-    ways: Ways,
-    order: ProducerOrder,
-) -> Result<Turn<Plan, Verdict>, NoMemory>
+pub fn begins(alloc: Global, ways: Ways, order: ProducerOrder) -> Result<PlanTransition, NoMemory>
     ensures { IfOk result (λ turn. turn ≡ builds ways order (meaning.build_begins ways order)) }
 {
     let step = building::begins(alloc, &ways, &order)?;
@@ -43,7 +40,7 @@ pub fn told(
     order: ProducerOrder,
     building: BuildState,
     outcome: Outcome,
-) -> Result<Turn<Plan, Verdict>, NoMemory>
+) -> Result<PlanTransition, NoMemory>
     ensures { IfOk result (λ turn. turn ≡ told (Producing ways order building) outcome) }
 {
     if overrides(&outcome) {
@@ -60,7 +57,7 @@ fn tells(
     order: ProducerOrder,
     building: BuildState,
     outcome: Outcome,
-) -> Result<Turn<Plan, Verdict>, NoMemory>
+) -> Result<PlanTransition, NoMemory>
     ensures { IfOk result (λ turn. turn ≡ builds ways order (meaning.build_told ways order building (news_of outcome))) }
 {
     let news = news_of(alloc, outcome)?;
@@ -74,13 +71,13 @@ fn goes(
     ways: Ways,
     order: ProducerOrder,
     step: Builds,
-) -> Result<Turn<Plan, Verdict>, NoMemory>
+) -> Result<PlanTransition, NoMemory>
     ensures { IfOk result (λ turn. turn ≡ builds ways order step) }
 {
     match step {
-        Step::Stays(building, deed) => stays(alloc, ways, order, building, deed),
-        Step::Gives(Ok(parts)) => made(alloc, order, parts),
-        Step::Gives(Err(refusal)) => left(alloc, refusal),
+        Transition::Stays(building, deed) => stays(alloc, ways, order, building, deed),
+        Transition::Gives(Ok(parts)) => made(alloc, order, parts),
+        Transition::Gives(Err(refusal)) => left(alloc, refusal),
     }
 }
 
@@ -91,12 +88,12 @@ fn stays(
     order: ProducerOrder,
     building: BuildingProducer,
     deed: Deed,
-) -> Result<Turn<Plan, Verdict>, NoMemory>
-    ensures { IfOk result (λ turn. turn ≡ builds ways order (Step.Stays building deed)) }
+) -> Result<PlanTransition, NoMemory>
+    ensures { IfOk result (λ turn. turn ≡ builds ways order (Transition.Stays building deed)) }
 {
     let building = BuildState::new(alloc, building)?;
     let action = action_of(alloc, deed)?;
-    Ok(Turn::Stays(
+    Ok(Transition::Stays(
         Plan::Producing {
             ways,
             order,
@@ -107,8 +104,8 @@ fn stays(
 }
 
 /// A producer was built.
-fn made(alloc: Global, order: ProducerOrder, parts: Parts) -> Result<Turn<Plan, Verdict>, NoMemory>
-    ensures { IfOk result (λ turn. turn ≡ Turn.Gives (verdict (built_of order parts) Done)) }
+fn made(alloc: Global, order: ProducerOrder, parts: Parts) -> Result<PlanTransition, NoMemory>
+    ensures { IfOk result (λ turn. turn ≡ Transition.Gives (verdict (built_of order parts) Done)) }
 {
     let ProducerOrder {
         topic,
@@ -124,7 +121,7 @@ fn made(alloc: Global, order: ProducerOrder, parts: Parts) -> Result<Turn<Plan, 
         },
     )?;
     let said = Said::new(alloc, Ok(Answer::Done))?;
-    Ok(Turn::Gives(Verdict {
+    Ok(Transition::Gives(Verdict {
         makes: Makes::Producer(made),
         said,
     }))

@@ -7,8 +7,8 @@ ghost use Rattle.pulsar_searches.specs.Plans as meaning;
 ghost use Rattle.pulsar_plans.specs.Plan.{found, found_so, goes, news_in, told, wished};
 ghost use Rattle.pulsar_plans.specs.declared.plan.Plan.TheVariants.{Searching};
 
-use crate::plan::{Plan, Turn, error_of, failure};
-use crate::search_state::SearchState;
+use crate::plan::{Plan, PlanTransition, error_of, failure};
+use crate::states::SearchState;
 use pulsar_addresses::content::{Cause, Refusal};
 use pulsar_calls::act::{Action, Makes, Outcome, Verdict};
 use pulsar_calls::content::Said;
@@ -20,12 +20,13 @@ use pulsar_frame::received::Received;
 use pulsar_searches::making::Served;
 use pulsar_searches::plan::{self, Answer as Found, SearchPlan as Search, Sought};
 use pulsar_searches::question::{Question, Request as Wanted};
-use pulsar_searches::turn::{Action as Wish, SearchOutcome as News, Turn as SearchTurn, Ways};
+use pulsar_searches::transition::Transition;
+use pulsar_searches::turn::{Action as Wish, SearchOutcome as News, SearchTransition, Ways};
 use pulsar_wire::error::{ConnectionError, NoMemory};
 use std::alloc::Global;
 
 /// A search begins.
-pub fn begins(alloc: Global, ways: Ways, what: Sought) -> Result<Turn<Plan, Verdict>, NoMemory>
+pub fn begins(alloc: Global, ways: Ways, what: Sought) -> Result<PlanTransition, NoMemory>
     ensures { IfOk result (λ turn. turn ≡ goes ways (meaning.begins ways what)) }
 {
     let turn = plan::begins(alloc, &ways, what)?;
@@ -38,16 +39,16 @@ pub fn told(
     ways: Ways,
     search: SearchState,
     outcome: Outcome,
-) -> Result<Turn<Plan, Verdict>, NoMemory>
+) -> Result<PlanTransition, NoMemory>
     ensures { IfOk result (λ turn. turn ≡ told (Searching ways search) outcome) }
 {
     match outcome {
-        Outcome::Queued | Outcome::InLine => Ok(Turn::Stays(
+        Outcome::Queued | Outcome::InLine => Ok(Transition::Stays(
             Plan::Searching { ways, search },
             Action::Rest,
         )),
-        Outcome::Cut => Ok(Turn::Gives(failure(alloc, ConnectionError::Disconnected)?)),
-        Outcome::Stopped => Ok(Turn::Gives(failure(alloc, ConnectionError::Shutdown)?)),
+        Outcome::Cut => Ok(Transition::Gives(failure(alloc, ConnectionError::Disconnected)?)),
+        Outcome::Stopped => Ok(Transition::Gives(failure(alloc, ConnectionError::Shutdown)?)),
         outcome => tells(alloc, ways, search, outcome),
     }
 }
@@ -58,7 +59,7 @@ fn tells(
     ways: Ways,
     search: SearchState,
     outcome: Outcome,
-) -> Result<Turn<Plan, Verdict>, NoMemory>
+) -> Result<PlanTransition, NoMemory>
     ensures { IfOk result (λ turn. turn ≡ goes ways (meaning.told ways search (news_in outcome))) }
 {
     let news = news_in(alloc, outcome)?;
@@ -70,15 +71,15 @@ fn tells(
 fn goes(
     alloc: Global,
     ways: Ways,
-    turn: SearchTurn<Search, Result<Found, Refusal>>,
-) -> Result<Turn<Plan, Verdict>, NoMemory>
+    turn: SearchTransition<Search, Result<Found, Refusal>>,
+) -> Result<PlanTransition, NoMemory>
     ensures { IfOk result (λ t. t ≡ goes ways turn) }
 {
     match turn {
-        SearchTurn::Stays(search, wish) => stays(alloc, ways, search, wish),
-        SearchTurn::Gives(found) => {
+        Transition::Stays(search, wish) => stays(alloc, ways, search, wish),
+        Transition::Gives(found) => {
             let said = found_so(alloc, found)?;
-            Ok(Turn::Gives(Verdict {
+            Ok(Transition::Gives(Verdict {
                 makes: Makes::Nothing,
                 said,
             }))
@@ -87,17 +88,12 @@ fn goes(
 }
 
 /// A search stands there, and does this.
-fn stays(
-    alloc: Global,
-    ways: Ways,
-    search: Search,
-    wish: Wish,
-) -> Result<Turn<Plan, Verdict>, NoMemory>
-    ensures { IfOk result (λ t. t ≡ Turn.Stays (Searching ways search) (wished wish)) }
+fn stays(alloc: Global, ways: Ways, search: Search, wish: Wish) -> Result<PlanTransition, NoMemory>
+    ensures { IfOk result (λ t. t ≡ Transition.Stays (Searching ways search) (wished wish)) }
 {
     let search = SearchState::new(alloc, search)?;
     let action = wished(alloc, wish)?;
-    Ok(Turn::Stays(Plan::Searching { ways, search }, action))
+    Ok(Transition::Stays(Plan::Searching { ways, search }, action))
 }
 
 /// What a search does.

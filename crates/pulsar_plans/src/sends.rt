@@ -9,7 +9,7 @@ ghost use Rattle.pulsar_calls.specs.Content.{Replies};
 ghost use Rattle.pulsar_plans.specs.Plan.{action_of, goes_on_sending, halted, leaves, news_of, parted, receipt_said, receipted, reported, sends_stay, told};
 ghost use Rattle.pulsar_plans.specs.declared.plan.Plan.TheVariants.{Sending as InSending};
 
-use crate::plan::{Plan, Turn, error_of, left, of_topic, overrides};
+use crate::plan::{Plan, PlanTransition, error_of, left, of_topic, overrides};
 use crate::producing::{action_of, news_of};
 use crate::states::SendState;
 use pulsar_addresses::content::Refusal;
@@ -21,8 +21,9 @@ use pulsar_frame::message::Message;
 use pulsar_frame::received::Received;
 use pulsar_outgoing::content::Outgoing;
 use pulsar_outgoing::orders::Errand;
-use pulsar_producer::deed::{Deed, Step};
+use pulsar_producer::deed::Deed;
 use pulsar_producer::sending::{self, Sending, Sent};
+use pulsar_searches::transition::Transition;
 use pulsar_searches::turn::Ways;
 use pulsar_wire::commands::base::Body;
 use pulsar_wire::error::NoMemory;
@@ -35,7 +36,7 @@ pub fn begins(
     errand: Errand,
     share: Option<Share>,
     message: Outgoing,
-) -> Result<Turn<Plan, Verdict>, NoMemory>
+) -> Result<PlanTransition, NoMemory>
     ensures { IfOk result (λ turn. turn ≡ goes_on_sending ways errand share (meaning.send_begins errand message)) }
 {
     let step = sending::begins(errand, message);
@@ -50,10 +51,10 @@ pub fn told(
     share: Option<Share>,
     sending: SendState,
     outcome: Outcome,
-) -> Result<Turn<Plan, Verdict>, NoMemory>
+) -> Result<PlanTransition, NoMemory>
     ensures { IfOk result (λ turn. turn ≡ told (InSending ways errand share sending) outcome) }
 {
-    if overrides(&outcome) && !sending.is_sent() {
+    if overrides(&outcome) && !sending.get().is_sent() {
         halted(alloc, share, outcome)
     } else {
         tells(alloc, ways, errand, share, sending, outcome)
@@ -68,7 +69,7 @@ fn tells(
     share: Option<Share>,
     sending: SendState,
     outcome: Outcome,
-) -> Result<Turn<Plan, Verdict>, NoMemory>
+) -> Result<PlanTransition, NoMemory>
     ensures { IfOk result (λ turn. turn ≡ goes_on_sending ways errand share (meaning.send_told ways errand sending (news_of outcome))) }
 {
     let news = news_of(alloc, outcome)?;
@@ -83,13 +84,13 @@ fn goes(
     errand: Errand,
     share: Option<Share>,
     step: Sent,
-) -> Result<Turn<Plan, Verdict>, NoMemory>
+) -> Result<PlanTransition, NoMemory>
     ensures { IfOk result (λ turn. turn ≡ goes_on_sending ways errand share step) }
 {
     match step {
-        Step::Stays(sending, deed) => stays(alloc, ways, errand, share, sending, deed),
-        Step::Gives(Ok(reply)) => received(alloc, reply),
-        Step::Gives(Err(refusal)) => leaves(alloc, share, refusal),
+        Transition::Stays(sending, deed) => stays(alloc, ways, errand, share, sending, deed),
+        Transition::Gives(Ok(reply)) => received(alloc, reply),
+        Transition::Gives(Err(refusal)) => leaves(alloc, share, refusal),
     }
 }
 
@@ -101,11 +102,11 @@ fn stays(
     share: Option<Share>,
     sending: Sending,
     deed: Deed,
-) -> Result<Turn<Plan, Verdict>, NoMemory>
+) -> Result<PlanTransition, NoMemory>
     ensures { IfOk result (λ turn. turn ≡ sends_stay ways errand share sending deed) }
 {
     match share {
-        Some(share) if sending.is_sent() => Ok(Turn::Stays(
+        Some(share) if sending.is_sent() => Ok(Transition::Stays(
             Plan::Reporting { ways, errand },
             tell(share, parted(share, None)),
         )),
@@ -121,12 +122,12 @@ fn stands(
     share: Option<Share>,
     sending: Sending,
     deed: Deed,
-) -> Result<Turn<Plan, Verdict>, NoMemory>
-    ensures { IfOk result (λ turn. turn ≡ Turn.Stays (InSending ways errand share sending) (action_of deed)) }
+) -> Result<PlanTransition, NoMemory>
+    ensures { IfOk result (λ turn. turn ≡ Transition.Stays (InSending ways errand share sending) (action_of deed)) }
 {
     let sending = SendState::new(alloc, sending)?;
     let action = action_of(alloc, deed)?;
-    Ok(Turn::Stays(
+    Ok(Transition::Stays(
         Plan::Sending {
             ways,
             errand,
@@ -138,11 +139,11 @@ fn stands(
 }
 
 /// It has told that it is queued: its turn is over.
-pub fn reported(alloc: Global, ways: Ways, errand: Errand) -> Result<Turn<Plan, Verdict>, NoMemory>
+pub fn reported(alloc: Global, ways: Ways, errand: Errand) -> Result<PlanTransition, NoMemory>
     ensures { IfOk result (λ turn. turn ≡ reported ways errand) }
 {
     let sending = SendState::new(alloc, Sending::Sent)?;
-    Ok(Turn::Stays(
+    Ok(Transition::Stays(
         Plan::Sending {
             ways,
             errand,
@@ -158,30 +159,26 @@ pub fn leaves(
     alloc: Global,
     share: Option<Share>,
     refusal: Refusal,
-) -> Result<Turn<Plan, Verdict>, NoMemory>
+) -> Result<PlanTransition, NoMemory>
     ensures { IfOk result (λ turn. turn ≡ leaves share refusal) }
 {
     let Some(share) = share else {
         return left(alloc, refusal);
     };
     let (told, refusal) = twice(alloc, refusal)?;
-    Ok(Turn::Stays(
+    Ok(Transition::Stays(
         Plan::Leaving(refusal),
         tell(share, parted(share, Some(told))),
     ))
 }
 
 /// The client is stopped before it is queued, and so is the call that it is a part of.
-fn halted(
-    alloc: Global,
-    share: Option<Share>,
-    outcome: Outcome,
-) -> Result<Turn<Plan, Verdict>, NoMemory>
+fn halted(alloc: Global, share: Option<Share>, outcome: Outcome) -> Result<PlanTransition, NoMemory>
     ensures { IfOk result (λ turn. turn ≡ halted share outcome) }
 {
     let refusal = Refusal::in_connection(alloc, error_of(outcome))?;
     match share {
-        Some(share) => Ok(Turn::Stays(Plan::Leaving(refusal), tell(share, Outcome::Stopped))),
+        Some(share) => Ok(Transition::Stays(Plan::Leaving(refusal), tell(share, Outcome::Stopped))),
         None => left(alloc, refusal),
     }
 }
@@ -207,7 +204,7 @@ pub fn parted(share: Share, failure: Option<Refusal>) -> Outcome
 }
 
 /// Its receipt came.
-fn received(alloc: Global, reply: Received) -> Result<Turn<Plan, Verdict>, NoMemory>
+fn received(alloc: Global, reply: Received) -> Result<PlanTransition, NoMemory>
     ensures { IfOk result (λ turn. turn ≡ receipted reply) }
 {
     let Message {
@@ -215,7 +212,7 @@ fn received(alloc: Global, reply: Received) -> Result<Turn<Plan, Verdict>, NoMem
         payload: _,
     } = reply.into_message();
     let said = receipt_in(alloc, command.body)?;
-    Ok(Turn::Gives(Verdict {
+    Ok(Transition::Gives(Verdict {
         makes: Makes::Nothing,
         said,
     }))

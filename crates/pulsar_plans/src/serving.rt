@@ -6,21 +6,22 @@ ghost use Rattle.pulsar_messages.specs.Words.{SendFlow};
 ghost use Rattle.pulsar_consumer.specs.Plans as meaning;
 ghost use Rattle.pulsar_plans.specs.Plan.{closes_on, in_recalling, in_resting, in_resuming, in_reviving, in_taking, is_over, news_in, resting_hears, resubscribes, stays_so, takes_flow, told_service, told_serving};
 
-use crate::plan::{Plan, Turn, done, overrides};
+use crate::plan::{Plan, PlanTransition, done, overrides};
 use crate::search::{news_in, wished};
 use crate::service::Service;
 use crate::states::{Resubscribing, ResumeState};
-use pulsar_calls::act::{Action, Makes, Outcome, Verdict, Word};
+use pulsar_calls::act::{Action, ConsumerAsk, Makes, Outcome, Verdict, Word};
 use pulsar_consumer::resuming::{self, Resumes};
 use pulsar_exchange::content::Request;
 use pulsar_exchange::raw_call::RawCall;
 use pulsar_searches::making::Command;
-use pulsar_searches::turn::{Turn as SearchTurn, Ways};
+use pulsar_searches::transition::Transition;
+use pulsar_searches::turn::Ways;
 use pulsar_wire::error::NoMemory;
 use std::alloc::Global;
 
 /// It rests.
-pub fn begins(ways: Ways, number: u64) -> Turn<Plan, Verdict>
+pub fn begins(ways: Ways, number: u64) -> PlanTransition
     ensures { result ≡ stays_so ways number Service.Resting }
 {
     stays(ways, number, Service::Resting, Action::Rest)
@@ -33,7 +34,7 @@ pub fn told(
     number: u64,
     service: Service,
     outcome: Outcome,
-) -> Result<Turn<Plan, Verdict>, NoMemory>
+) -> Result<PlanTransition, NoMemory>
     ensures { IfOk result (λ turn. turn ≡ told_serving ways number service outcome) }
 {
     if overrides(&outcome) {
@@ -49,7 +50,7 @@ fn goes_on(
     number: u64,
     service: Service,
     outcome: Outcome,
-) -> Result<Turn<Plan, Verdict>, NoMemory>
+) -> Result<PlanTransition, NoMemory>
     ensures { IfOk result (λ turn. turn ≡ told_service ways number service outcome) }
 {
     match service {
@@ -64,7 +65,7 @@ fn goes_on(
 }
 
 /// It is over.
-pub fn over(alloc: Global) -> Result<Turn<Plan, Verdict>, NoMemory>
+pub fn over(alloc: Global) -> Result<PlanTransition, NoMemory>
     ensures { IfOk result (λ turn. turn ≡ is_over) }
 {
     done(alloc, Makes::Nothing)
@@ -76,7 +77,7 @@ fn in_resting(
     ways: Ways,
     number: u64,
     outcome: Outcome,
-) -> Result<Turn<Plan, Verdict>, NoMemory>
+) -> Result<PlanTransition, NoMemory>
     ensures { IfOk result (λ turn. turn ≡ in_resting ways number outcome) }
 {
     match outcome {
@@ -85,17 +86,17 @@ fn in_resting(
     }
 }
 
-fn hears(
-    alloc: Global,
-    ways: Ways,
-    number: u64,
-    word: Word,
-) -> Result<Turn<Plan, Verdict>, NoMemory>
+fn hears(alloc: Global, ways: Ways, number: u64, word: Word) -> Result<PlanTransition, NoMemory>
     ensures { IfOk result (λ turn. turn ≡ resting_hears ways number word) }
 {
     match word {
         Word::Due => Ok(takes_flow(ways, number)),
-        Word::Lost => Ok(stays(ways, number, Service::Recalling, Action::RecallConsumer)),
+        Word::Lost => Ok(stays(
+            ways,
+            number,
+            Service::Recalling,
+            Action::OfConsumer(ConsumerAsk::Recall),
+        )),
         Word::TopicEnded { link } => Ok(closes_on(ways, number, link)),
         Word::Over => over(alloc),
         Word::Numbered(_)
@@ -110,10 +111,15 @@ fn hears(
 }
 
 /// The next flow that is due is taken.
-fn takes_flow(ways: Ways, number: u64) -> Turn<Plan, Verdict>
+fn takes_flow(ways: Ways, number: u64) -> PlanTransition
     ensures { result ≡ takes_flow ways number }
 {
-    stays(ways, number, Service::Taking, Action::TakeFlow)
+    stays(
+        ways,
+        number,
+        Service::Taking,
+        Action::OfConsumer(ConsumerAsk::TakeFlow),
+    )
 }
 
 /// The flow that was taken is asked for.
@@ -122,7 +128,7 @@ fn in_taking(
     ways: Ways,
     number: u64,
     outcome: Outcome,
-) -> Result<Turn<Plan, Verdict>, NoMemory>
+) -> Result<PlanTransition, NoMemory>
     ensures { IfOk result (λ turn. turn ≡ in_taking ways number outcome) }
 {
     match outcome {
@@ -155,7 +161,7 @@ fn in_recalling(
     ways: Ways,
     number: u64,
     outcome: Outcome,
-) -> Result<Turn<Plan, Verdict>, NoMemory>
+) -> Result<PlanTransition, NoMemory>
     ensures { IfOk result (λ turn. turn ≡ in_recalling ways number outcome) }
 {
     match outcome {
@@ -174,7 +180,7 @@ fn in_resuming(
     number: u64,
     state: ResumeState,
     outcome: Outcome,
-) -> Result<Turn<Plan, Verdict>, NoMemory>
+) -> Result<PlanTransition, NoMemory>
     ensures { IfOk result (λ turn. turn ≡ in_resuming ways number state outcome) }
 {
     match outcome {
@@ -192,7 +198,7 @@ fn resumes(
     number: u64,
     state: Resubscribing,
     outcome: Outcome,
-) -> Result<Turn<Plan, Verdict>, NoMemory>
+) -> Result<PlanTransition, NoMemory>
     ensures { IfOk result (λ turn. turn ≡ resubscribes ways number state.command (meaning.resume_told ways state.command state.resuming (news_in outcome))) }
 {
     let Resubscribing { command, resuming } = state;
@@ -208,28 +214,28 @@ fn resubscribes(
     number: u64,
     command: Command,
     turn: Resumes,
-) -> Result<Turn<Plan, Verdict>, NoMemory>
+) -> Result<PlanTransition, NoMemory>
     ensures { IfOk result (λ t. t ≡ resubscribes ways number command turn) }
 {
     match turn {
-        SearchTurn::Stays(resuming, wish) => {
+        Transition::Stays(resuming, wish) => {
             let state = ResumeState::new(alloc, Resubscribing { command, resuming })?;
             let action = wished(alloc, wish)?;
             Ok(stays(ways, number, Service::Resuming(state), action))
         }
-        SearchTurn::Gives(Ok(link)) => {
-            let action = Action::Revive { link };
+        Transition::Gives(Ok(link)) => {
+            let action = Action::OfConsumer(ConsumerAsk::Revive { link });
             Ok(stays(ways, number, Service::Reviving { link }, action))
         }
-        SearchTurn::Gives(Err(refusal)) => {
-            let action = Action::FailConsumer(refusal);
+        Transition::Gives(Err(refusal)) => {
+            let action = Action::OfConsumer(ConsumerAsk::Fail(refusal));
             Ok(stays(ways, number, Service::Failing, action))
         }
     }
 }
 
 /// The new subscription is live, or the consumer has ended meanwhile.
-fn in_reviving(ways: Ways, number: u64, link: u64, outcome: Outcome) -> Turn<Plan, Verdict>
+fn in_reviving(ways: Ways, number: u64, link: u64, outcome: Outcome) -> PlanTransition
     ensures { result ≡ in_reviving ways number link outcome }
 {
     match outcome {
@@ -240,7 +246,7 @@ fn in_reviving(ways: Ways, number: u64, link: u64, outcome: Outcome) -> Turn<Pla
 }
 
 /// The subscription on this link is closed, and nobody waits for the answer.
-fn closes_on(ways: Ways, number: u64, link: u64) -> Turn<Plan, Verdict>
+fn closes_on(ways: Ways, number: u64, link: u64) -> PlanTransition
     ensures { result ≡ closes_on ways number link }
 {
     let request = Request::closing(number);
@@ -252,10 +258,10 @@ fn closes_on(ways: Ways, number: u64, link: u64) -> Turn<Plan, Verdict>
     )
 }
 
-fn stays(ways: Ways, number: u64, service: Service, action: Action) -> Turn<Plan, Verdict>
-    ensures { result ≡ Turn.Stays (Plan.Serving ways number service) action }
+fn stays(ways: Ways, number: u64, service: Service, action: Action) -> PlanTransition
+    ensures { result ≡ Transition.Stays (Plan.Serving ways number service) action }
 {
-    Turn::Stays(
+    Transition::Stays(
         Plan::Serving {
             ways,
             number,

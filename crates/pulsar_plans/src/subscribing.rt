@@ -5,24 +5,20 @@ ghost use Rattle.pulsar_consumer.specs.Plans as meaning;
 ghost use Rattle.pulsar_calls.specs.Content.{Done};
 ghost use Rattle.pulsar_plans.specs.Plan.{consumer_news_of, consumer_of, in_subscribing, news_by, subscribes, subscribing_does, told_subscribing, verdict};
 
-use crate::plan::{Plan, Turn, done, error_of, fails, left, overrides};
+use crate::plan::{Plan, PlanTransition, done, error_of, fails, left, overrides};
 use crate::search::{news_in, wished};
 use crate::states::ConsumerState;
 use pulsar_calls::act::{Action, Makes, Outcome, Verdict, Word};
 use pulsar_calls::content::{Joined, Joining};
 use pulsar_consumer::building::{self, BuildingConsumer, Builds, Built, Deed, News};
 use pulsar_incoming::orders::ConsumerOrder;
-use pulsar_searches::closing::Step;
+use pulsar_searches::transition::Transition;
 use pulsar_searches::turn::Ways;
 use pulsar_wire::error::NoMemory;
 use std::alloc::Global;
 
 /// A building begins.
-pub fn begins(
-    alloc: Global,
-    ways: Ways,
-    order: ConsumerOrder,
-) -> Result<Turn<Plan, Verdict>, NoMemory>
+pub fn begins(alloc: Global, ways: Ways, order: ConsumerOrder) -> Result<PlanTransition, NoMemory>
     ensures { IfOk result (λ turn. turn ≡ subscribes ways order (meaning.build_begins ways order)) }
 {
     let step = building::begins(alloc, &ways, &order)?;
@@ -36,7 +32,7 @@ pub fn told(
     order: ConsumerOrder,
     building: ConsumerState,
     outcome: Outcome,
-) -> Result<Turn<Plan, Verdict>, NoMemory>
+) -> Result<PlanTransition, NoMemory>
     ensures { IfOk result (λ turn. turn ≡ told_subscribing ways order building outcome) }
 {
     if overrides(&outcome) {
@@ -54,7 +50,7 @@ fn tells(
     order: ConsumerOrder,
     building: ConsumerState,
     news: Option<News>,
-) -> Result<Turn<Plan, Verdict>, NoMemory>
+) -> Result<PlanTransition, NoMemory>
     ensures { IfOk result (λ turn. turn ≡ in_subscribing ways order building news) }
 {
     match news {
@@ -62,7 +58,7 @@ fn tells(
             let step = building::told(alloc, &ways, &order, building.into_inner(), news)?;
             goes(alloc, ways, order, step)
         }
-        None => Ok(Turn::Stays(
+        None => Ok(Transition::Stays(
             Plan::Subscribing {
                 ways,
                 order,
@@ -79,13 +75,13 @@ fn goes(
     ways: Ways,
     order: ConsumerOrder,
     step: Builds,
-) -> Result<Turn<Plan, Verdict>, NoMemory>
+) -> Result<PlanTransition, NoMemory>
     ensures { IfOk result (λ turn. turn ≡ subscribes ways order step) }
 {
     match step {
-        Step::Stays(building, deed) => stays(alloc, ways, order, building, deed),
-        Step::Gives(Ok(built)) => made(alloc, order, built),
-        Step::Gives(Err(refusal)) => left(alloc, refusal),
+        Transition::Stays(building, deed) => stays(alloc, ways, order, building, deed),
+        Transition::Gives(Ok(built)) => made(alloc, order, built),
+        Transition::Gives(Err(refusal)) => left(alloc, refusal),
     }
 }
 
@@ -96,12 +92,12 @@ fn stays(
     order: ConsumerOrder,
     building: BuildingConsumer,
     deed: Deed,
-) -> Result<Turn<Plan, Verdict>, NoMemory>
-    ensures { IfOk result (λ turn. turn ≡ subscribes ways order (Step.Stays building deed)) }
+) -> Result<PlanTransition, NoMemory>
+    ensures { IfOk result (λ turn. turn ≡ subscribes ways order (Transition.Stays building deed)) }
 {
     let building = ConsumerState::new(alloc, building)?;
     let action = action_of(alloc, deed)?;
-    Ok(Turn::Stays(
+    Ok(Transition::Stays(
         Plan::Subscribing {
             ways,
             order,
@@ -112,8 +108,8 @@ fn stays(
 }
 
 /// A consumer was built.
-fn made(alloc: Global, order: ConsumerOrder, built: Built) -> Result<Turn<Plan, Verdict>, NoMemory>
-    ensures { IfOk result (λ turn. turn ≡ Turn.Gives (verdict (consumer_of order built) Done)) }
+fn made(alloc: Global, order: ConsumerOrder, built: Built) -> Result<PlanTransition, NoMemory>
+    ensures { IfOk result (λ turn. turn ≡ Transition.Gives (verdict (consumer_of order built) Done)) }
 {
     let ConsumerOrder { topic: _, config } = order;
     let Built {

@@ -7,7 +7,7 @@ ghost use Rattle.pulsar_plans.specs.Plan.{asks_of, failure_in, fails_in, goes_ro
 ghost use Rattle.pulsar_plans.specs.declared.plan.Plan.TheVariants.{Shutting, Visiting};
 
 use crate::answers;
-use crate::plan::{At, Plan, Turn, done, error_of, fails, left, of_topic, overrides};
+use crate::plan::{At, Plan, PlanTransition, done, error_of, fails, left, of_topic, overrides};
 use crate::producing::closes;
 use pulsar_addresses::content::Refusal;
 use pulsar_calls::act::{Action, Makes, Outcome, Round, TopicAsk, Verdict};
@@ -16,12 +16,13 @@ use pulsar_exchange::content::{Received, Request};
 use pulsar_exchange::raw_call::RawCall;
 use pulsar_outgoing::failing::in_producer;
 use pulsar_producer::deed::{News, error_told};
+use pulsar_searches::transition::Transition;
 use pulsar_wire::bodies;
 use pulsar_wire::error::{ConnectionError, NoMemory};
 use std::alloc::Global;
 
 /// The next of those that are left.
-pub fn next(alloc: Global, round: Round, mut left: Numbers) -> Result<Turn<Plan, Verdict>, NoMemory>
+pub fn next(alloc: Global, round: Round, mut left: Numbers) -> Result<PlanTransition, NoMemory>
     ensures { IfOk result (λ turn. turn ≡ goes_round round left) }
 {
     match left.next() {
@@ -31,7 +32,7 @@ pub fn next(alloc: Global, round: Round, mut left: Numbers) -> Result<Turn<Plan,
 }
 
 /// What a topic producer stores is settled before it is closed, and before its flush is done.
-fn visits(round: Round, number: u64, left: Numbers) -> Turn<Plan, Verdict>
+fn visits(round: Round, number: u64, left: Numbers) -> PlanTransition
     ensures { result ≡ visits round number left }
 {
     match round {
@@ -43,18 +44,14 @@ fn visits(round: Round, number: u64, left: Numbers) -> Turn<Plan, Verdict>
 }
 
 /// It asks this of the topic producer.
-fn asks_it(round: Round, number: u64, left: Numbers, at: At, ask: TopicAsk) -> Turn<Plan, Verdict>
+fn asks_it(round: Round, number: u64, left: Numbers, at: At, ask: TopicAsk) -> PlanTransition
     ensures { result ≡ stays_at round number left at (Action.OfTopic number ask) }
 {
     stays(round, number, left, at, of_topic(number, ask))
 }
 
 /// The producer takes no sends any more.
-pub fn shut(
-    alloc: Global,
-    numbers: Numbers,
-    outcome: Outcome,
-) -> Result<Turn<Plan, Verdict>, NoMemory>
+pub fn shut(alloc: Global, numbers: Numbers, outcome: Outcome) -> Result<PlanTransition, NoMemory>
     ensures { IfOk result (λ turn. turn ≡ told (Shutting numbers) outcome) }
 {
     match outcome {
@@ -63,7 +60,7 @@ pub fn shut(
     }
 }
 
-fn is_shut(alloc: Global, numbers: Numbers, news: News) -> Result<Turn<Plan, Verdict>, NoMemory>
+fn is_shut(alloc: Global, numbers: Numbers, news: News) -> Result<PlanTransition, NoMemory>
     ensures { IfOk result (λ turn. turn ≡ told (Shutting numbers) (Outcome.Granted news)) }
 {
     match news {
@@ -80,7 +77,7 @@ pub fn told(
     left: Numbers,
     at: At,
     outcome: Outcome,
-) -> Result<Turn<Plan, Verdict>, NoMemory>
+) -> Result<PlanTransition, NoMemory>
     ensures { IfOk result (λ turn. turn ≡ told (Visiting round number left at) outcome) }
 {
     if overrides(&outcome) {
@@ -97,7 +94,7 @@ fn goes_on(
     left: Numbers,
     at: At,
     outcome: Outcome,
-) -> Result<Turn<Plan, Verdict>, NoMemory>
+) -> Result<PlanTransition, NoMemory>
     ensures { IfOk result (λ turn. turn ≡ told_at round number left at outcome) }
 {
     match at {
@@ -117,7 +114,7 @@ fn in_settling(
     number: u64,
     left: Numbers,
     outcome: Outcome,
-) -> Result<Turn<Plan, Verdict>, NoMemory>
+) -> Result<PlanTransition, NoMemory>
     ensures { IfOk result (λ turn. turn ≡ in_settling round number left outcome) }
 {
     match outcome {
@@ -132,7 +129,7 @@ fn settled(
     number: u64,
     left: Numbers,
     news: News,
-) -> Result<Turn<Plan, Verdict>, NoMemory>
+) -> Result<PlanTransition, NoMemory>
     ensures { IfOk result (λ turn. turn ≡ in_settling round number left (Outcome.Granted news)) }
 {
     match news {
@@ -146,7 +143,7 @@ fn is_settled(
     round: Round,
     number: u64,
     left: Numbers,
-) -> Result<Turn<Plan, Verdict>, NoMemory>
+) -> Result<PlanTransition, NoMemory>
     ensures { IfOk result (λ turn. turn ≡ is_settled round number left) }
 {
     match round {
@@ -164,7 +161,7 @@ fn in_turning(
     number: u64,
     left: Numbers,
     outcome: Outcome,
-) -> Result<Turn<Plan, Verdict>, NoMemory>
+) -> Result<PlanTransition, NoMemory>
     ensures { IfOk result (λ turn. turn ≡ in_turning round number left outcome) }
 {
     match outcome {
@@ -179,7 +176,7 @@ fn turned(
     number: u64,
     left: Numbers,
     news: News,
-) -> Result<Turn<Plan, Verdict>, NoMemory>
+) -> Result<PlanTransition, NoMemory>
     ensures { IfOk result (λ turn. turn ≡ in_turning round number left (Outcome.Granted news)) }
 {
     match news {
@@ -195,7 +192,7 @@ fn in_passing(
     number: u64,
     left: Numbers,
     outcome: Outcome,
-) -> Result<Turn<Plan, Verdict>, NoMemory>
+) -> Result<PlanTransition, NoMemory>
     ensures { IfOk result (λ turn. turn ≡ in_passing round number left outcome) }
 {
     match outcome {
@@ -210,7 +207,7 @@ fn passed(
     number: u64,
     left: Numbers,
     news: News,
-) -> Result<Turn<Plan, Verdict>, NoMemory>
+) -> Result<PlanTransition, NoMemory>
     ensures { IfOk result (λ turn. turn ≡ in_passing round number left (Outcome.Granted news)) }
 {
     match news {
@@ -226,7 +223,7 @@ fn in_finding(
     number: u64,
     left: Numbers,
     outcome: Outcome,
-) -> Result<Turn<Plan, Verdict>, NoMemory>
+) -> Result<PlanTransition, NoMemory>
     ensures { IfOk result (λ turn. turn ≡ in_finding round number left outcome) }
 {
     match outcome {
@@ -246,7 +243,7 @@ fn in_asking(
     number: u64,
     left: Numbers,
     outcome: Outcome,
-) -> Result<Turn<Plan, Verdict>, NoMemory>
+) -> Result<PlanTransition, NoMemory>
     ensures { IfOk result (λ turn. turn ≡ in_asking round number left outcome) }
 {
     match outcome {
@@ -264,7 +261,7 @@ fn in_awaiting(
     number: u64,
     left: Numbers,
     outcome: Outcome,
-) -> Result<Turn<Plan, Verdict>, NoMemory>
+) -> Result<PlanTransition, NoMemory>
     ensures { IfOk result (λ turn. turn ≡ in_awaiting round number left outcome) }
 {
     match outcome {
@@ -279,7 +276,7 @@ fn replied(
     round: Round,
     left: Numbers,
     reply: Received,
-) -> Result<Turn<Plan, Verdict>, NoMemory>
+) -> Result<PlanTransition, NoMemory>
     ensures { IfOk result (λ turn. (n : _) → turn ≡ in_awaiting round n left (Outcome.Replied reply)) }
 {
     if answers::is_answer(body_of(round), &reply) {
@@ -295,18 +292,14 @@ fn quits(
     round: Round,
     number: u64,
     error: ConnectionError,
-) -> Result<Turn<Plan, Verdict>, NoMemory>
+) -> Result<PlanTransition, NoMemory>
     ensures { IfOk result (λ turn. turn ≡ quits round number (fault error)) }
 {
     let refusal = refusal_of(alloc, round, error)?;
-    Ok(Turn::Stays(Plan::Leaving(refusal), of_topic(number, TopicAsk::PassTurn)))
+    Ok(Transition::Stays(Plan::Leaving(refusal), of_topic(number, TopicAsk::PassTurn)))
 }
 
-fn failed(
-    alloc: Global,
-    round: Round,
-    error: ConnectionError,
-) -> Result<Turn<Plan, Verdict>, NoMemory>
+fn failed(alloc: Global, round: Round, error: ConnectionError) -> Result<PlanTransition, NoMemory>
     ensures { IfOk result (λ turn. turn ≡ fails_in round (fault error)) }
 {
     left(alloc, refusal_of(alloc, round, error)?)
@@ -342,10 +335,10 @@ fn body_of(round: Round) -> u32
     }
 }
 
-fn stays(round: Round, number: u64, left: Numbers, at: At, action: Action) -> Turn<Plan, Verdict>
+fn stays(round: Round, number: u64, left: Numbers, at: At, action: Action) -> PlanTransition
     ensures { result ≡ stays_at round number left at action }
 {
-    Turn::Stays(
+    Transition::Stays(
         Plan::Visiting {
             round,
             number,

@@ -5,6 +5,7 @@ pub mod Routes
 pub mod Sends
 pub mod Storages
 pub mod Telling
+pub mod Tickets
 pub mod Turns
 pub mod Untouched
 pub mod Arcs

@@ -28,6 +28,10 @@ next_after Cuts v = (cuts_keeps v).0 ∙ sym (add-zero v.next)
 next_after TakesBatch v = (takes_batch_keeps v.cut v).0 ∙ sym (add-zero v.next)
 next_after Halts v = sym (add-zero v.next)
 
+-- so it never gets less
+pub next_rises : (act : Act) (v : Seen) → v.next ≤ (after act v).next
+next_rises act v = let one = next_after act v in omega (arith, one)
+
 next_of : (s : Setup) (h : List Act) → (seen s h).next ≡ s.first_number + draws_of s h
 next_of s [] = sym (add-zero s.first_number)
 next_of s (act ∷ h) =
@@ -39,7 +43,7 @@ grows : (s : Setup) (later h : List Act) → (seen s h).next ≤ (seen s (later 
 grows s [] h = omega arith
 grows s (act ∷ later) h =
     let all = grows s later h in
-    let one = next_after act (seen s (later ++ h)) in
+    let one = next_rises act (seen s (later ++ h)) in
     omega (arith, all, one)
 
 drawn_by : (b : Bool) (v : Seen) (n : ℕ) → is_spent v.next ≡ b → cond b None (Some v.next) ≡ Some n → (is_spent v.next ≡ false) × (v.next ≡ n)

@@ -10,8 +10,6 @@ use Rattle.pulsar_searches.specs.declared.look.Looking.{Looking}
 use Rattle.pulsar_searches.specs.declared.making.Command.{Command}
 use Rattle.pulsar_searches.specs.declared.making.Making.{Making}
 use Rattle.pulsar_searches.specs.declared.making.Served.{Served}
-use Rattle.pulsar_searches.specs.declared.turn.Turn.{Turn}
-use Rattle.pulsar_searches.specs.declared.turn.Turn.TheVariants as turn
 use Rattle.pulsar_searches.specs.declared.turn.Ways.{Ways}
 use Rattle.pulsar_outgoing.specs.Errors.{in_producer}
 use Rattle.pulsar_producer.specs.Plans.{fault_told, in_asked, in_drawing, in_looking, in_making, in_recalling, in_remaking, in_sent, in_waiting, not_drawn, not_queued, receipt, send_asks, send_ends, send_looks, send_makes, send_of, send_recalls, send_told}
@@ -24,6 +22,8 @@ use Rattle.pulsar_producer.specs.declared.deed.Send.{Send}
 use Rattle.pulsar_outgoing.specs.declared.orders.Errand.{Errand}
 use Rattle.pulsar_producer.specs.declared.sending.Sending.{Sending}
 use Rattle.pulsar_producer.specs.declared.sending.Sending.TheVariants as send
+use Rattle.pulsar_searches.specs.declared.transition.Transition.TheVariants as transition
+use Rattle.pulsar_searches.specs.Transitions.{SearchTransition}
 
 -- WHAT ASKS FOR NO FRAME
 
@@ -43,20 +43,23 @@ receipt_none : (r : Result Reply Fault) (link : ℕ) (s : Send) → deeds_in (re
 receipt_none (Ok r) link s is = cc
 receipt_none (Err f) link s is = cc
 
-makes_none : (e : Errand) (m : ProducerMessageValues) (c : Command) (t : Turn Making (Result Served Failure)) (link : ℕ) (s : Send) → deeds_in (send_makes e m c t) ≡ Sends link s ∷ [] → ⊥
-makes_none e m c (turn.Stays k action) link s is = cc
-makes_none e m c (turn.Gives (Ok served)) link s is = cc
-makes_none e m c (turn.Gives (Err f)) link s is = cc
+makes_none : (e : Errand) (m : ProducerMessageValues) (c : Command) (t : SearchTransition Making (Result Served Failure)) (link : ℕ) (s : Send) →
+    deeds_in (send_makes e m c t) ≡ Sends link s ∷ [] → ⊥
+makes_none e m c (transition.Stays k action) link s is = cc
+makes_none e m c (transition.Gives (Ok served)) link s is = cc
+makes_none e m c (transition.Gives (Err f)) link s is = cc
 
-looks_none : (e : Errand) (m : ProducerMessageValues) (c : Command) (t : Turn Looking (Result Place Failure)) (link : ℕ) (s : Send) → deeds_in (send_looks e m c t) ≡ Sends link s ∷ [] → ⊥
-looks_none e m c (turn.Stays l action) link s is = cc
-looks_none e m c (turn.Gives (Ok place)) link s is = makes_none e m c (made_gets 0 place) link s is
-looks_none e m c (turn.Gives (Err f)) link s is = cc
+looks_none : (e : Errand) (m : ProducerMessageValues) (c : Command) (t : SearchTransition Looking (Result Place Failure)) (link : ℕ) (s : Send) →
+    deeds_in (send_looks e m c t) ≡ Sends link s ∷ [] → ⊥
+looks_none e m c (transition.Stays l action) link s is = cc
+looks_none e m c (transition.Gives (Ok place)) link s is = makes_none e m c (made_gets 0 place) link s is
+looks_none e m c (transition.Gives (Err f)) link s is = cc
 
 -- EACH FRAME
 
 frame_of : (e : Errand) (d : Drawn) (m : ProducerMessageValues) (link : ℕ) (s : Send) → deeds_in (send_asks e d m) ≡ Sends link s ∷ []
-    → (d' : Drawn) × (m' : ProducerMessageValues) × (◌≡◌ {A = News} (Drew d) (Drew d')) × (send.Drawing m ≡ send.Drawing m') × (link ≡ d'.link) × (s ≡ send_of e d' m')
+    →
+    (d' : Drawn) × (m' : ProducerMessageValues) × (◌≡◌ {A = News} (Drew d) (Drew d')) × (send.Drawing m ≡ send.Drawing m') × (link ≡ d'.link) × (s ≡ send_of e d' m')
 frame_of e d m link s is = (d, m, refl, refl, cc, cc)
 
 in_waiting_none : (e : Errand) (m : ProducerMessageValues) (n : News) (link : ℕ) (s : Send) → deeds_in (in_waiting e m n) ≡ Sends link s ∷ [] → ⊥
@@ -95,7 +98,8 @@ in_sent_none Ready link s is = cc
 in_sent_none (HasBatch items) link s is = cc
 in_sent_none Done link s is = cc
 
-in_recalling_none : (w : Ways) (e : Errand) (m : ProducerMessageValues) (n : News) (link : ℕ) (s : Send) → deeds_in (in_recalling w e m n) ≡ Sends link s ∷ [] → ⊥
+in_recalling_none : (w : Ways) (e : Errand) (m : ProducerMessageValues) (n : News) (link : ℕ) (s : Send) →
+    deeds_in (in_recalling w e m n) ≡ Sends link s ∷ [] → ⊥
 in_recalling_none w e m (Told o) link s is = cc
 in_recalling_none w e m Queued link s is = cc
 in_recalling_none w e m InLine link s is = cc
@@ -107,7 +111,8 @@ in_recalling_none w e m Ready link s is = cc
 in_recalling_none w e m (HasBatch items) link s is = cc
 in_recalling_none w e m Done link s is = cc
 
-in_looking_none : (w : Ways) (e : Errand) (m : ProducerMessageValues) (c : Command) (l : Looking) (n : News) (link : ℕ) (s : Send) → deeds_in (in_looking w e m c l n) ≡ Sends link s ∷ [] → ⊥
+in_looking_none : (w : Ways) (e : Errand) (m : ProducerMessageValues) (c : Command) (l : Looking) (n : News) (link : ℕ) (s : Send) →
+    deeds_in (in_looking w e m c l n) ≡ Sends link s ∷ [] → ⊥
 in_looking_none w e m c l (Told o) link s is = looks_none e m c (look_told w c.topic l o) link s is
 in_looking_none w e m c l Queued link s is = cc
 in_looking_none w e m c l InLine link s is = cc
@@ -119,7 +124,8 @@ in_looking_none w e m c l Ready link s is = cc
 in_looking_none w e m c l (HasBatch items) link s is = cc
 in_looking_none w e m c l Done link s is = cc
 
-in_making_none : (w : Ways) (e : Errand) (m : ProducerMessageValues) (c : Command) (k : Making) (n : News) (link : ℕ) (s : Send) → deeds_in (in_making w e m c k n) ≡ Sends link s ∷ [] → ⊥
+in_making_none : (w : Ways) (e : Errand) (m : ProducerMessageValues) (c : Command) (k : Making) (n : News) (link : ℕ) (s : Send) →
+    deeds_in (in_making w e m c k n) ≡ Sends link s ∷ [] → ⊥
 in_making_none w e m c k (Told o) link s is = makes_none e m c (made_told w c k o) link s is
 in_making_none w e m c k Queued link s is = cc
 in_making_none w e m c k InLine link s is = cc

@@ -14,8 +14,6 @@ use Rattle.pulsar_searches.specs.declared.look.Looking.{Looking}
 use Rattle.pulsar_searches.specs.declared.making.Command.{Command}
 use Rattle.pulsar_searches.specs.declared.making.Making.{Making}
 use Rattle.pulsar_searches.specs.declared.making.Served.{Served}
-use Rattle.pulsar_searches.specs.declared.turn.Turn.{Turn}
-use Rattle.pulsar_searches.specs.declared.turn.Turn.TheVariants as turn
 use Rattle.pulsar_searches.specs.declared.turn.Ways.{Ways}
 use Rattle.pulsar_outgoing.specs.Batch.{batch_of, cut_report, entries_in, member_of, report_at, reports_from}
 use Rattle.pulsar_producer.specs.Batching.{begins, cuts_off, is_sent_send, sends, sends_batch, settles, starts_with, told}
@@ -34,11 +32,12 @@ use Rattle.pulsar_producer.specs.declared.batching.Batching.TheVariants.{Resting
 use Rattle.pulsar_producer.specs.declared.deed.Deed.TheVariants as deed
 use Rattle.pulsar_producer.specs.News.{News}
 use Rattle.pulsar_outgoing.specs.declared.news.News.TheVariants.{Told, Queued, InLine, HasTurn, Drew, Recalled, Numbered, Ready, HasBatch, Done}
-use Rattle.pulsar_producer.specs.declared.deed.Step.TheVariants.{Stays, Gives}
 use Rattle.pulsar_outgoing.specs.declared.orders.Errand.{Errand}
 use Rattle.pulsar_producer.specs.declared.sending.Sending.{Sending as Send}
 use Rattle.pulsar_producer.specs.declared.sending.Sending.TheVariants as send
 use Rattle.pulsar_producer.proofs.Cutting.{batches_in_order, items_in_order, joined_append, joined_one}
+use Rattle.pulsar_searches.specs.declared.transition.Transition.TheVariants.{Stays, Gives}
+use Rattle.pulsar_searches.specs.Transitions.{SearchTransition}
 
 -- EACH HAS ITS REPORT
 
@@ -89,15 +88,15 @@ receipt_silent : (r : Result Reply Fault) → Silent (receipt r)
 receipt_silent (Ok r) = tt
 receipt_silent (Err f) = tt
 
-makes_silent : (e : Errand) (m : ProducerMessageValues) (c : Command) (t : Turn Making (Result Served Failure)) → Silent (send_makes e m c t)
-makes_silent e m c (turn.Stays k action) = (refl, λ number is. cc)
-makes_silent e m c (turn.Gives (Ok served)) = (refl, λ number is. cc)
-makes_silent e m c (turn.Gives (Err f)) = ends_silent e f
+makes_silent : (e : Errand) (m : ProducerMessageValues) (c : Command) (t : SearchTransition Making (Result Served Failure)) → Silent (send_makes e m c t)
+makes_silent e m c (Stays k action) = (refl, λ number is. cc)
+makes_silent e m c (Gives (Ok served)) = (refl, λ number is. cc)
+makes_silent e m c (Gives (Err f)) = ends_silent e f
 
-looks_silent : (e : Errand) (m : ProducerMessageValues) (c : Command) (t : Turn Looking (Result Place Failure)) → Silent (send_looks e m c t)
-looks_silent e m c (turn.Stays l action) = (refl, λ number is. cc)
-looks_silent e m c (turn.Gives (Ok place)) = makes_silent e m c (made_gets 0 place)
-looks_silent e m c (turn.Gives (Err f)) = ends_silent e f
+looks_silent : (e : Errand) (m : ProducerMessageValues) (c : Command) (t : SearchTransition Looking (Result Place Failure)) → Silent (send_looks e m c t)
+looks_silent e m c (Stays l action) = (refl, λ number is. cc)
+looks_silent e m c (Gives (Ok place)) = makes_silent e m c (made_gets 0 place)
+looks_silent e m c (Gives (Err f)) = ends_silent e f
 
 waiting_silent : (e : Errand) (m : ProducerMessageValues) (n : News) → Silent (in_waiting e m n)
 waiting_silent e m (HasTurn version) = (refl, λ number is. cc)
@@ -174,7 +173,8 @@ batch_step : (e : Errand) (ms : List Member) (count : ℕ) (r : Result ProducerM
 batch_step e ms count (Ok m) = sends_step ms count (send_begins e m) (refl, λ number is. cc)
 batch_step e ms count (Err r) = settles_step ms count _
 
-starts_step : (e : Errand) (ms : List Member) (es : List EntryValues) → map ticket_in ms ≡ told_by (starts_with e ms es).deed ++ under_way (starts_with e ms es).state
+starts_step : (e : Errand) (ms : List Member) (es : List EntryValues) →
+    map ticket_in ms ≡ told_by (starts_with e ms es).deed ++ under_way (starts_with e ms es).state
 starts_step e ms [] = settles_step ms 0 fate.Flushed
 starts_step e ms (x ∷ xs) = batch_step e ms _ (batch_of (x ∷ xs))
 
@@ -217,7 +217,8 @@ cut_tickets : (ms : List Member) → map (λ r. r.ticket) (map cut_report ms) �
 cut_tickets [] = refl
 cut_tickets (m ∷ ms) = ap (λ t. t ∷ map (λ r. r.ticket) (map cut_report ms)) (cut_ticket m) ∙ ap (λ ts. ticket_in m ∷ ts) (cut_tickets ms)
 
-halt_step : (is_sent : Bool) (ms : List Member) (count : ℕ) → (told_by (cuts_off is_sent ms count).deed ≡ map ticket_in ms) × (under_way (cuts_off is_sent ms count).state ≡ [])
+halt_step : (is_sent : Bool) (ms : List Member) (count : ℕ) →
+    (told_by (cuts_off is_sent ms count).deed ≡ map ticket_in ms) × (under_way (cuts_off is_sent ms count).state ≡ [])
 halt_step true ms count = (cut_tickets ms, refl)
 halt_step false ms count = (each_has_its_report count fate.Halted ms, refl)
 

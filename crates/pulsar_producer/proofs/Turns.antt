@@ -11,7 +11,40 @@ use Rattle.pulsar_messages.specs.Claims.{is_spent}
 use Rattle.pulsar_outgoing.specs.Storage.{SingleMessage}
 use Rattle.pulsar_producer.specs.Topic.{Act, Takes, Passes, Draws, Remakes, Closes, Stores, Flushes, Cuts, TakesBatch, Halts, Seen, Setup, after, first_of, is_free, rest_of, seen, takes_in}
 use Rattle.pulsar_producer.specs.Laws.{AreAbove, LowestIsNext, NobodyWaitsForFree, OneAtATime, WaitsInLine, gives_turn, is_listed, keeps, turn_if}
-use Rattle.pulsar_producer.proofs.Untouched.{KeepsTurns, stores_keeps, flushes_keeps, cuts_keeps, takes_batch_keeps}
+use Rattle.pulsar_producer.proofs.Untouched.{stores_keeps, flushes_keeps, cuts_keeps, takes_batch_keeps}
+
+-- THE TURN STAYS, and those that wait for it, but where it is taken or passed on
+
+abbrev pub leaves_turn : Act → Bool
+leaves_turn (Takes t) = false
+leaves_turn Passes = false
+leaves_turn Draws = true
+leaves_turn (Remakes l g) = true
+leaves_turn Closes = true
+leaves_turn (Stores t e) = true
+leaves_turn (Flushes t) = true
+leaves_turn Cuts = true
+leaves_turn TakesBatch = true
+leaves_turn Halts = true
+
+abbrev pub SameTurn : Seen → Seen → Type 0
+SameTurn v w = (w.holder ≡ v.holder) × (w.waiting ≡ v.waiting)
+
+draws_stays : (b : Bool) (v w : Seen) → SameTurn v w → SameTurn v (cond b v w)
+draws_stays true v w k = (refl, refl)
+draws_stays false v w k = k
+
+pub turn_stays : (act : Act) (v : Seen) → leaves_turn act ≡ true → SameTurn v (after act v)
+turn_stays (Takes t) v h = absurd cc
+turn_stays Passes v h = absurd cc
+turn_stays Draws v h = draws_stays (is_spent v.next) v _ (refl, refl)
+turn_stays (Remakes l g) v h = (refl, refl)
+turn_stays Closes v h = (refl, refl)
+turn_stays (Stores t e) v h = let k = stores_keeps (SingleMessage t e) v in (k.1, k.2)
+turn_stays (Flushes t) v h = let k = flushes_keeps t v in (k.1, k.2)
+turn_stays Cuts v h = let k = cuts_keeps v in (k.1, k.2)
+turn_stays TakesBatch v h = let k = takes_batch_keeps v.cut v in (k.1, k.2)
+turn_stays Halts v h = (refl, refl)
 
 -- THE WAITING TICKETS RISE
 
@@ -50,21 +83,10 @@ takes_rises : (o : Option ℕ) (t : ℕ) (v : Seen) → Rises v.waiting → Rise
 takes_rises None t v all = all
 takes_rises (Some other) t v all = rises_insert t v.waiting all
 
-draws_same : (b : Bool) (v w : Seen) → w.waiting ≡ v.waiting → (cond b v w).waiting ≡ v.waiting
-draws_same true v w e = refl
-draws_same false v w e = e
-
 rises_after : (act : Act) (v : Seen) → Rises v.waiting → Rises (after act v).waiting
 rises_after (Takes t) v all = takes_rises v.holder t v all
 rises_after Passes v all = rises_rest v.waiting all
-rises_after Draws v all = subst Rises (sym (draws_same (is_spent v.next) v _ refl)) all
-rises_after (Remakes l g) v all = all
-rises_after Closes v all = all
-rises_after (Stores u m) v all = subst Rises (sym (stores_keeps (SingleMessage u m) v).2) all
-rises_after (Flushes u) v all = subst Rises (sym (flushes_keeps u v).2) all
-rises_after Cuts v all = subst Rises (sym (cuts_keeps v).2) all
-rises_after TakesBatch v all = subst Rises (sym (takes_batch_keeps v.cut v).2) all
-rises_after Halts v all = all
+rises_after act v all = subst Rises (sym (turn_stays act v refl).1) all
 
 rises : (s : Setup) (h : List Act) → Rises (seen s h).waiting
 rises s [] = tt
@@ -106,21 +128,10 @@ takes_keeps : (o : Option ℕ) (u t : ℕ) (v : Seen) → o ≡ Some t → v.hol
 takes_keeps None u t v e f = absurd cc
 takes_keeps (Some other) u t v e f = f
 
-draws_holder : (b : Bool) (v w : Seen) → w.holder ≡ v.holder → (cond b v w).holder ≡ v.holder
-draws_holder true v w e = refl
-draws_holder false v w e = e
-
 keeps_holder : (act : Act) (v : Seen) (t : ℕ) → keeps act ≡ true → v.holder ≡ Some t → (after act v).holder ≡ Some t
 keeps_holder (Takes u) v t k e = takes_keeps v.holder u t v e e
 keeps_holder Passes v t k e = absurd cc
-keeps_holder Draws v t k e = draws_holder (is_spent v.next) v _ refl ∙ e
-keeps_holder (Remakes l g) v t k e = e
-keeps_holder Closes v t k e = e
-keeps_holder (Stores u m) v t k e = (stores_keeps (SingleMessage u m) v).1 ∙ e
-keeps_holder (Flushes u) v t k e = (flushes_keeps u v).1 ∙ e
-keeps_holder Cuts v t k e = (cuts_keeps v).1 ∙ e
-keeps_holder TakesBatch v t k e = (takes_batch_keeps v.cut v).1 ∙ e
-keeps_holder Halts v t k e = e
+keeps_holder act v t k e = (turn_stays act v refl).0 ∙ e
 
 not_given : (o : Option ℕ) (u t : ℕ) → o ≡ Some t → turn_if o u ≡ None
 not_given None u t e = absurd cc
@@ -129,14 +140,7 @@ not_given (Some other) u t e = refl
 gives_none : (act : Act) (v : Seen) (t : ℕ) → keeps act ≡ true → v.holder ≡ Some t → gives_turn act v ≡ None
 gives_none (Takes u) v t k e = not_given v.holder u t e
 gives_none Passes v t k e = absurd cc
-gives_none Draws v t k e = refl
-gives_none (Remakes l g) v t k e = refl
-gives_none Closes v t k e = refl
-gives_none (Stores u m) v t k e = refl
-gives_none (Flushes u) v t k e = refl
-gives_none Cuts v t k e = refl
-gives_none TakesBatch v t k e = refl
-gives_none Halts v t k e = refl
+gives_none act v t k e = refl
 
 both : (a b : Bool) → (a && b) ≡ true → (a ≡ true) × (b ≡ true)
 both true b e = (refl, e)
@@ -162,24 +166,10 @@ passes_free : (ts : List ℕ) → is_none (first_of ts) ≡ true → rest_of ts 
 passes_free [] e = refl
 passes_free (t ∷ ts) e = absurd cc
 
-draws_free : (b : Bool) (v w : Seen) → w.holder ≡ v.holder → w.waiting ≡ v.waiting → (is_none v.holder ≡ true → v.waiting ≡ []) → is_none (cond b v w).holder ≡ true → (cond b v w).waiting ≡ []
-draws_free true v w e f all free = all free
-draws_free false v w e f all free = f ∙ all (ap is_none (sym e) ∙ free)
-
-still_free : (v w : Seen) → KeepsTurns v w → (is_free v ≡ true → v.waiting ≡ []) → is_free w ≡ true → w.waiting ≡ []
-still_free v w k all free = k.2 ∙ all (ap is_none (sym k.1) ∙ free)
-
 free_after : (act : Act) (v : Seen) → (is_free v ≡ true → v.waiting ≡ []) → is_free (after act v) ≡ true → (after act v).waiting ≡ []
 free_after (Takes t) v all free = takes_free v.holder t v refl free
 free_after Passes v all free = passes_free v.waiting free
-free_after Draws v all free = draws_free (is_spent v.next) v _ refl refl all free
-free_after (Remakes l g) v all free = all free
-free_after Closes v all free = all free
-free_after (Stores u m) v all free = still_free v (after (Stores u m) v) (stores_keeps (SingleMessage u m) v) all free
-free_after (Flushes u) v all free = still_free v (after (Flushes u) v) (flushes_keeps u v) all free
-free_after Cuts v all free = still_free v (after Cuts v) (cuts_keeps v) all free
-free_after TakesBatch v all free = still_free v (after TakesBatch v) (takes_batch_keeps v.cut v) all free
-free_after Halts v all free = all free
+free_after act v all free = let k = turn_stays act v refl in k.1 ∙ all (ap is_none (sym k.0) ∙ free)
 
 pub nobody_waits_for_free : NobodyWaitsForFree
 nobody_waits_for_free s [] free = refl

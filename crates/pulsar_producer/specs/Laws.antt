@@ -15,10 +15,10 @@ use Rattle.pulsar_outgoing.specs.declared.news.Drawn.{Drawn}
 use Rattle.pulsar_producer.specs.News.{News}
 use Rattle.pulsar_outgoing.specs.declared.news.News.TheVariants.{Queued, Drew}
 use Rattle.pulsar_producer.specs.declared.deed.Send.{Send}
-use Rattle.pulsar_producer.specs.declared.deed.Step.TheVariants.{Stays, Gives}
 use Rattle.pulsar_outgoing.specs.declared.orders.Errand.{Errand}
 use Rattle.pulsar_producer.specs.declared.sending.Sending.{Sending}
 use Rattle.pulsar_producer.specs.declared.sending.Sending.TheVariants.{Drawing, Asked}
+use Rattle.pulsar_searches.specs.declared.transition.Transition.TheVariants.{Stays, Gives}
 
 -- HISTORIES
 

@@ -1,3 +1,4 @@
+pub mod Transitions
 pub mod Routing
 pub mod Producer
 pub mod Random

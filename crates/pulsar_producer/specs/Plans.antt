@@ -11,8 +11,6 @@ use Rattle.pulsar_searches.specs.declared.making.Command.{Command}
 use Rattle.pulsar_searches.specs.declared.making.Making.{Making}
 use Rattle.pulsar_searches.specs.declared.making.Served.{Served}
 use Rattle.pulsar_searches.specs.declared.names.Naming.{Naming}
-use Rattle.pulsar_searches.specs.declared.turn.Turn.{Turn}
-use Rattle.pulsar_searches.specs.declared.turn.Turn.TheVariants as turn
 use Rattle.pulsar_searches.specs.declared.turn.Ways.{Ways}
 use Rattle.pulsar_producer.specs.Commands.{command}
 use Rattle.pulsar_outgoing.specs.Errors.{in_producer}
@@ -25,8 +23,6 @@ use Rattle.pulsar_outgoing.specs.declared.news.Drawn.{Drawn}
 use Rattle.pulsar_producer.specs.News.{News}
 use Rattle.pulsar_outgoing.specs.declared.news.News.TheVariants.{Told, Queued, InLine, HasTurn, Drew, Recalled, Numbered, Ready, HasBatch, Done}
 use Rattle.pulsar_producer.specs.declared.deed.Send.{Send}
-use Rattle.pulsar_producer.specs.declared.deed.Step.{Step}
-use Rattle.pulsar_producer.specs.declared.deed.Step.TheVariants.{Stays, Gives}
 use Rattle.pulsar_outgoing.specs.declared.orders.Errand.{Errand}
 use Rattle.pulsar_producer.specs.declared.sending.Sending.{Sending}
 use Rattle.pulsar_producer.specs.declared.sending.Sending.TheVariants as send
@@ -34,18 +30,22 @@ use Rattle.pulsar_outgoing.specs.declared.orders.ProducerOrder.{ProducerOrder}
 use Rattle.pulsar_producer.specs.declared.building.Part.{Part}
 use Rattle.pulsar_producer.specs.declared.building.BuildingProducer.{BuildingProducer}
 use Rattle.pulsar_producer.specs.declared.building.BuildingProducer.TheVariants as build
+use Rattle.pulsar_searches.specs.declared.transition.Transition.TheVariants.{Stays, Gives}
+use Rattle.pulsar_searches.specs.Transitions.{SearchTransition}
+use Rattle.pulsar_producer.specs.Transitions.{ProducerTransition}
 
 -- a plan within a plan: its states are states of the outer one, and the outer one goes on with what it gives
-abbrev pub nested : {S T A B : Type 0} → Turn S A → (S → T) → (A → Step T B) → Step T B
-nested (turn.Stays s action) within on = Stays (within s) (Does action)
-nested (turn.Gives a) within on = on a
+abbrev pub nested : {S T A B : Type 0} → SearchTransition S A → (S → T) → (A → ProducerTransition T B) → ProducerTransition T B
+nested (Stays s action) within on = Stays (within s) (Does action)
+nested (Gives a) within on = on a
 
 -- the same for a plan that may fail: what follows its value, and what follows its failure
-abbrev pub either_way : {T A B : Type 0} → (A → Step T B) → (Failure → Step T B) → Result A Failure → Step T B
+abbrev pub either_way : {T A B : Type 0} → (A → ProducerTransition T B) → (Failure → ProducerTransition T B) → Result A Failure → ProducerTransition T B
 either_way on otherwise (Ok a) = on a
 either_way on otherwise (Err f) = otherwise f
 
-abbrev pub or_else : {S T A B : Type 0} → Turn S (Result A Failure) → (S → T) → (A → Step T B) → (Failure → Step T B) → Step T B
+abbrev pub or_else : {S T A B : Type 0} → SearchTransition S (Result A Failure) → (S → T) → (A → ProducerTransition T B) →
+    (Failure → ProducerTransition T B) → ProducerTransition T B
 or_else turn within on otherwise = nested turn within (either_way on otherwise)
 
 -- Why a plan fails at news. What it doesn't wait for counts as the loss of what it waits for.
@@ -65,7 +65,7 @@ fault_told Done = Disconnected
 -- ready, or ends while its frame stands in the line, the producer is made again, and another number is drawn.
 
 abbrev pub Sent : Type 0
-Sent = Step Sending (Result Reply Failure)
+Sent = ProducerTransition Sending (Result Reply Failure)
 
 abbrev pub send_begins : Errand → ProducerMessageValues → Sent
 send_begins e m = Stays (send.Waiting m) (TakesTurn e.producer)
@@ -108,10 +108,10 @@ receipt (Err f) = Gives (Err (in_producer f))
 abbrev pub send_remakes : Errand → ProducerMessageValues → Served → Sent
 send_remakes e m s = Stays (send.Remaking m) (Remakes e.producer s.link (given s.reply))
 
-abbrev pub send_makes : Errand → ProducerMessageValues → Command → Turn Making (Result Served Failure) → Sent
+abbrev pub send_makes : Errand → ProducerMessageValues → Command → SearchTransition Making (Result Served Failure) → Sent
 send_makes e m c turn = or_else turn (send.Making m c) (send_remakes e m) (send_ends e)
 
-abbrev pub send_looks : Errand → ProducerMessageValues → Command → Turn Looking (Result Place Failure) → Sent
+abbrev pub send_looks : Errand → ProducerMessageValues → Command → SearchTransition Looking (Result Place Failure) → Sent
 send_looks e m c turn = or_else turn (send.Looking m c) (λ place. send_makes e m c (made_gets 0 place)) (send_ends e)
 
 abbrev pub in_waiting : Errand → ProducerMessageValues → News → Sent
@@ -163,14 +163,13 @@ send_told w e (send.Ending f) n = Gives (Err f)
 -- were made are closed in order, whatever the answers, and then it fails.
 
 abbrev pub Builds : Type 0
-Builds = Step BuildingProducer (Result (List Built) Failure)
+Builds = ProducerTransition BuildingProducer (Result (List Built) Failure)
 
 abbrev pub build_closes : List Built → Failure → Builds
 build_closes [] f = Gives (Err f)
 build_closes (p ∷ left) f = Stays (build.Closing left f) (ClosesProducer p.link p.number)
 
--- the next name, behind those that were made
--- with this deed before the next of them
+-- the next name is taken, behind those for which a topic producer was made; this is done before it
 abbrev pub build_next : Deed → List Named → List Built → Builds
 build_next d [] made = Gives (Ok made)
 build_next d (n ∷ left) made = Stays (build.Numbering (record { topic = n.name; place = n.place; left = left; made = made })) d
@@ -182,14 +181,14 @@ built topic number s = record { topic = topic; number = number; link = s.link; g
 abbrev pub build_made : (topic : List ℕ) (number : ℕ) → List Named → List Built → Served → Builds
 build_made topic number left made s = build_next (Holds s.link number) left (made ++ built topic number s ∷ [])
 
-abbrev pub build_makes : Command → (number : ℕ) → List Named → List Built → Turn Making (Result Served Failure) → Builds
+abbrev pub build_makes : Command → (number : ℕ) → List Named → List Built → SearchTransition Making (Result Served Failure) → Builds
 build_makes c number left made turn =
     or_else turn (λ k. build.Making c k number left made) (build_made c.topic number left made) (build_closes made)
 
 abbrev pub build_numbered : ProducerOrder → Part → (number : ℕ) → Builds
 build_numbered o p number = build_makes (command p.topic number o.name o.options) number p.left p.made (made_gets 0 p.place)
 
-abbrev pub build_names : Turn Naming (Result (List Named) Failure) → Builds
+abbrev pub build_names : SearchTransition Naming (Result (List Named) Failure) → Builds
 build_names turn = or_else turn build.Naming (λ names. build_next Numbers names []) (λ f. Gives (Err f))
 
 abbrev pub build_begins : Ways → ProducerOrder → Builds

@@ -3,11 +3,12 @@
 ghost use Rattle.std.specs.Prelude.{◌≡◌, IfOk};
 ghost use Rattle.pulsar_producer.specs.Batching as meaning;
 
-use crate::deed::{Deed, News, Step};
+use crate::deed::{Deed, News};
 use crate::sending::{self, Sending, Sent};
 use pulsar_outgoing::batch::Fate;
 use pulsar_outgoing::content::{Batch, Members};
 use pulsar_outgoing::orders::Errand;
+use pulsar_searches::transition::Transition;
 use pulsar_searches::turn::Ways;
 use pulsar_wire::error::NoMemory;
 use std::alloc::Global;
@@ -164,7 +165,7 @@ fn sends(alloc: Global, members: Members, count: usize, step: Sent) -> Result<Go
     ensures { IfOk result (λ goes. goes ≡ meaning.sends members count step) }
 {
     match step {
-        Step::Stays(sending, deed) => Ok(Goes {
+        Transition::Stays(sending, deed) => Ok(Goes {
             state: Batching::Sending {
                 members,
                 count,
@@ -172,8 +173,13 @@ fn sends(alloc: Global, members: Members, count: usize, step: Sent) -> Result<Go
             },
             deed,
         }),
-        Step::Gives(Ok(reply)) => settles(alloc, &members, count, &Fate::of_reply(alloc, &reply)?),
-        Step::Gives(Err(refusal)) => settles(
+        Transition::Gives(Ok(reply)) => settles(
+            alloc,
+            &members,
+            count,
+            &Fate::of_reply(alloc, &reply)?,
+        ),
+        Transition::Gives(Err(refusal)) => settles(
             alloc,
             &members,
             count,

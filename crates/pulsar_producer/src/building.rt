@@ -3,7 +3,7 @@
 ghost use Rattle.std.specs.Prelude.{◌≡◌, IfOk};
 ghost use Rattle.pulsar_producer.specs.Plans as meaning;
 
-use crate::deed::{Deed, News, Step, error_told};
+use crate::deed::{Deed, News, error_told};
 use crate::topic_producer::command;
 use pulsar_addresses::content::{Address, Names, Refusal, Text};
 use pulsar_outgoing::content::{Built, Left, Parts, Settings};
@@ -11,7 +11,8 @@ use pulsar_outgoing::orders::ProducerOrder;
 use pulsar_outgoing::replies::given_by;
 use pulsar_searches::making::{self, Command, Making, Served};
 use pulsar_searches::names::{self, Naming};
-use pulsar_searches::turn::{Turn, Ways};
+use pulsar_searches::transition::Transition;
+use pulsar_searches::turn::{SearchTransition, Ways};
 use pulsar_wire::error::NoMemory;
 use std::alloc::Global;
 
@@ -48,7 +49,7 @@ pub enum BuildingProducer {
 }
 
 /// What a building gives at its end.
-pub type Builds = Step<BuildingProducer, Result<Parts, Refusal>>;
+pub type Builds = Transition<BuildingProducer, Deed, Result<Parts, Refusal>>;
 
 /// Where it begins.
 pub fn begins(alloc: Global, ways: &Ways, order: &ProducerOrder) -> Result<Builds, NoMemory>
@@ -96,7 +97,7 @@ fn in_naming(
             let turn = names::told(alloc, ways, &order.topic, naming, outcome)?;
             names(alloc, turn)
         }
-        _ => Ok(Step::Stays(BuildingProducer::Naming(naming), Deed::Rests)),
+        _ => Ok(Transition::Stays(BuildingProducer::Naming(naming), Deed::Rests)),
     }
 }
 
@@ -110,7 +111,7 @@ fn in_numbering(
 {
     match news {
         News::Numbered(number) => numbered(alloc, order, part, number),
-        News::Done => Ok(Step::Stays(BuildingProducer::Numbering(part), Deed::Numbers)),
+        News::Done => Ok(Transition::Stays(BuildingProducer::Numbering(part), Deed::Numbers)),
         news => {
             let refusal = Refusal::in_connection(alloc, error_told(news))?;
             Ok(closes(part.made, refusal))
@@ -135,7 +136,7 @@ fn in_producing(
             let turn = making::told(alloc, ways, &command, making, outcome)?;
             makes(alloc, command, number, left, made, turn)
         }
-        _ => Ok(Step::Stays(
+        _ => Ok(Transition::Stays(
             BuildingProducer::Making {
                 command,
                 making,
@@ -153,21 +154,29 @@ fn in_closing(left: Parts, refusal: Refusal, news: News) -> Builds
 {
     match news {
         News::Told(_) => closes(left, refusal),
-        _ => Step::Stays(BuildingProducer::Closing { left, refusal }, Deed::Rests),
+        _ => Transition::Stays(BuildingProducer::Closing { left, refusal }, Deed::Rests),
     }
 }
 
 /// The names of the topic are looked for.
-fn names(alloc: Global, turn: Turn<Naming, Result<Names, Refusal>>) -> Result<Builds, NoMemory>
+fn names(
+    alloc: Global,
+    turn: SearchTransition<Naming, Result<Names, Refusal>>,
+) -> Result<Builds, NoMemory>
     ensures { IfOk result (λ step. step ≡ meaning.build_names turn) }
 {
     match turn {
-        Turn::Stays(naming, action) => Ok(Step::Stays(
+        Transition::Stays(naming, action) => Ok(Transition::Stays(
             BuildingProducer::Naming(naming),
             Deed::Does(action),
         )),
-        Turn::Gives(Ok(names)) => next(alloc, Left::new(names), Parts::new(alloc), Deed::Numbers),
-        Turn::Gives(Err(refusal)) => Ok(Step::Gives(Err(refusal))),
+        Transition::Gives(Ok(names)) => next(
+            alloc,
+            Left::new(names),
+            Parts::new(alloc),
+            Deed::Numbers,
+        ),
+        Transition::Gives(Err(refusal)) => Ok(Transition::Gives(Err(refusal))),
     }
 }
 
@@ -176,7 +185,7 @@ fn next(alloc: Global, mut left: Left, made: Parts, deed: Deed) -> Result<Builds
     ensures { IfOk result (λ step. step ≡ meaning.build_next deed left made) }
 {
     match left.next(alloc)? {
-        Some((topic, place)) => Ok(Step::Stays(
+        Some((topic, place)) => Ok(Transition::Stays(
             BuildingProducer::Numbering(Part {
                 topic,
                 place,
@@ -185,7 +194,7 @@ fn next(alloc: Global, mut left: Left, made: Parts, deed: Deed) -> Result<Builds
             }),
             deed,
         )),
-        None => Ok(Step::Gives(Ok(made))),
+        None => Ok(Transition::Gives(Ok(made))),
     }
 }
 
@@ -219,12 +228,12 @@ fn makes(
     number: u64,
     left: Left,
     made: Parts,
-    turn: Turn<Making, Result<Served, Refusal>>,
+    turn: SearchTransition<Making, Result<Served, Refusal>>,
 ) -> Result<Builds, NoMemory>
     ensures { IfOk result (λ step. step ≡ meaning.build_makes command number left made turn) }
 {
     match turn {
-        Turn::Stays(making, action) => Ok(Step::Stays(
+        Transition::Stays(making, action) => Ok(Transition::Stays(
             BuildingProducer::Making {
                 command,
                 making,
@@ -234,12 +243,12 @@ fn makes(
             },
             Deed::Does(action),
         )),
-        Turn::Gives(Ok(served)) => {
+        Transition::Gives(Ok(served)) => {
             let link = served.link;
             let built = built(alloc, command.topic, number, served)?;
             next(alloc, left, made.with(built)?, Deed::Holds { link, number })
         }
-        Turn::Gives(Err(refusal)) => Ok(closes(made, refusal)),
+        Transition::Gives(Err(refusal)) => Ok(closes(made, refusal)),
     }
 }
 
@@ -261,13 +270,13 @@ fn closes(mut left: Parts, refusal: Refusal) -> Builds
     ensures { result ≡ meaning.build_closes left refusal }
 {
     match left.next() {
-        Some(built) => Step::Stays(
+        Some(built) => Transition::Stays(
             BuildingProducer::Closing { left, refusal },
             Deed::ClosesProducer {
                 link: built.link,
                 number: built.number,
             },
         ),
-        None => Step::Gives(Err(refusal)),
+        None => Transition::Gives(Err(refusal)),
     }
 }

@@ -72,13 +72,6 @@ pub enum Deed {
     Rests,
 }
 
-/// A plan stays, in this state, and does this, or it ends and gives its value.
-#[derive(Drop)]
-pub enum Step<S, A> {
-    Stays(S, Deed),
-    Gives(A),
-}
-
 /// Why a plan fails at news.
 pub fn error_told(news: News) -> ConnectionError
     ensures { fault result ≡ fault_told news }

@@ -7,7 +7,7 @@ ghost use Rattle.pulsar_producer.specs.Batching.{is_sent_send};
 ghost use Rattle.pulsar_outgoing.specs.Errors.{in_producer};
 ghost use Rattle.pulsar_producer.specs.Plans as meaning;
 
-use crate::deed::{Deed, News, Send, Step, error_told};
+use crate::deed::{Deed, News, Send, error_told};
 use pulsar_addresses::content::{Address, Refusal};
 use pulsar_frame::received::Received;
 use pulsar_outgoing::content::Outgoing;
@@ -17,7 +17,8 @@ use pulsar_outgoing::orders::Errand;
 use pulsar_outgoing::replies::given_by;
 use pulsar_searches::look::{self, Looking};
 use pulsar_searches::making::{self, Command, Making, Served, verdict};
-use pulsar_searches::turn::{SearchOutcome, Turn, Ways, is_lost};
+use pulsar_searches::transition::Transition;
+use pulsar_searches::turn::{SearchOutcome, SearchTransition, Ways, is_lost};
 use pulsar_wire::error::{ConnectionError, NoMemory};
 use std::alloc::Global;
 
@@ -77,13 +78,13 @@ impl Sending {
 }
 
 /// What a send gives at its end: its receipt.
-pub type Sent = Step<Sending, Result<Received, Refusal>>;
+pub type Sent = Transition<Sending, Deed, Result<Received, Refusal>>;
 
 /// Where it begins.
 pub fn begins(errand: Errand, message: Outgoing) -> Sent
     ensures { result ≡ meaning.send_begins errand message }
 {
-    Step::Stays(
+    Transition::Stays(
         Sending::Waiting { message },
         Deed::TakesTurn(errand.producer),
     )
@@ -116,7 +117,7 @@ pub fn told(
             making,
         } => in_making(alloc, ways, errand, message, command, making, news),
         Sending::Remaking { message } => in_remaking(alloc, errand, message, news),
-        Sending::Ending { refusal } => Ok(Step::Gives(Err(refusal))),
+        Sending::Ending { refusal } => Ok(Transition::Gives(Err(refusal))),
     }
 }
 
@@ -130,7 +131,7 @@ fn in_waiting(
 {
     match news {
         News::HasTurn(version) => Ok(draws(errand, message.with_version(version))),
-        news => Ok(Step::Gives(Err(in_producer(alloc, error_told(news))?))),
+        news => Ok(Transition::Gives(Err(in_producer(alloc, error_told(news))?))),
     }
 }
 
@@ -157,8 +158,8 @@ fn in_asked(
     ensures { IfOk result (λ step. step ≡ meaning.in_asked errand kept news) }
 {
     match news {
-        News::Queued => Ok(Step::Stays(Sending::Sent, Deed::PassesTurn(errand.producer))),
-        News::InLine => Ok(Step::Stays(Sending::Asked { kept }, Deed::Rests)),
+        News::Queued => Ok(Transition::Stays(Sending::Sent, Deed::PassesTurn(errand.producer))),
+        News::InLine => Ok(Transition::Stays(Sending::Asked { kept }, Deed::Rests)),
         news => not_queued(alloc, errand, kept, error_told(news)),
     }
 }
@@ -168,7 +169,7 @@ fn in_sent(alloc: Global, news: News) -> Result<Sent, NoMemory>
 {
     match news {
         News::Told(outcome) => receipt(alloc, outcome),
-        _ => Ok(Step::Stays(Sending::Sent, Deed::Rests)),
+        _ => Ok(Transition::Stays(Sending::Sent, Deed::Rests)),
     }
 }
 
@@ -206,7 +207,7 @@ fn in_looking(
             let turn = look::told(alloc, ways, &command.topic, looking, outcome)?;
             looks(alloc, errand, message, command, turn)
         }
-        _ => Ok(Step::Stays(
+        _ => Ok(Transition::Stays(
             Sending::Looking {
                 message,
                 command,
@@ -233,7 +234,7 @@ fn in_making(
             let turn = making::told(alloc, ways, &command, making, outcome)?;
             makes(alloc, errand, message, command, turn)
         }
-        _ => Ok(Step::Stays(
+        _ => Ok(Transition::Stays(
             Sending::Making {
                 message,
                 command,
@@ -262,7 +263,7 @@ fn in_remaking(
 fn draws(errand: Errand, message: Outgoing) -> Sent
     ensures { result ≡ meaning.send_draws errand message }
 {
-    Step::Stays(Sending::Drawing { message }, Deed::Draws(errand.producer))
+    Transition::Stays(Sending::Drawing { message }, Deed::Draws(errand.producer))
 }
 
 /// The message is asked of the link. It is kept only where its frame is to stand in the line.
@@ -287,7 +288,7 @@ fn asks(alloc: Global, errand: Errand, drawn: Drawn, message: Outgoing) -> Resul
         message,
         block: errand.block,
     };
-    Ok(Step::Stays(Sending::Asked { kept }, Deed::Sends { link, send }))
+    Ok(Transition::Stays(Sending::Asked { kept }, Deed::Sends { link, send }))
 }
 
 /// No number was drawn: the link is not ready, or the numbers are spent.
@@ -323,7 +324,7 @@ fn not_queued(
 fn recalls(errand: Errand, message: Outgoing) -> Sent
     ensures { result ≡ meaning.send_recalls errand message }
 {
-    Step::Stays(
+    Transition::Stays(
         Sending::Recalling { message },
         Deed::Recalls(errand.producer),
     )
@@ -333,7 +334,7 @@ fn recalls(errand: Errand, message: Outgoing) -> Sent
 fn ends(errand: Errand, refusal: Refusal) -> Sent
     ensures { result ≡ meaning.send_ends errand refusal }
 {
-    Step::Stays(
+    Transition::Stays(
         Sending::Ending { refusal },
         Deed::PassesTurn(errand.producer),
     )
@@ -350,8 +351,8 @@ fn receipt(alloc: Global, outcome: SearchOutcome) -> Result<Sent, NoMemory>
     ensures { IfOk result (λ step. step ≡ meaning.receipt (verdict 7 outcome)) }
 {
     match verdict(alloc, SEND_RECEIPT, outcome)? {
-        Ok(reply) => Ok(Step::Gives(Ok(reply))),
-        Err(error) => Ok(Step::Gives(Err(in_producer(alloc, error)?))),
+        Ok(reply) => Ok(Transition::Gives(Ok(reply))),
+        Err(error) => Ok(Transition::Gives(Err(in_producer(alloc, error)?))),
     }
 }
 
@@ -361,12 +362,12 @@ fn looks(
     errand: Errand,
     message: Outgoing,
     command: Command,
-    turn: Turn<Looking, Result<Address, Refusal>>,
+    turn: SearchTransition<Looking, Result<Address, Refusal>>,
 ) -> Result<Sent, NoMemory>
     ensures { IfOk result (λ step. step ≡ meaning.send_looks errand message command turn) }
 {
     match turn {
-        Turn::Stays(looking, action) => Ok(Step::Stays(
+        Transition::Stays(looking, action) => Ok(Transition::Stays(
             Sending::Looking {
                 message,
                 command,
@@ -374,10 +375,10 @@ fn looks(
             },
             Deed::Does(action),
         )),
-        Turn::Gives(Ok(address)) => {
+        Transition::Gives(Ok(address)) => {
             makes(alloc, errand, message, command, making::gets(0, address))
         }
-        Turn::Gives(Err(refusal)) => Ok(ends(errand, refusal)),
+        Transition::Gives(Err(refusal)) => Ok(ends(errand, refusal)),
     }
 }
 
@@ -387,12 +388,12 @@ fn makes(
     errand: Errand,
     message: Outgoing,
     command: Command,
-    turn: Turn<Making, Result<Served, Refusal>>,
+    turn: SearchTransition<Making, Result<Served, Refusal>>,
 ) -> Result<Sent, NoMemory>
     ensures { IfOk result (λ step. step ≡ meaning.send_makes errand message command turn) }
 {
     match turn {
-        Turn::Stays(making, action) => Ok(Step::Stays(
+        Transition::Stays(making, action) => Ok(Transition::Stays(
             Sending::Making {
                 message,
                 command,
@@ -400,8 +401,8 @@ fn makes(
             },
             Deed::Does(action),
         )),
-        Turn::Gives(Ok(served)) => remakes(alloc, errand, message, served),
-        Turn::Gives(Err(refusal)) => Ok(ends(errand, refusal)),
+        Transition::Gives(Ok(served)) => remakes(alloc, errand, message, served),
+        Transition::Gives(Err(refusal)) => Ok(ends(errand, refusal)),
     }
 }
 
@@ -415,7 +416,7 @@ fn remakes(
     ensures { IfOk result (λ step. step ≡ meaning.send_remakes errand message served) }
 {
     let given = given_by(alloc, &served.reply)?;
-    Ok(Step::Stays(
+    Ok(Transition::Stays(
         Sending::Remaking { message },
         Deed::Remakes {
             number: errand.producer,

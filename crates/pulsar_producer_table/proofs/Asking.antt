@@ -1,6 +1,7 @@
 -- What becomes of the topic producers, row by row: what is done to one, where several are closed, where some join, and what a call leaves.
-use Rattle.std.proofs.Common.{◌≡◌, ◌∙◌, sym, ap, ℕ, ◌==◌, List, [], ◌∷◌, refl, Bool, true, false, cond, Option, Some, None, inl, inr}
+use Rattle.std.proofs.Common.{◌≡◌, ◌∙◌, sym, ap, ℕ, ◌==◌, List, [], ◌∷◌, ◌++◌, append-nil, map, refl, Bool, true, false, cond, Option, Some, None, inl, inr}
 use Rattle.std.proofs.lemmas.Bool.{eq-eqb, eqb-true, cases_Bool}
+use Rattle.std.proofs.lemmas.List.{append_assoc}
 use Rattle.std.specs.Option.{is_some, option_map}
 use Rattle.pulsar_run.specs.Things.{along, row_after, row_by}
 use Rattle.pulsar_run.proofs.Things.{row_stays}
@@ -17,7 +18,7 @@ use Rattle.pulsar_calls.specs.declared.content.BuiltProducer.{BuiltProducer}
 use Rattle.pulsar_calls.specs.Content as content
 use Rattle.pulsar_calls.specs.Content.{Asked}
 use Rattle.pulsar_producer_table.specs.Asks.{grants_it, turn_said}
-use Rattle.pulsar_producer_table.specs.Producers.{Producers, all_routed, called_on, changed, done_to, fresh_topic, joined, last_of, made_of, names_in, opened_on, routed, sent_on, shut_all, shut_by, topic_after, topic_in, turn_taken, why_not, with_built, with_topic, with_topics}
+use Rattle.pulsar_producer_table.specs.Producers.{Producers, all_routed, called_on, changed, done_to, fresh_topic, joined, last_of, listed, made_of, names_in, opened_on, routed, sent_on, shut_all, shut_by, topic_after, topic_in, turn_taken, why_not, with_built, with_topic, with_topics}
 use Rattle.pulsar_producer_table.specs.declared.table.Topic.{Topic}
 
 -- WHAT IS DONE TO ONE
@@ -115,16 +116,33 @@ with_row owner f limits (b ∷ bs) ps n =
     with_row owner f limits bs (with_topic owner f limits b ps) n
     ∙ joins_row (topic_in owner f limits bs n) (n == b.number) (fresh_topic owner f limits b) (ps.topics n)
 
-built_topics : (t : ℕ) (r : Option producer.Seen) (ps : Producers) → (with_built t r ps).topics ≡ ps.topics
-built_topics t None ps = refl
-built_topics t (Some p) ps = refl
+with_numbers : (owner f : ℕ) (limits : Limits) (bs : List Built) (ps : Producers) →
+    (with_topics owner f limits bs ps).numbers ≡ ps.numbers ++ map (λ q. q.number) bs
+with_numbers owner f limits [] ps = sym (append-nil ps.numbers)
+with_numbers owner f limits (b ∷ bs) ps =
+    with_numbers owner f limits bs (with_topic owner f limits b ps) ∙ append_assoc ps.numbers (b.number ∷ []) (map (λ q. q.number) bs)
+
+-- and all else of the table stays
+with_others : (owner f : ℕ) (limits : Limits) (bs : List Built) (ps : Producers) →
+    with_topics owner f limits bs ps
+    ≡ record ps { topics = (with_topics owner f limits bs ps).topics; numbers = (with_topics owner f limits bs ps).numbers }
+with_others owner f limits [] ps = refl
+with_others owner f limits (b ∷ bs) ps = with_others owner f limits bs (with_topic owner f limits b ps)
+
+built_beside : (t : ℕ) (r : Option producer.Seen) (ps : Producers) (topics : ℕ → Option Topic) →
+    with_built t r (record ps { topics = topics }) ≡ record (with_built t r ps) { topics = topics }
+built_beside t None ps topics = refl
+built_beside t (Some p) ps topics = refl
 
 pub joined_is : (t : ℕ) (b : BuiltProducer) (seed f : ℕ) (ps : Producers) →
-    joined t b seed f ps ≡ record (joined t b seed f ps) { topics = λ n. born (topic_in t f (limits_of b.settings) b.parts n) (ps.topics n) }
+    joined t b seed f ps ≡ record (listed t b seed ps) { topics = λ n. born (topic_in t f (limits_of b.settings) b.parts n) (ps.topics n) }
 joined_is t b seed f ps =
-    ap (λ ts. record (joined t b seed f ps) { topics = ts })
-    (built_topics t (made_of seed t b) (with_topics t f (limits_of b.settings) b.parts ps)
-    ∙ (λ i. λ n. with_row t f (limits_of b.settings) b.parts ps n i))
+    let limits = limits_of b.settings in
+    let new : ℕ → Option Topic = (λ n. born (topic_in t f limits b.parts n) (ps.topics n)) in
+    ap (with_built t (made_of seed t b))
+    (with_others t f limits b.parts ps
+    ∙ (λ i. record ps { topics = λ n. with_row t f limits b.parts ps n i; numbers = with_numbers t f limits b.parts ps i }))
+    ∙ built_beside t (made_of seed t b) (record ps { numbers = ps.numbers ++ map (λ q. q.number) b.parts }) new
 
 -- A CALL leaves them as they are
 

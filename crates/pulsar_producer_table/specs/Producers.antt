@@ -314,6 +314,10 @@ abbrev pub with_built : (ticket : ℕ) → Option producer.Seen → Producers �
 with_built t None ps = ps
 with_built t (Some p) ps = record ps { built = λ u. if u == t then Some p else ps.built u }
 
+-- what is known of it but its topic producers themselves: where it sends, and their numbers
+abbrev pub listed : (ticket : ℕ) → BuiltProducer → (seed : ℕ) → Producers → Producers
+listed t b seed ps = with_built t (made_of seed t b) (record ps { numbers = ps.numbers ++ map (λ q. q.number) b.parts })
+
 abbrev pub joined : (ticket : ℕ) → BuiltProducer → (seed first_number : ℕ) → Producers → Producers
 joined t b seed first_number ps = with_built t (made_of seed t b) (with_topics t first_number (limits_of b.settings) b.parts ps)
 

@@ -1,3 +1,4 @@
+pub mod Transitions
 pub mod Closing
 pub mod Question
 pub mod Replies

@@ -21,8 +21,6 @@ use Rattle.pulsar_searches.specs.declared.turn.Ways.{Ways}
 use Rattle.pulsar_searches.specs.declared.turn.Action.TheVariants.{Get, Ask, Wait}
 use Rattle.pulsar_searches.specs.declared.turn.SearchOutcome.{SearchOutcome}
 use Rattle.pulsar_searches.specs.declared.turn.SearchOutcome.TheVariants.{GotLink, Replied, Woken, Failed}
-use Rattle.pulsar_searches.specs.declared.turn.Turn.{Turn}
-use Rattle.pulsar_searches.specs.declared.turn.Turn.TheVariants.{Stays, Gives}
 use Rattle.pulsar_searches.specs.declared.count.Counting.{Counting}
 use Rattle.pulsar_searches.specs.declared.count.Counting.TheVariants as count
 use Rattle.pulsar_searches.specs.declared.look.Search.{Search}
@@ -43,27 +41,31 @@ use Rattle.pulsar_searches.specs.declared.plan.Sought.TheVariants as procedure
 use Rattle.pulsar_searches.specs.declared.plan.SearchPlan.{SearchPlan}
 use Rattle.pulsar_searches.specs.declared.plan.SearchPlan.TheVariants as plan
 use Rattle.pulsar_addresses.specs.Address.{name_found}
+use Rattle.pulsar_searches.specs.declared.transition.Transition.TheVariants.{Stays, Gives}
+use Rattle.pulsar_searches.specs.Transitions.{SearchTransition}
 
 -- PLANS WITHIN PLANS
 
 -- a plan within a plan: its states are states of the outer one, and the outer one goes on with what it gives
-abbrev pub nested : {S T A B : Type 0} → Turn S A → (S → T) → (A → Turn T B) → Turn T B
+abbrev pub nested : {S T A B : Type 0} → SearchTransition S A → (S → T) → (A → SearchTransition T B) → SearchTransition T B
 nested (Stays s action) within on = Stays (within s) action
 nested (Gives a) within on = on a
 
 -- the same for a plan that may fail: what follows its value, and what follows its failure
-abbrev pub either_way : {T A B : Type 0} → (A → Turn T B) → (Failure → Turn T B) → Result A Failure → Turn T B
+abbrev pub either_way : {T A B : Type 0} → (A → SearchTransition T B) → (Failure → SearchTransition T B) → Result A Failure → SearchTransition T B
 either_way on otherwise (Ok a) = on a
 either_way on otherwise (Err f) = otherwise f
 
-abbrev pub or_else : {S T A B : Type 0} → Turn S (Result A Failure) → (S → T) → (A → Turn T B) → (Failure → Turn T B) → Turn T B
+abbrev pub or_else : {S T A B : Type 0} → SearchTransition S (Result A Failure) → (S → T) → (A → SearchTransition T B) → (Failure →
+    SearchTransition T B) → SearchTransition T B
 or_else turn within on otherwise = nested turn within (either_way on otherwise)
 
-abbrev pub fails : {S A : Type 0} → Failure → Turn S (Result A Failure)
+abbrev pub fails : {S A : Type 0} → Failure → SearchTransition S (Result A Failure)
 fails f = Gives (Err f)
 
 -- and one whose failure is that of the outer one
-abbrev pub and_then : {S T A B : Type 0} → Turn S (Result A Failure) → (S → T) → (A → Turn T (Result B Failure)) → Turn T (Result B Failure)
+abbrev pub and_then : {S T A B : Type 0} → SearchTransition S (Result A Failure) → (S → T) → (A → SearchTransition T (Result B Failure)) →
+    SearchTransition T (Result B Failure)
 and_then turn within on = or_else turn within on fails
 
 -- Why a plan fails at an outcome. An outcome that it doesn't wait for counts as the loss of what it waits for.
@@ -79,17 +81,17 @@ is_lost _ = false
 
 -- THE NUMBER OF PARTITIONS.  `again`: the question may be asked once more. `n`: the retries so far.
 
-abbrev pub count_gets : Ways → (again : Bool) → (n : ℕ) → Turn Counting (Result ℕ Failure)
+abbrev pub count_gets : Ways → (again : Bool) → (n : ℕ) → SearchTransition Counting (Result ℕ Failure)
 count_gets w again n = Stays (count.Getting again n) (Get w.base)
 
-abbrev pub count_asks : (topic : List ℕ) → (again : Bool) → (n link : ℕ) → Turn Counting (Result ℕ Failure)
+abbrev pub count_asks : (topic : List ℕ) → (again : Bool) → (n link : ℕ) → SearchTransition Counting (Result ℕ Failure)
 count_asks t again n link = Stays (count.Asked again n link) (Ask link (LookupPartitionedTopic t))
 
 -- a link that was lost is got once more for the same question
-abbrev pub count_failed : Ways → (again : Bool) → (n : ℕ) → Fault → Turn Counting (Result ℕ Failure)
+abbrev pub count_failed : Ways → (again : Bool) → (n : ℕ) → Fault → SearchTransition Counting (Result ℕ Failure)
 count_failed w again n f = if again && is_lost f then count_gets w false n else fails (in_discovery f)
 
-abbrev pub count_heard : Ways → (n link : ℕ) → Heard ℕ → Turn Counting (Result ℕ Failure)
+abbrev pub count_heard : Ways → (n link : ℕ) → Heard ℕ → SearchTransition Counting (Result ℕ Failure)
 count_heard w n link (Says count) = Gives (Ok count)
 count_heard w n link Later = Stays (count.Resting n link) (Wait w.retry_delay)
 count_heard w n link (Denies f) = fails f
@@ -102,10 +104,10 @@ mentions part (x ∷ text) = starts_with (λ x y. x == y) (x ∷ text) part || m
 abbrev pub is_partition : (topic : List ℕ) → Bool
 is_partition topic = mentions (codes "-partition-") topic
 
-abbrev pub count_begins : Ways → (topic : List ℕ) → Turn Counting (Result ℕ Failure)
+abbrev pub count_begins : Ways → (topic : List ℕ) → SearchTransition Counting (Result ℕ Failure)
 count_begins w t = if is_partition t then Gives (Ok 0) else count_gets w true 0
 
-abbrev pub count_told : Ways → (topic : List ℕ) → Counting → SearchOutcome → Turn Counting (Result ℕ Failure)
+abbrev pub count_told : Ways → (topic : List ℕ) → Counting → SearchOutcome → SearchTransition Counting (Result ℕ Failure)
 count_told w t (count.Getting again n) (GotLink link) = count_asks t again n link
 count_told w t (count.Getting again n) o = fails (in_discovery (fault_of o))
 count_told w t (count.Asked again n link) (Replied r) = count_heard w n link (count_in w n r)
@@ -115,21 +117,21 @@ count_told w t (count.Resting n link) o = fails (in_discovery (fault_of o))
 
 -- THE BROKER OF A TOPIC
 
-abbrev pub look_gets : Search → Turn Looking (Result Place Failure)
+abbrev pub look_gets : Search → SearchTransition Looking (Result Place Failure)
 look_gets s = Stays (look.Getting s) (Get s.last)
 
-abbrev pub look_asks : (topic : List ℕ) → Search → (link : ℕ) → Turn Looking (Result Place Failure)
+abbrev pub look_asks : (topic : List ℕ) → Search → (link : ℕ) → SearchTransition Looking (Result Place Failure)
 look_asks t s link = Stays (look.Asked s link) (Ask link (LookupTopic t s.authority))
 
-abbrev pub look_failed : Search → Fault → Turn Looking (Result Place Failure)
+abbrev pub look_failed : Search → Fault → SearchTransition Looking (Result Place Failure)
 look_failed s f = if s.again && is_lost f then look_gets (record s { again = false }) else fails (in_discovery f)
 
 -- another broker is to be asked, which is a new question, or this one serves
-abbrev pub look_pointed : (n : ℕ) → Pointed → Turn Looking (Result Place Failure)
+abbrev pub look_pointed : (n : ℕ) → Pointed → SearchTransition Looking (Result Place Failure)
 look_pointed n (Redirects place authority) = look_gets (record { last = place; authority = authority; again = true; retries = n })
 look_pointed n (Serves place) = Stays (look.Reaching place) (Get place)
 
-abbrev pub look_heard : Ways → Search → (link : ℕ) → Heard Pointed → Turn Looking (Result Place Failure)
+abbrev pub look_heard : Ways → Search → (link : ℕ) → Heard Pointed → SearchTransition Looking (Result Place Failure)
 look_heard w s link (Says pointed) = look_pointed s.retries pointed
 look_heard w s link Later = Stays (look.Resting s link) (Wait w.retry_delay)
 look_heard w s link (Denies f) = fails f
@@ -142,10 +144,10 @@ asked_anew s = record { last = s.last; authority = s.authority; again = true; re
 abbrev pub first_search : Ways → Search
 first_search w = record { last = w.base; authority = false; again = true; retries = 0 }
 
-abbrev pub look_begins : Ways → Turn Looking (Result Place Failure)
+abbrev pub look_begins : Ways → SearchTransition Looking (Result Place Failure)
 look_begins w = look_gets (first_search w)
 
-abbrev pub look_told : Ways → (topic : List ℕ) → Looking → SearchOutcome → Turn Looking (Result Place Failure)
+abbrev pub look_told : Ways → (topic : List ℕ) → Looking → SearchOutcome → SearchTransition Looking (Result Place Failure)
 look_told w t (look.Getting s) (GotLink link) = look_asks t s link
 look_told w t (look.Getting s) o = fails (in_discovery (fault_of o))
 look_told w t (look.Asked s link) (Replied r) = look_heard w s link (place_heard w s.last.proxy s.retries r)
@@ -161,19 +163,19 @@ abbrev pub partition_name : (topic : List ℕ) → ℕ → List ℕ
 partition_name t k = t ++ (codes "-partition-" ++ decimal k)
 
 -- the last `left` of so many partitions, behind those that were found
-abbrev pub names_left : Ways → (topic : List ℕ) → (count left : ℕ) → List Named → Turn Naming (Result (List Named) Failure)
+abbrev pub names_left : Ways → (topic : List ℕ) → (count left : ℕ) → List Named → SearchTransition Naming (Result (List Named) Failure)
 names_left w t count left found =
     if left == 0 then Gives (Ok found)
     else and_then (look_begins w) (λ l. name.Part l (record { name = partition_name t (count - left); count = count; left = left - 1; found = found })) (λ place. Gives (Ok found))
 
-abbrev pub names_of : Ways → (topic : List ℕ) → (count : ℕ) → Turn Naming (Result (List Named) Failure)
+abbrev pub names_of : Ways → (topic : List ℕ) → (count : ℕ) → SearchTransition Naming (Result (List Named) Failure)
 names_of w t count =
     if count == 0 then and_then (look_begins w) name.Whole (λ place. Gives (Ok (name_found [] t place))) else names_left w t count count []
 
-abbrev pub names_begins : Ways → (topic : List ℕ) → Turn Naming (Result (List Named) Failure)
+abbrev pub names_begins : Ways → (topic : List ℕ) → SearchTransition Naming (Result (List Named) Failure)
 names_begins w t = and_then (count_begins w t) name.Counting (names_of w t)
 
-abbrev pub names_told : Ways → (topic : List ℕ) → Naming → SearchOutcome → Turn Naming (Result (List Named) Failure)
+abbrev pub names_told : Ways → (topic : List ℕ) → Naming → SearchOutcome → SearchTransition Naming (Result (List Named) Failure)
 names_told w t (name.Counting c) o = and_then (count_told w t c o) name.Counting (names_of w t)
 names_told w t (name.Whole l) o = and_then (look_told w t l o) name.Whole (λ place. Gives (Ok (name_found [] t place)))
 names_told w t (name.Part l p) o =
@@ -195,11 +197,11 @@ is_retryable (Io TimedOut) = true
 is_retryable (PulsarError error text) = is_passing error
 is_retryable _ = false
 
-abbrev pub retry_begins : Ways → (n : ℕ) → Fault → Turn Retrying (Result Place Failure)
+abbrev pub retry_begins : Ways → (n : ℕ) → Fault → SearchTransition Retrying (Result Place Failure)
 retry_begins w n f =
     if is_retryable f && allow_retry w.max_retries n then Stays retry.Resting (Wait w.retry_delay) else fails (OfConnection f)
 
-abbrev pub retry_told : Ways → (topic : List ℕ) → Retrying → SearchOutcome → Turn Retrying (Result Place Failure)
+abbrev pub retry_told : Ways → (topic : List ℕ) → Retrying → SearchOutcome → SearchTransition Retrying (Result Place Failure)
 retry_told w t retry.Resting Woken = nested (look_begins w) retry.Looking Gives
 retry_told w t retry.Resting o = fails (OfConnection (fault_of o))
 retry_told w t (retry.Looking l) o = nested (look_told w t l o) retry.Looking Gives
@@ -207,10 +209,10 @@ retry_told w t (retry.Looking l) o = nested (look_told w t l o) retry.Looking Gi
 -- A COMMAND THAT IS ASKED UNTIL IT SUCCEEDS: a producer or a subscription is made
 
 -- a link to this address is got, after so many retries
-abbrev pub made_gets : (n : ℕ) → Place → Turn Making (Result Served Failure)
+abbrev pub made_gets : (n : ℕ) → Place → SearchTransition Making (Result Served Failure)
 made_gets n place = Stays (make.Getting n) (Get place)
 
-abbrev pub made_asks : Command → (n link : ℕ) → Turn Making (Result Served Failure)
+abbrev pub made_asks : Command → (n link : ℕ) → SearchTransition Making (Result Served Failure)
 made_asks c n link = Stays (make.Asked n link) (Ask link c.request)
 
 -- what a reply, or the lack of one, says to a command that is answered by the body of this number
@@ -221,11 +223,11 @@ abbrev pub verdict : (answer : ℕ) → SearchOutcome → Result Reply Fault
 verdict answer (Replied r) = answered answer r
 verdict answer o = Err (fault_of o)
 
-abbrev pub made_answered : Ways → (n link : ℕ) → Result Reply Fault → Turn Making (Result Served Failure)
+abbrev pub made_answered : Ways → (n link : ℕ) → Result Reply Fault → SearchTransition Making (Result Served Failure)
 made_answered w n link (Ok r) = Gives (Ok (record { link = link; reply = r }))
 made_answered w n link (Err f) = and_then (retry_begins w n f) (λ r. make.Retrying r n) (made_gets (one_more n))
 
-abbrev pub made_told : Ways → Command → Making → SearchOutcome → Turn Making (Result Served Failure)
+abbrev pub made_told : Ways → Command → Making → SearchOutcome → SearchTransition Making (Result Served Failure)
 made_told w c (make.Getting n) (GotLink link) = made_asks c n link
 made_told w c (make.Getting n) o = fails (OfConnection (fault_of o))
 made_told w c (make.Asked n link) o = made_answered w n link (verdict c.answer o)
@@ -233,14 +235,14 @@ made_told w c (make.Retrying r n) o = and_then (retry_told w c.topic r o) (λ r.
 
 -- ALL OF THEM
 
-abbrev pub begins : Ways → Sought → Turn SearchPlan (Result Answer Failure)
+abbrev pub begins : Ways → Sought → SearchTransition SearchPlan (Result Answer Failure)
 begins w (procedure.CountPartitions t) = and_then (count_begins w t) (plan.Counting t) (λ n. Gives (Ok (answer.Count n)))
 begins w (procedure.Look t) = and_then (look_begins w) (plan.Looking t) (λ place. Gives (Ok (answer.Address place)))
 begins w (procedure.Name t) = and_then (names_begins w t) (plan.Naming t) (λ names. Gives (Ok (answer.Addresses names)))
 begins w (procedure.Retry t n f) = and_then (retry_begins w n f) (plan.Retrying t) (λ place. Gives (Ok (answer.Address place)))
 begins w (procedure.Make c place) = and_then (made_gets 0 place) (plan.Making c) (λ s. Gives (Ok (answer.Reply s)))
 
-abbrev pub told : Ways → SearchPlan → SearchOutcome → Turn SearchPlan (Result Answer Failure)
+abbrev pub told : Ways → SearchPlan → SearchOutcome → SearchTransition SearchPlan (Result Answer Failure)
 told w (plan.Counting t c) o = and_then (count_told w t c o) (plan.Counting t) (λ n. Gives (Ok (answer.Count n)))
 told w (plan.Looking t l) o = and_then (look_told w t l o) (plan.Looking t) (λ place. Gives (Ok (answer.Address place)))
 told w (plan.Naming t n) o = and_then (names_told w t n o) (plan.Naming t) (λ names. Gives (Ok (answer.Addresses names)))

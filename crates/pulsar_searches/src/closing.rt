@@ -3,6 +3,7 @@
 ghost use Rattle.std.specs.Prelude.{◌≡◌, ◌++◌, [], ◌∷◌, IfOk, MatchOption};
 ghost use Rattle.pulsar_searches.specs.Closing as meaning;
 
+use crate::transition::Transition;
 use pulsar_addresses::content::Refusal;
 use pulsar_wire::error::NoMemory;
 use std::alloc::Global;
@@ -70,13 +71,6 @@ impl MadeList {
     }
 }
 
-/// A plan stays, in this state, and does this, or it ends and gives its value.
-#[derive(Drop)]
-pub enum Step<S, D, A> {
-    Stays(S, D),
-    Gives(A),
-}
-
 /// What is still to be closed, and why the build failed.
 #[derive(Drop)]
 pub struct Closing {
@@ -101,18 +95,18 @@ pub enum Deed<D> {
 }
 
 /// The first that is closed, or why the build failed where all are.
-pub fn begins(made: MadeList, refusal: Refusal) -> Step<Closing, Made, Refusal>
+pub fn begins(made: MadeList, refusal: Refusal) -> Transition<Closing, Made, Refusal>
     ensures { result ≡ meaning.closes made refusal }
 {
     let mut left = made;
     match left.take() {
-        Some(first) => Step::Stays(Closing { left, refusal }, first),
-        None => Step::Gives(refusal),
+        Some(first) => Transition::Stays(Closing { left, refusal }, first),
+        None => Transition::Gives(refusal),
     }
 }
 
 /// What follows, whatever the outcome was.
-pub fn told(closing: Closing) -> Step<Closing, Made, Refusal>
+pub fn told(closing: Closing) -> Transition<Closing, Made, Refusal>
     ensures { result ≡ meaning.closes closing.left closing.refusal }
 {
     let Closing { left, refusal } = closing;
@@ -122,33 +116,39 @@ pub fn told(closing: Closing) -> Step<Closing, Made, Refusal>
 /// A build that made this goes on by a step of its plan. Where that fails, what was made is closed first.
 pub fn guards<S: Drop, D: Drop, A: Drop>(
     made: MadeList,
-    step: Step<S, D, Result<A, Refusal>>,
-) -> Step<Guarded<S>, Deed<D>, Result<A, Refusal>>
+    step: Transition<S, D, Result<A, Refusal>>,
+) -> Transition<Guarded<S>, Deed<D>, Result<A, Refusal>>
     ensures { result ≡ meaning.guards made step }
 {
     match step {
-        Step::Stays(plan, deed) => Step::Stays(Guarded::Goes { plan, made }, Deed::Does(deed)),
-        Step::Gives(Ok(value)) => Step::Gives(Ok(value)),
-        Step::Gives(Err(refusal)) => fails(begins(made, refusal)),
+        Transition::Stays(plan, deed) => Transition::Stays(
+            Guarded::Goes { plan, made },
+            Deed::Does(deed),
+        ),
+        Transition::Gives(Ok(value)) => Transition::Gives(Ok(value)),
+        Transition::Gives(Err(refusal)) => fails(begins(made, refusal)),
     }
 }
 
 /// A build that failed closes what is left, whatever the outcome was.
 pub fn closes_on<S: Drop, D: Drop, A: Drop>(
     closing: Closing,
-) -> Step<Guarded<S>, Deed<D>, Result<A, Refusal>>
+) -> Transition<Guarded<S>, Deed<D>, Result<A, Refusal>>
     ensures { result ≡ meaning.fails (meaning.closes closing.left closing.refusal) }
 {
     fails(told(closing))
 }
 
 fn fails<S: Drop, D: Drop, A: Drop>(
-    step: Step<Closing, Made, Refusal>,
-) -> Step<Guarded<S>, Deed<D>, Result<A, Refusal>>
+    step: Transition<Closing, Made, Refusal>,
+) -> Transition<Guarded<S>, Deed<D>, Result<A, Refusal>>
     ensures { result ≡ meaning.fails step }
 {
     match step {
-        Step::Stays(closing, made) => Step::Stays(Guarded::Closes(closing), Deed::Closes(made)),
-        Step::Gives(refusal) => Step::Gives(Err(refusal)),
+        Transition::Stays(closing, made) => Transition::Stays(
+            Guarded::Closes(closing),
+            Deed::Closes(made),
+        ),
+        Transition::Gives(refusal) => Transition::Gives(Err(refusal)),
     }
 }

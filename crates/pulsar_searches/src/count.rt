@@ -7,7 +7,8 @@ ghost use Rattle.pulsar_addresses.specs.Address.{in_discovery};
 
 use crate::question::Request;
 use crate::replies::{Heard, count_in};
-use crate::turn::{Action, SearchOutcome, Turn, Ways, error_of, is_lost};
+use crate::transition::Transition;
+use crate::turn::{Action, SearchOutcome, SearchTransition, Ways, error_of, is_lost};
 use pulsar_addresses::content::{Refusal, Text};
 use pulsar_wire::error::{ConnectionError, NoMemory};
 use std::alloc::Global;
@@ -38,11 +39,11 @@ pub fn begins(
     alloc: Global,
     ways: &Ways,
     topic: &Text,
-) -> Result<Turn<Counting, Result<u32, Refusal>>, NoMemory>
+) -> Result<SearchTransition<Counting, Result<u32, Refusal>>, NoMemory>
     ensures { IfOk result (λ turn. turn ≡ meaning.count_begins ways.now topic.now) }
 {
     if is_partition(topic.as_str()) {
-        return Ok(Turn::Gives(Ok(0)));
+        return Ok(Transition::Gives(Ok(0)));
     }
     gets(alloc, ways, true, 0)
 }
@@ -61,7 +62,7 @@ pub fn told(
     topic: &Text,
     counting: Counting,
     outcome: SearchOutcome,
-) -> Result<Turn<Counting, Result<u32, Refusal>>, NoMemory>
+) -> Result<SearchTransition<Counting, Result<u32, Refusal>>, NoMemory>
     ensures { IfOk result (λ turn. turn ≡ meaning.count_told ways.now topic.now counting outcome) }
 {
     match counting {
@@ -92,10 +93,10 @@ fn gets(
     ways: &Ways,
     again: bool,
     retries: u32,
-) -> Result<Turn<Counting, Result<u32, Refusal>>, NoMemory>
+) -> Result<SearchTransition<Counting, Result<u32, Refusal>>, NoMemory>
     ensures { IfOk result (λ turn. turn ≡ meaning.count_gets ways.now again retries) }
 {
-    Ok(Turn::Stays(
+    Ok(Transition::Stays(
         Counting::Getting { again, retries },
         Action::Get(ways.base.copy(alloc)?),
     ))
@@ -107,11 +108,11 @@ fn asks(
     again: bool,
     retries: u32,
     link: u64,
-) -> Result<Turn<Counting, Result<u32, Refusal>>, NoMemory>
+) -> Result<SearchTransition<Counting, Result<u32, Refusal>>, NoMemory>
     ensures { IfOk result (λ turn. turn ≡ meaning.count_asks topic.now again retries link) }
 {
     let request = Request::lookup_partitioned_topic(alloc, topic.as_str())?;
-    Ok(Turn::Stays(
+    Ok(Transition::Stays(
         Counting::Asked {
             again,
             retries,
@@ -124,10 +125,10 @@ fn asks(
 fn fails(
     alloc: Global,
     error: ConnectionError,
-) -> Result<Turn<Counting, Result<u32, Refusal>>, NoMemory>
+) -> Result<SearchTransition<Counting, Result<u32, Refusal>>, NoMemory>
     ensures { IfOk result (λ turn. turn ≡ meaning.fails (in_discovery (fault error))) }
 {
-    Ok(Turn::Gives(Err(Refusal::in_discovery(alloc, error)?)))
+    Ok(Transition::Gives(Err(Refusal::in_discovery(alloc, error)?)))
 }
 
 fn failed(
@@ -136,7 +137,7 @@ fn failed(
     again: bool,
     retries: u32,
     error: ConnectionError,
-) -> Result<Turn<Counting, Result<u32, Refusal>>, NoMemory>
+) -> Result<SearchTransition<Counting, Result<u32, Refusal>>, NoMemory>
     ensures { IfOk result (λ turn. turn ≡ meaning.count_failed ways.now again retries (fault error)) }
 {
     if again && is_lost(&error) {
@@ -152,15 +153,15 @@ fn told_by(
     retries: u32,
     link: u64,
     heard: Heard<u32>,
-) -> Turn<Counting, Result<u32, Refusal>>
+) -> SearchTransition<Counting, Result<u32, Refusal>>
     ensures { result ≡ meaning.count_heard ways.now retries link heard }
 {
     match heard {
-        Heard::Says(count) => Turn::Gives(Ok(count)),
-        Heard::Later => Turn::Stays(
+        Heard::Says(count) => Transition::Gives(Ok(count)),
+        Heard::Later => Transition::Stays(
             Counting::Resting { retries, link },
             Action::Wait(ways.retry_delay),
         ),
-        Heard::Denies(refusal) => Turn::Gives(Err(refusal)),
+        Heard::Denies(refusal) => Transition::Gives(Err(refusal)),
     }
 }

@@ -10,4 +10,5 @@ pub mod plan;
 pub mod question;
 mod replies;
 pub mod retry;
+pub mod transition;
 pub mod turn;

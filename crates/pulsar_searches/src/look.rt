@@ -7,7 +7,8 @@ ghost use Rattle.pulsar_addresses.specs.Address.{in_discovery};
 
 use crate::question::Request;
 use crate::replies::{Heard, Pointed, place_in};
-use crate::turn::{Action, SearchOutcome, Turn, Ways, error_of, is_lost};
+use crate::transition::Transition;
+use crate::turn::{Action, SearchOutcome, SearchTransition, Ways, error_of, is_lost};
 use pulsar_addresses::content::{Address, Refusal, Text};
 use pulsar_wire::error::{ConnectionError, NoMemory};
 use std::alloc::Global;
@@ -38,7 +39,7 @@ pub enum Looking {
 pub fn begins(
     alloc: Global,
     ways: &Ways,
-) -> Result<Turn<Looking, Result<Address, Refusal>>, NoMemory>
+) -> Result<SearchTransition<Looking, Result<Address, Refusal>>, NoMemory>
     ensures { IfOk result (λ turn. turn ≡ meaning.look_begins ways.now) }
 {
     let search = Search {
@@ -57,7 +58,7 @@ pub fn told(
     topic: &Text,
     looking: Looking,
     outcome: SearchOutcome,
-) -> Result<Turn<Looking, Result<Address, Refusal>>, NoMemory>
+) -> Result<SearchTransition<Looking, Result<Address, Refusal>>, NoMemory>
     ensures { IfOk result (λ turn. turn ≡ meaning.look_told ways.now topic.now looking outcome) }
 {
     match looking {
@@ -77,18 +78,21 @@ pub fn told(
             outcome => fails(alloc, error_of(outcome)),
         },
         Looking::Reaching(found) => match outcome {
-            SearchOutcome::GotLink(_) => Ok(Turn::Gives(Ok(found))),
+            SearchOutcome::GotLink(_) => Ok(Transition::Gives(Ok(found))),
             outcome => fails(alloc, error_of(outcome)),
         },
     }
 }
 
 /// A link to the address is got.
-fn gets(alloc: Global, search: Search) -> Result<Turn<Looking, Result<Address, Refusal>>, NoMemory>
+fn gets(
+    alloc: Global,
+    search: Search,
+) -> Result<SearchTransition<Looking, Result<Address, Refusal>>, NoMemory>
     ensures { IfOk result (λ turn. turn ≡ meaning.look_gets search) }
 {
     let address = search.last.copy(alloc)?;
-    Ok(Turn::Stays(Looking::Getting(search), Action::Get(address)))
+    Ok(Transition::Stays(Looking::Getting(search), Action::Get(address)))
 }
 
 fn asks(
@@ -96,11 +100,11 @@ fn asks(
     topic: &Text,
     search: Search,
     link: u64,
-) -> Result<Turn<Looking, Result<Address, Refusal>>, NoMemory>
+) -> Result<SearchTransition<Looking, Result<Address, Refusal>>, NoMemory>
     ensures { IfOk result (λ turn. turn ≡ meaning.look_asks topic.now search link) }
 {
     let request = Request::lookup_topic(alloc, topic.as_str(), search.authority)?;
-    Ok(Turn::Stays(
+    Ok(Transition::Stays(
         Looking::Asked { search, link },
         Action::Ask { link, request },
     ))
@@ -121,17 +125,17 @@ fn asked_anew(search: Search) -> Search
 fn fails(
     alloc: Global,
     error: ConnectionError,
-) -> Result<Turn<Looking, Result<Address, Refusal>>, NoMemory>
+) -> Result<SearchTransition<Looking, Result<Address, Refusal>>, NoMemory>
     ensures { IfOk result (λ turn. turn ≡ meaning.fails (in_discovery (fault error))) }
 {
-    Ok(Turn::Gives(Err(Refusal::in_discovery(alloc, error)?)))
+    Ok(Transition::Gives(Err(Refusal::in_discovery(alloc, error)?)))
 }
 
 fn failed(
     alloc: Global,
     search: Search,
     error: ConnectionError,
-) -> Result<Turn<Looking, Result<Address, Refusal>>, NoMemory>
+) -> Result<SearchTransition<Looking, Result<Address, Refusal>>, NoMemory>
     ensures { IfOk result (λ turn. turn ≡ meaning.look_failed search (fault error)) }
 {
     if search.again && is_lost(&error) {
@@ -156,16 +160,16 @@ fn told_by(
     search: Search,
     link: u64,
     heard: Heard<Pointed>,
-) -> Result<Turn<Looking, Result<Address, Refusal>>, NoMemory>
+) -> Result<SearchTransition<Looking, Result<Address, Refusal>>, NoMemory>
     ensures { IfOk result (λ turn. turn ≡ meaning.look_heard ways.now search link heard) }
 {
     match heard {
         Heard::Says(pointed) => points(alloc, search.retries, pointed),
-        Heard::Later => Ok(Turn::Stays(
+        Heard::Later => Ok(Transition::Stays(
             Looking::Resting { search, link },
             Action::Wait(ways.retry_delay),
         )),
-        Heard::Denies(refusal) => Ok(Turn::Gives(Err(refusal))),
+        Heard::Denies(refusal) => Ok(Transition::Gives(Err(refusal))),
     }
 }
 
@@ -174,7 +178,7 @@ fn points(
     alloc: Global,
     retries: u32,
     pointed: Pointed,
-) -> Result<Turn<Looking, Result<Address, Refusal>>, NoMemory>
+) -> Result<SearchTransition<Looking, Result<Address, Refusal>>, NoMemory>
     ensures { IfOk result (λ turn. turn ≡ meaning.look_pointed retries pointed) }
 {
     match pointed {
@@ -189,7 +193,7 @@ fn points(
         ),
         Pointed::Serves(found) => {
             let address = found.copy(alloc)?;
-            Ok(Turn::Stays(Looking::Reaching(found), Action::Get(address)))
+            Ok(Transition::Stays(Looking::Reaching(found), Action::Get(address)))
         }
     }
 }

@@ -8,7 +8,8 @@ ghost use Rattle.pulsar_searches.specs.Plans as meaning;
 use crate::question::Request;
 use crate::replies::why_refused;
 use crate::retry::{self, Retrying};
-use crate::turn::{Action, SearchOutcome, Turn, Ways, error_of};
+use crate::transition::Transition;
+use crate::turn::{Action, SearchOutcome, SearchTransition, Ways, error_of};
 use pulsar_addresses::content::{Address, Refusal, Text};
 use pulsar_frame::received::Received;
 use pulsar_wire::error::{ConnectionError, NoMemory};
@@ -41,10 +42,10 @@ pub enum Making {
 }
 
 /// A link to the address is got, after so many retries.
-pub fn gets(retries: u32, address: Address) -> Turn<Making, Result<Served, Refusal>>
+pub fn gets(retries: u32, address: Address) -> SearchTransition<Making, Result<Served, Refusal>>
     ensures { result ≡ meaning.made_gets retries address }
 {
-    Turn::Stays(Making::Getting { retries }, Action::Get(address))
+    Transition::Stays(Making::Getting { retries }, Action::Get(address))
 }
 
 /// What an outcome makes of it.
@@ -54,7 +55,7 @@ pub fn told(
     command: &Command,
     making: Making,
     outcome: SearchOutcome,
-) -> Result<Turn<Making, Result<Served, Refusal>>, NoMemory>
+) -> Result<SearchTransition<Making, Result<Served, Refusal>>, NoMemory>
     ensures { IfOk result (λ turn. turn ≡ meaning.made_told ways.now command.now making outcome) }
 {
     match making {
@@ -63,7 +64,7 @@ pub fn told(
             outcome => fails(alloc, error_of(outcome)),
         },
         Making::Asked { retries, link } => match verdict(alloc, command.answer, outcome)? {
-            Ok(reply) => Ok(Turn::Gives(Ok(Served { link, reply }))),
+            Ok(reply) => Ok(Transition::Gives(Ok(Served { link, reply }))),
             Err(error) => {
                 let turn = retry::begins(alloc, ways, retries, error)?;
                 Ok(after_retry(retries, turn))
@@ -81,11 +82,11 @@ fn asks(
     command: &Command,
     retries: u32,
     link: u64,
-) -> Result<Turn<Making, Result<Served, Refusal>>, NoMemory>
+) -> Result<SearchTransition<Making, Result<Served, Refusal>>, NoMemory>
     ensures { IfOk result (λ turn. turn ≡ meaning.made_asks command.now retries link) }
 {
     let request = command.request.copy(alloc)?;
-    Ok(Turn::Stays(
+    Ok(Transition::Stays(
         Making::Asked { retries, link },
         Action::Ask { link, request },
     ))
@@ -94,26 +95,26 @@ fn asks(
 fn fails(
     alloc: Global,
     error: ConnectionError,
-) -> Result<Turn<Making, Result<Served, Refusal>>, NoMemory>
+) -> Result<SearchTransition<Making, Result<Served, Refusal>>, NoMemory>
     ensures { IfOk result (λ turn. turn ≡ meaning.fails (OfConnection (fault error))) }
 {
-    Ok(Turn::Gives(Err(Refusal::in_connection(alloc, error)?)))
+    Ok(Transition::Gives(Err(Refusal::in_connection(alloc, error)?)))
 }
 
 /// A retry is under way.
 fn after_retry(
     retries: u32,
-    turn: Turn<Retrying, Result<Address, Refusal>>,
-) -> Turn<Making, Result<Served, Refusal>>
+    turn: SearchTransition<Retrying, Result<Address, Refusal>>,
+) -> SearchTransition<Making, Result<Served, Refusal>>
     ensures { result ≡ meaning.and_then turn (λ r. Making.Retrying r retries) (meaning.made_gets (one_more retries)) }
 {
     match turn {
-        Turn::Stays(retrying, action) => Turn::Stays(
+        Transition::Stays(retrying, action) => Transition::Stays(
             Making::Retrying { retrying, retries },
             action,
         ),
-        Turn::Gives(Ok(address)) => gets(retries.saturating_add(1), address),
-        Turn::Gives(Err(refusal)) => Turn::Gives(Err(refusal)),
+        Transition::Gives(Ok(address)) => gets(retries.saturating_add(1), address),
+        Transition::Gives(Err(refusal)) => Transition::Gives(Err(refusal)),
     }
 }
 

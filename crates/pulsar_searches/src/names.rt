@@ -3,11 +3,12 @@
 ghost use Rattle.std.specs.Prelude.{◌≡◌, ◌-◌, [], Ok, Err, IfOk};
 ghost use Rattle.pulsar_searches.specs.Plans as meaning;
 ghost use Rattle.pulsar_addresses.specs.Address as addresses;
-ghost use Rattle.pulsar_searches.specs.declared.turn.Turn.TheVariants.{Gives};
+ghost use Rattle.pulsar_searches.specs.declared.transition.Transition.TheVariants.{Gives};
 
 use crate::count::{self, Counting};
 use crate::look::{self, Looking};
-use crate::turn::{SearchOutcome, Turn, Ways};
+use crate::transition::Transition;
+use crate::turn::{SearchOutcome, SearchTransition, Ways};
 use pulsar_addresses::content::{Address, Names, Refusal, Text};
 use pulsar_wire::error::NoMemory;
 use std::alloc::Global;
@@ -37,7 +38,7 @@ pub fn begins(
     alloc: Global,
     ways: &Ways,
     topic: &Text,
-) -> Result<Turn<Naming, Result<Names, Refusal>>, NoMemory>
+) -> Result<SearchTransition<Naming, Result<Names, Refusal>>, NoMemory>
     ensures { IfOk result (λ turn. turn ≡ meaning.names_begins ways.now topic.now) }
 {
     let turn = count::begins(alloc, ways, topic)?;
@@ -51,7 +52,7 @@ pub fn told(
     topic: &Text,
     naming: Naming,
     outcome: SearchOutcome,
-) -> Result<Turn<Naming, Result<Names, Refusal>>, NoMemory>
+) -> Result<SearchTransition<Naming, Result<Names, Refusal>>, NoMemory>
     ensures { IfOk result (λ turn. turn ≡ meaning.names_told ways.now topic.now naming outcome) }
 {
     match naming {
@@ -75,14 +76,17 @@ fn after_count(
     alloc: Global,
     ways: &Ways,
     topic: &Text,
-    turn: Turn<Counting, Result<u32, Refusal>>,
-) -> Result<Turn<Naming, Result<Names, Refusal>>, NoMemory>
+    turn: SearchTransition<Counting, Result<u32, Refusal>>,
+) -> Result<SearchTransition<Naming, Result<Names, Refusal>>, NoMemory>
     ensures { IfOk result (λ next. next ≡ meaning.and_then turn Naming.Counting (meaning.names_of ways.now topic.now)) }
 {
     match turn {
-        Turn::Stays(counting, action) => Ok(Turn::Stays(Naming::Counting(counting), action)),
-        Turn::Gives(Ok(count)) => names_of(alloc, ways, topic, count),
-        Turn::Gives(Err(refusal)) => Ok(Turn::Gives(Err(refusal))),
+        Transition::Stays(counting, action) => Ok(Transition::Stays(
+            Naming::Counting(counting),
+            action,
+        )),
+        Transition::Gives(Ok(count)) => names_of(alloc, ways, topic, count),
+        Transition::Gives(Err(refusal)) => Ok(Transition::Gives(Err(refusal))),
     }
 }
 
@@ -91,7 +95,7 @@ fn names_of(
     ways: &Ways,
     topic: &Text,
     count: u32,
-) -> Result<Turn<Naming, Result<Names, Refusal>>, NoMemory>
+) -> Result<SearchTransition<Naming, Result<Names, Refusal>>, NoMemory>
     ensures { IfOk result (λ turn. turn ≡ meaning.names_of ways.now topic.now count) }
 {
     if count == 0 {
@@ -106,17 +110,17 @@ fn names_of(
 fn after_whole(
     alloc: Global,
     topic: &Text,
-    turn: Turn<Looking, Result<Address, Refusal>>,
-) -> Result<Turn<Naming, Result<Names, Refusal>>, NoMemory>
+    turn: SearchTransition<Looking, Result<Address, Refusal>>,
+) -> Result<SearchTransition<Naming, Result<Names, Refusal>>, NoMemory>
     ensures { IfOk result (λ next. next ≡ meaning.and_then turn Naming.Whole (λ place. Gives (Ok (addresses.name_found [] topic.now place)))) }
 {
     match turn {
-        Turn::Stays(look, action) => Ok(Turn::Stays(Naming::Whole(look), action)),
-        Turn::Gives(Ok(address)) => {
+        Transition::Stays(look, action) => Ok(Transition::Stays(Naming::Whole(look), action)),
+        Transition::Gives(Ok(address)) => {
             let names = Names::new(alloc).with(topic.copy()?, address)?;
-            Ok(Turn::Gives(Ok(names)))
+            Ok(Transition::Gives(Ok(names)))
         }
-        Turn::Gives(Err(refusal)) => Ok(Turn::Gives(Err(refusal))),
+        Transition::Gives(Err(refusal)) => Ok(Transition::Gives(Err(refusal))),
     }
 }
 
@@ -128,11 +132,11 @@ fn names_left(
     count: u32,
     left: u32,
     found: Names,
-) -> Result<Turn<Naming, Result<Names, Refusal>>, NoMemory>
+) -> Result<SearchTransition<Naming, Result<Names, Refusal>>, NoMemory>
     ensures { IfOk result (λ turn. turn ≡ meaning.names_left ways.now topic.now count left found) }
 {
     if left == 0 {
-        return Ok(Turn::Gives(Ok(found)));
+        return Ok(Transition::Gives(Ok(found)));
     }
     let part = Part {
         name: partition_name(alloc, topic.as_str(), count.saturating_sub(left))?,
@@ -147,14 +151,14 @@ fn names_left(
 /// A partition's search has begun.
 fn begun(
     part: Part,
-    turn: Turn<Looking, Result<Address, Refusal>>,
-) -> Turn<Naming, Result<Names, Refusal>>
+    turn: SearchTransition<Looking, Result<Address, Refusal>>,
+) -> SearchTransition<Naming, Result<Names, Refusal>>
     ensures { result ≡ meaning.and_then turn (λ l. Naming.Part l part) (λ place. Gives (Ok part.found)) }
 {
     match turn {
-        Turn::Stays(look, action) => Turn::Stays(Naming::Part { look, part }, action),
-        Turn::Gives(Ok(_)) => Turn::Gives(Ok(part.found)),
-        Turn::Gives(Err(refusal)) => Turn::Gives(Err(refusal)),
+        Transition::Stays(look, action) => Transition::Stays(Naming::Part { look, part }, action),
+        Transition::Gives(Ok(_)) => Transition::Gives(Ok(part.found)),
+        Transition::Gives(Err(refusal)) => Transition::Gives(Err(refusal)),
     }
 }
 
@@ -170,14 +174,17 @@ fn after_part(
     ways: &Ways,
     topic: &Text,
     part: Part,
-    turn: Turn<Looking, Result<Address, Refusal>>,
-) -> Result<Turn<Naming, Result<Names, Refusal>>, NoMemory>
+    turn: SearchTransition<Looking, Result<Address, Refusal>>,
+) -> Result<SearchTransition<Naming, Result<Names, Refusal>>, NoMemory>
     ensures { IfOk result (λ next. next ≡ meaning.and_then turn (λ l. Naming.Part l part)
         (λ place. meaning.names_left ways.now topic.now part.count part.left (addresses.name_found part.found part.name place))) }
 {
     match turn {
-        Turn::Stays(look, action) => Ok(Turn::Stays(Naming::Part { look, part }, action)),
-        Turn::Gives(Ok(address)) => {
+        Transition::Stays(look, action) => Ok(Transition::Stays(
+            Naming::Part { look, part },
+            action,
+        )),
+        Transition::Gives(Ok(address)) => {
             let Part {
                 name,
                 count,
@@ -187,6 +194,6 @@ fn after_part(
             let found = found.with(name, address)?;
             names_left(alloc, ways, topic, count, left, found)
         }
-        Turn::Gives(Err(refusal)) => Ok(Turn::Gives(Err(refusal))),
+        Transition::Gives(Err(refusal)) => Ok(Transition::Gives(Err(refusal))),
     }
 }

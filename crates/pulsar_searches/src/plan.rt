@@ -2,14 +2,15 @@
 
 ghost use Rattle.std.specs.Prelude.{◌≡◌, Ok, IfOk};
 ghost use Rattle.pulsar_searches.specs.Plans as meaning;
-ghost use Rattle.pulsar_searches.specs.declared.turn.Turn.TheVariants.{Gives};
+ghost use Rattle.pulsar_searches.specs.declared.transition.Transition.TheVariants.{Gives};
 
 use crate::count::{self, Counting};
 use crate::look::{self, Looking};
 use crate::making::{self, Command, Making, Served};
 use crate::names::{self, Naming};
 use crate::retry::{self, Retrying};
-use crate::turn::{SearchOutcome, Turn, Ways};
+use crate::transition::Transition;
+use crate::turn::{SearchOutcome, SearchTransition, Ways};
 use pulsar_addresses::content::{Address, Cause, Names, Refusal, Text};
 use pulsar_wire::error::NoMemory;
 use std::alloc::Global;
@@ -60,7 +61,7 @@ pub fn begins(
     alloc: Global,
     ways: &Ways,
     procedure: Sought,
-) -> Result<Turn<SearchPlan, Result<Answer, Refusal>>, NoMemory>
+) -> Result<SearchTransition<SearchPlan, Result<Answer, Refusal>>, NoMemory>
     ensures { IfOk result (λ turn. turn ≡ meaning.begins ways.now procedure) }
 {
     match procedure {
@@ -94,7 +95,7 @@ pub fn told(
     ways: &Ways,
     plan: SearchPlan,
     outcome: SearchOutcome,
-) -> Result<Turn<SearchPlan, Result<Answer, Refusal>>, NoMemory>
+) -> Result<SearchTransition<SearchPlan, Result<Answer, Refusal>>, NoMemory>
     ensures { IfOk result (λ turn. turn ≡ meaning.told ways.now plan outcome) }
 {
     match plan {
@@ -123,71 +124,80 @@ pub fn told(
 
 fn after_count(
     topic: Text,
-    turn: Turn<Counting, Result<u32, Refusal>>,
-) -> Turn<SearchPlan, Result<Answer, Refusal>>
+    turn: SearchTransition<Counting, Result<u32, Refusal>>,
+) -> SearchTransition<SearchPlan, Result<Answer, Refusal>>
     ensures { result ≡ meaning.and_then turn (SearchPlan.Counting topic) (λ n. Gives (Ok (Answer.Count n))) }
 {
     match turn {
-        Turn::Stays(counting, action) => Turn::Stays(
+        Transition::Stays(counting, action) => Transition::Stays(
             SearchPlan::Counting { topic, counting },
             action,
         ),
-        Turn::Gives(Ok(count)) => Turn::Gives(Ok(Answer::Count(count))),
-        Turn::Gives(Err(refusal)) => Turn::Gives(Err(refusal)),
+        Transition::Gives(Ok(count)) => Transition::Gives(Ok(Answer::Count(count))),
+        Transition::Gives(Err(refusal)) => Transition::Gives(Err(refusal)),
     }
 }
 
 fn after_look(
     topic: Text,
-    turn: Turn<Looking, Result<Address, Refusal>>,
-) -> Turn<SearchPlan, Result<Answer, Refusal>>
+    turn: SearchTransition<Looking, Result<Address, Refusal>>,
+) -> SearchTransition<SearchPlan, Result<Answer, Refusal>>
     ensures { result ≡ meaning.and_then turn (SearchPlan.Looking topic) (λ place. Gives (Ok (Answer.Address place))) }
 {
     match turn {
-        Turn::Stays(looking, action) => Turn::Stays(SearchPlan::Looking { topic, looking }, action),
-        Turn::Gives(Ok(address)) => Turn::Gives(Ok(Answer::Address(address))),
-        Turn::Gives(Err(refusal)) => Turn::Gives(Err(refusal)),
+        Transition::Stays(looking, action) => Transition::Stays(
+            SearchPlan::Looking { topic, looking },
+            action,
+        ),
+        Transition::Gives(Ok(address)) => Transition::Gives(Ok(Answer::Address(address))),
+        Transition::Gives(Err(refusal)) => Transition::Gives(Err(refusal)),
     }
 }
 
 fn after_names(
     topic: Text,
-    turn: Turn<Naming, Result<Names, Refusal>>,
-) -> Turn<SearchPlan, Result<Answer, Refusal>>
+    turn: SearchTransition<Naming, Result<Names, Refusal>>,
+) -> SearchTransition<SearchPlan, Result<Answer, Refusal>>
     ensures { result ≡ meaning.and_then turn (SearchPlan.Naming topic) (λ names. Gives (Ok (Answer.Addresses names))) }
 {
     match turn {
-        Turn::Stays(naming, action) => Turn::Stays(SearchPlan::Naming { topic, naming }, action),
-        Turn::Gives(Ok(names)) => Turn::Gives(Ok(Answer::Addresses(names))),
-        Turn::Gives(Err(refusal)) => Turn::Gives(Err(refusal)),
+        Transition::Stays(naming, action) => Transition::Stays(
+            SearchPlan::Naming { topic, naming },
+            action,
+        ),
+        Transition::Gives(Ok(names)) => Transition::Gives(Ok(Answer::Addresses(names))),
+        Transition::Gives(Err(refusal)) => Transition::Gives(Err(refusal)),
     }
 }
 
 fn after_retry(
     topic: Text,
-    turn: Turn<Retrying, Result<Address, Refusal>>,
-) -> Turn<SearchPlan, Result<Answer, Refusal>>
+    turn: SearchTransition<Retrying, Result<Address, Refusal>>,
+) -> SearchTransition<SearchPlan, Result<Answer, Refusal>>
     ensures { result ≡ meaning.and_then turn (SearchPlan.Retrying topic) (λ place. Gives (Ok (Answer.Address place))) }
 {
     match turn {
-        Turn::Stays(retrying, action) => Turn::Stays(
+        Transition::Stays(retrying, action) => Transition::Stays(
             SearchPlan::Retrying { topic, retrying },
             action,
         ),
-        Turn::Gives(Ok(address)) => Turn::Gives(Ok(Answer::Address(address))),
-        Turn::Gives(Err(refusal)) => Turn::Gives(Err(refusal)),
+        Transition::Gives(Ok(address)) => Transition::Gives(Ok(Answer::Address(address))),
+        Transition::Gives(Err(refusal)) => Transition::Gives(Err(refusal)),
     }
 }
 
 fn after_making(
     command: Command,
-    turn: Turn<Making, Result<Served, Refusal>>,
-) -> Turn<SearchPlan, Result<Answer, Refusal>>
+    turn: SearchTransition<Making, Result<Served, Refusal>>,
+) -> SearchTransition<SearchPlan, Result<Answer, Refusal>>
     ensures { result ≡ meaning.and_then turn (SearchPlan.Making command) (λ s. Gives (Ok (Answer.Reply s))) }
 {
     match turn {
-        Turn::Stays(making, action) => Turn::Stays(SearchPlan::Making { command, making }, action),
-        Turn::Gives(Ok(served)) => Turn::Gives(Ok(Answer::Reply(served))),
-        Turn::Gives(Err(refusal)) => Turn::Gives(Err(refusal)),
+        Transition::Stays(making, action) => Transition::Stays(
+            SearchPlan::Making { command, making },
+            action,
+        ),
+        Transition::Gives(Ok(served)) => Transition::Gives(Ok(Answer::Reply(served))),
+        Transition::Gives(Err(refusal)) => Transition::Gives(Err(refusal)),
     }
 }

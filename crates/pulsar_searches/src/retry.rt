@@ -3,10 +3,11 @@
 ghost use Rattle.std.specs.Prelude.{◌≡◌, IfOk};
 ghost use Rattle.pulsar_wire.specs.Failures.{OfConnection, fault};
 ghost use Rattle.pulsar_searches.specs.Plans as meaning;
-ghost use Rattle.pulsar_searches.specs.declared.turn.Turn.TheVariants.{Gives};
+ghost use Rattle.pulsar_searches.specs.declared.transition.Transition.TheVariants.{Gives};
 
 use crate::look::{self, Looking};
-use crate::turn::{Action, SearchOutcome, Turn, Ways, error_of};
+use crate::transition::Transition;
+use crate::turn::{Action, SearchOutcome, SearchTransition, Ways, error_of};
 use pulsar_addresses::content::{Address, Refusal, Text};
 use pulsar_addresses::options::allow_retry;
 use pulsar_wire::commands::enumerations::ServerError;
@@ -54,11 +55,11 @@ pub fn begins(
     ways: &Ways,
     retries: u32,
     error: ConnectionError,
-) -> Result<Turn<Retrying, Result<Address, Refusal>>, NoMemory>
+) -> Result<SearchTransition<Retrying, Result<Address, Refusal>>, NoMemory>
     ensures { IfOk result (λ turn. turn ≡ meaning.retry_begins ways.now retries (fault error)) }
 {
     if is_retryable(&error) && allow_retry(ways.max_retries, retries) {
-        Ok(Turn::Stays(Retrying::Resting, Action::Wait(ways.retry_delay)))
+        Ok(Transition::Stays(Retrying::Resting, Action::Wait(ways.retry_delay)))
     } else {
         fails(alloc, error)
     }
@@ -71,7 +72,7 @@ pub fn told(
     topic: &Text,
     retrying: Retrying,
     outcome: SearchOutcome,
-) -> Result<Turn<Retrying, Result<Address, Refusal>>, NoMemory>
+) -> Result<SearchTransition<Retrying, Result<Address, Refusal>>, NoMemory>
     ensures { IfOk result (λ turn. turn ≡ meaning.retry_told ways.now topic.now retrying outcome) }
 {
     match retrying {
@@ -92,20 +93,20 @@ pub fn told(
 fn fails(
     alloc: Global,
     error: ConnectionError,
-) -> Result<Turn<Retrying, Result<Address, Refusal>>, NoMemory>
+) -> Result<SearchTransition<Retrying, Result<Address, Refusal>>, NoMemory>
     ensures { IfOk result (λ turn. turn ≡ meaning.fails (OfConnection (fault error))) }
 {
-    Ok(Turn::Gives(Err(Refusal::in_connection(alloc, error)?)))
+    Ok(Transition::Gives(Err(Refusal::in_connection(alloc, error)?)))
 }
 
 /// The broker is looked for.
 fn after_look(
-    turn: Turn<Looking, Result<Address, Refusal>>,
-) -> Turn<Retrying, Result<Address, Refusal>>
+    turn: SearchTransition<Looking, Result<Address, Refusal>>,
+) -> SearchTransition<Retrying, Result<Address, Refusal>>
     ensures { result ≡ meaning.nested turn Retrying.Looking Gives }
 {
     match turn {
-        Turn::Stays(look, action) => Turn::Stays(Retrying::Looking(look), action),
-        Turn::Gives(found) => Turn::Gives(found),
+        Transition::Stays(look, action) => Transition::Stays(Retrying::Looking(look), action),
+        Transition::Gives(found) => Transition::Gives(found),
     }
 }

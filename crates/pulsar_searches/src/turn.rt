@@ -5,6 +5,7 @@ ghost use Rattle.pulsar_wire.specs.Failures.{fault};
 ghost use Rattle.pulsar_searches.specs.Plans.{fault_of, is_lost};
 
 use crate::question::Request;
+use crate::transition::Transition;
 use pulsar_addresses::content::{Address, Cause};
 use pulsar_frame::received::Received;
 use pulsar_wire::error::{ConnectionError, NoMemory};
@@ -43,12 +44,8 @@ pub enum SearchOutcome {
     Failed(Cause),
 }
 
-/// A plan stays, in this state, and does this action, or it ends and gives its value.
-#[derive(Drop)]
-pub enum Turn<S, A> {
-    Stays(S, Action),
-    Gives(A),
-}
+/// What a search does at what it is told.
+pub type SearchTransition<S, A> = Transition<S, Action, A>;
 
 /// Why a plan fails at an outcome.
 pub fn error_of(outcome: SearchOutcome) -> ConnectionError

@@ -7,6 +7,8 @@ mod incoming;
 pub mod laws;
 mod link;
 pub mod messages;
+pub mod series;
+pub mod service;
 pub mod states;
 
 pub use connection::{Connection, ConnectionSender, SharedError};

@@ -1,6 +1,6 @@
 //! What a connection keeps, and what it does.
 
-ghost use Rattle.std.specs.Prelude.{◌≡◌, ◌++◌, Some, None, Bool, true, false, IfOk, OnOk, OnErr, option_copied, string_bytes, filter, take, drop, if◌then◌else◌};
+ghost use Rattle.std.specs.Prelude.{◌≡◌, ◌++◌, Some, None, Bool, true, false, IfOk, OnOk, OnErr, option_copied, filter, take, drop, if◌then◌else◌};
 ghost use Rattle.std.specs.List.{flat_map};
 ghost use Rattle.std.specs.Option.{option_map};
 ghost use Rattle.pulsar_frame.specs.Shown.{message_values};
@@ -15,6 +15,8 @@ ghost use Rattle.pulsar_session.specs.Soonest.{due_at};
 
 use crate::frames::{Arrival, Next, awaited_by, command_frame, is, unasked, unready};
 use crate::incoming::{First, Incoming};
+use crate::messages::text;
+use crate::service::copy_auth;
 use crate::states::{Asked, Stage};
 use pulsar_frame::message::Message;
 use pulsar_messages::{Authentication, messages as builders};
@@ -211,7 +213,7 @@ impl Link {
     fn greeting(&self) -> Result<Option<Vec<u8>>, NoMemory>
         ensures { IfOk result (λ f. option_map (λ v. v.items) f ≡ frame_for (greeting (setup_of self.now.setup))) }
     {
-        let auth = copy_of(&self.setup.auth)?;
+        let auth = copy_auth(&self.setup.auth)?;
         command_frame(
             self.alloc,
             builders::connect(self.alloc, auth, text(&self.setup.proxy)),
@@ -332,7 +334,7 @@ impl Link {
     fn respond(&mut self) -> Result<(), NoMemory>
         ensures { OnOk result (table self.new ≡ challenged (table self.old).setup.auth (table self.old)) }
     {
-        match copy_of(&self.setup.auth)? {
+        match copy_auth(&self.setup.auth)? {
             Some(auth) => {
                 self.respond_with(auth)?;
                 Ok(())
@@ -468,24 +470,6 @@ fn settle_in(requests: Requests, message: &Message) -> Result<(Vec<u64>, Request
     let awaited = awaited_by(message);
     let (places, left) = requests.settle(awaited)?;
     Ok((places, left))
-}
-
-fn copy_of(auth: &Option<Authentication>) -> Result<Option<Authentication>, NoMemory>
-    ensures { IfOk result (λ a. option_map authentication_values a ≡ option_map authentication_values auth.now) }
-{
-    match auth {
-        Some(auth) => Ok(Some(auth.copy()?)),
-        None => Ok(None),
-    }
-}
-
-fn text(text: &Option<String>) -> Option<&str>
-    ensures { option_copied result ≡ option_map string_bytes text.now }
-{
-    match text {
-        Some(text) => Some(text.as_str()),
-        None => None,
-    }
 }
 
 /// Puts a frame behind bytes.

@@ -1,6 +1,6 @@
 //! The messages that a client writes.
 
-ghost use Rattle.std.specs.Prelude.{◌≡◌, ℕ, Bool, Some, IfOk, IsOkAnd, map};
+ghost use Rattle.std.specs.Prelude.{◌≡◌, ℕ, Bool, Some, IfOk, IsOkAnd, map, string_bytes};
 ghost use Rattle.std.specs.Option.{option_copied, option_map};
 ghost use Rattle.pulsar_wire.specs.Views.{command_values, message_id_values};
 ghost use Rattle.pulsar_frame.specs.Shown.{message_values};
@@ -258,6 +258,16 @@ pub fn send(
     match builders::send(alloc, producer_id, name, sequence_id, message, publish_time) {
         Ok(parts) => Ok(whole(parts)),
         Err(_) => Err(NoMemory),
+    }
+}
+
+/// A text that may be absent.
+pub fn text(text: &Option<String>) -> Option<&str>
+    ensures { option_copied result ≡ option_map string_bytes text.now }
+{
+    match text {
+        Some(text) => Some(text.as_str()),
+        None => None,
     }
 }
 

@@ -18,6 +18,7 @@ use Rattle.pulsar_wire.specs.contracts.error.Error as wire-Error
 use Rattle.pulsar_acts.proofs.settings.Settings.TheSendSync as acts-Settings
 use Rattle.pulsar_acts.specs.contracts.tables.Tables as acts-Tables
 use Rattle.pulsar_calls.proofs.act.Round.TheSendSync as calls-Round
+use Rattle.pulsar_calls.proofs.boxed.Boxed.TheSendSync as calls-Boxed
 use Rattle.pulsar_calls.proofs.act.Says.TheSendSync as calls-Says
 use Rattle.pulsar_calls.proofs.act.Share.TheSendSync as calls-Share
 use Rattle.pulsar_calls.proofs.act.Who.TheSendSync as calls-Who
@@ -51,16 +52,12 @@ use Rattle.pulsar_searches.proofs.look.Looking.TheSendSync as plans-Looking
 use Rattle.pulsar_searches.proofs.making.Command.TheSendSync as plans-Command
 use Rattle.pulsar_searches.proofs.making.Making.TheSendSync as plans-Making
 use Rattle.pulsar_searches.proofs.names.Naming.TheSendSync as plans-Naming
+use Rattle.pulsar_searches.proofs.plan.SearchPlan.TheSendSync as searches-SearchPlan
 use Rattle.pulsar_searches.proofs.turn.Ways.TheSendSync as plans-Ways
 use Rattle.pulsar_plans.proofs.plan.At.TheSendSync as procedures-At
 use Rattle.pulsar_plans.specs.contracts.plan.Plan as procedures-Plan
 use Rattle.pulsar_plans.proofs.plan.Wanted.TheSendSync as procedures-Wanted
-use Rattle.pulsar_plans.proofs.search_state.SearchState.TheSendSync as procedures-SearchState
 use Rattle.pulsar_plans.proofs.service.Service.TheSendSync as procedures-Service
-use Rattle.pulsar_plans.specs.contracts.states.BatchState as procedures-BatchState
-use Rattle.pulsar_plans.specs.contracts.states.BuildState as procedures-BuildState
-use Rattle.pulsar_plans.proofs.states.ConsumerState.TheSendSync as procedures-ConsumerState
-use Rattle.pulsar_plans.specs.contracts.states.SendState as procedures-SendState
 use Rattle.pulsar_plans.specs.contracts.table.Plans as procedures-Plans
 use Rattle.pulsar_producer.specs.contracts.batching.Batching as producer-Batching
 use Rattle.pulsar_producer.specs.contracts.building.BuildingProducer as producer-Building
@@ -157,23 +154,11 @@ producer-Batching-field_send = search (producer-Members.the_send, producer-Sendi
 pub producer-Batching-send : IsSend producer-Batching.the_row
 producer-Batching-send = as_row_send producer-Batching.the_field producer-Batching-field_send
 
-pub procedures-BatchState-field_send : IsSend (procedures-BatchState.the_field).row
-procedures-BatchState-field_send = search (producer-Batching-send, producer-Batching-field_send, heap.crosses, maps.crosses, sendable) depth 30 fits 20000
-
-pub procedures-BatchState-send : IsSend procedures-BatchState.the_row
-procedures-BatchState-send = as_row_send procedures-BatchState.the_field procedures-BatchState-field_send
-
 pub producer-Building-field_send : IsSend (producer-Building.the_field).row
 producer-Building-field_send = search (plans-Command.the_send, plans-Command.the_field_send, producer-Left.the_send, plans-Making.the_send, plans-Making.the_field_send, plans-Naming.the_send, plans-Naming.the_field_send, producer-Part.the_send, producer-Part.the_field_send, producer-Parts.the_send, plans-Refusal-send, plans-Refusal-field_send, heap.crosses, maps.crosses, sendable) depth 30 fits 20000
 
 pub producer-Building-send : IsSend producer-Building.the_row
 producer-Building-send = as_row_send producer-Building.the_field producer-Building-field_send
-
-pub procedures-BuildState-field_send : IsSend (procedures-BuildState.the_field).row
-procedures-BuildState-field_send = search (consumer-Building.the_send, consumer-Building.the_field_send, producer-Building-send, producer-Building-field_send, heap.crosses, maps.crosses, sendable) depth 30 fits 20000
-
-pub procedures-BuildState-send : IsSend procedures-BuildState.the_row
-procedures-BuildState-send = as_row_send procedures-BuildState.the_field procedures-BuildState-field_send
 
 pub calls-Failures-field_send : IsSend (calls-Failures.the_field).row
 calls-Failures-field_send = search (plans-Refusal-send, plans-Refusal-field_send, heap.crosses, maps.crosses, sendable) depth 30 fits 20000
@@ -181,14 +166,8 @@ calls-Failures-field_send = search (plans-Refusal-send, plans-Refusal-field_send
 pub calls-Failures-send : IsSend calls-Failures.the_row
 calls-Failures-send = as_row_send calls-Failures.the_field calls-Failures-field_send
 
-pub procedures-SendState-field_send : IsSend (procedures-SendState.the_field).row
-procedures-SendState-field_send = search (producer-Sending-send, producer-Sending-field_send, heap.crosses, maps.crosses, sendable) depth 30 fits 20000
-
-pub procedures-SendState-send : IsSend procedures-SendState.the_row
-procedures-SendState-send = as_row_send procedures-SendState.the_field procedures-SendState-field_send
-
 pub procedures-Plan-field_send : IsSend (procedures-Plan.the_field).row
-procedures-Plan-field_send = search (procedures-At.the_send, procedures-At.the_field_send, procedures-BatchState-send, procedures-BatchState-field_send, procedures-BuildState-send, procedures-BuildState-field_send, consumer-Order.the_send, consumer-Order.the_field_send, procedures-ConsumerState.the_send, producer-Errand.the_send, producer-Errand.the_field_send, plans-Refusal-send, plans-Refusal-field_send, calls-Failures-send, calls-Failures-field_send, calls-Numbers.the_send, consumer-Order.the_send, consumer-Order.the_field_send, link-Request.the_send, calls-Round.the_send, calls-Round.the_field_send, calls-Says.the_send, calls-Says.the_field_send, procedures-SearchState.the_send, procedures-SendState-send, procedures-SendState-field_send, procedures-Service.the_send, procedures-Service.the_field_send, calls-Share.the_send, calls-Share.the_field_send, procedures-Wanted.the_send, procedures-Wanted.the_field_send, plans-Ways.the_send, plans-Ways.the_field_send, producer-Order.the_send, producer-Order.the_field_send, consumer-Order.the_send, consumer-Order.the_field_send, heap.crosses, maps.crosses, sendable) depth 30 fits 20000
+procedures-Plan-field_send = search (procedures-At.the_send, procedures-At.the_field_send, producer-Batching-send, producer-Batching-field_send, producer-Building-send, producer-Building-field_send, consumer-Order.the_send, consumer-Order.the_field_send, consumer-Building.the_send, consumer-Building.the_field_send, producer-Errand.the_send, producer-Errand.the_field_send, plans-Refusal-send, plans-Refusal-field_send, calls-Failures-send, calls-Failures-field_send, calls-Numbers.the_send, consumer-Order.the_send, consumer-Order.the_field_send, link-Request.the_send, calls-Round.the_send, calls-Round.the_field_send, calls-Says.the_send, calls-Says.the_field_send, searches-SearchPlan.the_send, calls-Boxed.the_send, producer-Sending-send, producer-Sending-field_send, procedures-Service.the_send, procedures-Service.the_field_send, calls-Share.the_send, calls-Share.the_field_send, procedures-Wanted.the_send, procedures-Wanted.the_field_send, plans-Ways.the_send, plans-Ways.the_field_send, producer-Order.the_send, producer-Order.the_field_send, consumer-Order.the_send, consumer-Order.the_field_send, heap.crosses, maps.crosses, sendable) depth 30 fits 20000
 
 pub procedures-Plan-send : IsSend procedures-Plan.the_row
 procedures-Plan-send = as_row_send procedures-Plan.the_field procedures-Plan-field_send

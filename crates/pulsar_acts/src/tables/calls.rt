@@ -33,9 +33,10 @@ use pulsar_calls::event::Call;
 use pulsar_exchange::content::Request;
 use pulsar_exchange::raw_call::RawCall;
 use pulsar_links::addresses::Series;
-use pulsar_plans::plan::{Plan, Turn, begins, failure, told};
+use pulsar_plans::plan::{Plan, PlanTransition, begins, failure, told};
 use pulsar_plans::table::Plans;
 use pulsar_searches::plan::Sought;
+use pulsar_searches::transition::Transition;
 use pulsar_wire::commands::topics::Mode;
 use pulsar_wire::error::{ConnectionError, NoMemory};
 use std::collections::VecDeque;
@@ -291,15 +292,11 @@ impl Tables {
             Action::Ask { link, request } => self.asks(who, link, request, tasks, out),
             Action::Wait(delay) => self.alarms.set(Alarm::Wake(who), later(self.clock, delay)),
             Action::OfTopic { number, ask } => self.asks_topic(who, number, ask, tasks),
+            Action::OfConsumer(ask) => self.asks_consumer(who, ask, tasks),
             Action::Number => self.numbers(who, tasks),
             Action::Hold { link, number } => self.holds(who, link, number, tasks),
             Action::Shut(producer) => self.shuts(who, producer, tasks),
             Action::TakeNumber(wanted) => self.takes_number(who, wanted, tasks),
-            Action::FindConsumer(consumer) => self.finds_consumer(who, consumer, tasks),
-            Action::TakeFlow => self.takes_flow(who, tasks),
-            Action::RecallConsumer => self.recalls_consumer(who, tasks),
-            Action::Revive { link } => self.revives(who, link, tasks),
-            Action::FailConsumer(failure) => self.fails_consumer(who, failure, tasks),
             Action::Tell(notice) => self.tells(who, notice, tasks),
             Action::TellAll(notices) => self.tells_all(who, notices, tasks),
             Action::StopAll => self.stops(who, tasks),
@@ -457,18 +454,18 @@ pub(super) fn tell(who: Who, outcome: Outcome, tasks: &mut Tasks) -> Result<(), 
 fn follow(
     plans: &mut Plans,
     who: Who,
-    turn: Turn<Plan, Verdict>,
+    turn: PlanTransition,
     tasks: &mut Tasks,
 ) -> Result<(), NoMemory>
     ensures left { OnOk result (agenda_of tasks.new ≡ record (agenda_of tasks.old) { now = follows who turn ++ tasks.old.now.items }) }
     ensures stand { OnOk result ((w : Meant) → stand_of plans.new w ≡ (if is_same w who then stays turn else stand_of plans.old w)) }
 {
     match turn {
-        Turn::Stays(plan, action) => {
+        Transition::Stays(plan, action) => {
             plans.set(who, Some(plan))?;
             does(who, action, tasks)
         }
-        Turn::Gives(verdict) => {
+        Transition::Gives(verdict) => {
             plans.set(who, None)?;
             tasks.put(Act::Answers { who, verdict })
         }

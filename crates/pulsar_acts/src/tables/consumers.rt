@@ -12,23 +12,26 @@ ghost use Rattle.pulsar_incoming.specs.Content.{consumer_wanted};
 ghost use Rattle.pulsar_acts.specs.Effects.{effects};
 ghost use Rattle.pulsar_consumer_table.specs.KeptConsumers.{consumers_in};
 ghost use Rattle.pulsar_consumer_table.specs.Consumers.{link_at, why_not};
-ghost use Rattle.pulsar_acts.specs.Reading.{acknowledges, leaves, revived_said, subscribes, subscribes_by, tells_word, unless};
+ghost use Rattle.pulsar_acts.specs.Reading.{acknowledges, leaves, subscribes, subscribes_by, tells_word, unless};
+ghost use Rattle.pulsar_links.specs.Kept.{live_in};
 ghost use Rattle.pulsar_calls.specs.Order.{below};
 ghost use Rattle.pulsar_acts.specs.Run.{goes_on};
 ghost use Rattle.pulsar_agenda.specs.Agenda.{agenda_of};
 ghost use Rattle.pulsar_acts.specs.Tables.{chosen_of, view_of};
-ghost use Rattle.pulsar_acts.specs.View.{after, ways_of};
+ghost use Rattle.pulsar_acts.specs.View.{after, url_on, ways_of};
 
 use crate::tables::Tables;
 use crate::tables::calls::tell;
-use pulsar_addresses::content::{Cause, Refusal as Failure};
+use crate::tables::producers::tell_some;
+use pulsar_addresses::content::Cause;
 use pulsar_agenda::agenda::Tasks;
-use pulsar_calls::act::{Action, CallRefusal, Notice, Outcome, Part, Procedure, Who, Word};
-use pulsar_calls::content::Recalled;
+use pulsar_calls::act::{
+    Action, CallRefusal, ConsumerAsk, Notice, Outcome, Part, Procedure, Who, Word,
+};
 use pulsar_calls::effect::Effect;
 use pulsar_calls::who::ticket_of;
+use pulsar_consumer_table::asks::{Given, link_asked, ticket_asked};
 use pulsar_consumer_table::numbers::Numbering;
-use pulsar_consumer_table::row::Sought;
 use pulsar_exchange::content::Request;
 use pulsar_exchange::raw_call::RawCall;
 use pulsar_incoming::builder::ConsumerBuilder;
@@ -36,6 +39,7 @@ use pulsar_incoming::naming::{Ordered, order_of};
 use pulsar_wire::commands::ids::MessageIdData;
 use pulsar_wire::error::{ConnectionError, NoMemory};
 use std::alloc::Global;
+use url::Url;
 
 impl Tables {
     /// A consumer is polled. A flow of it may be due then.
@@ -170,79 +174,33 @@ impl Tables {
         }
     }
 
-    /// The link of a consumer is told, or waited for.
-    pub(super) fn finds_consumer(
+    /// This is asked of a consumer.
+    pub(super) fn asks_consumer(
         &mut self,
         who: Who,
-        ticket: u64,
+        ask: ConsumerAsk,
         tasks: &mut Tasks,
     ) -> Result<(), NoMemory>
-        ensures left { OnOk result (agenda_of tasks.new ≡ goes_on (view_of self.old) (Act.Does who (Action.FindConsumer ticket)) (agenda_of tasks.old)) }
-        ensures sees { OnOk result (view_of self.new ≡ after (Act.Does who (Action.FindConsumer ticket)) (view_of self.old)) }
+        ensures left { OnOk result (agenda_of tasks.new ≡ goes_on (view_of self.old) (Act.Does who (Action.OfConsumer ask)) (agenda_of tasks.old)) }
+        ensures sees { OnOk result (view_of self.new ≡ after (Act.Does who (Action.OfConsumer ask)) (view_of self.old)) }
         ensures settings { self.new.settings ≡ self.old.settings }
     {
-        match self.consumers.seek(ticket, who)? {
-            Sought::Found(link) => tell(who, Outcome::GotLink(link), tasks),
-            Sought::Gone => tell_word(who, Word::Closed, tasks),
-            Sought::Later => Ok(()),
+        let ticket = ticket_asked(who, &ask);
+        let url = self.url_on(link_asked(&ask))?;
+        let given = self.consumers.ask(ticket, who, url, ask)?;
+        let Given { says, serves } = given;
+        join_all(serves, tasks)?;
+        tell_some(who, says, tasks)
+    }
+
+    /// Where a link goes, if there is one.
+    fn url_on(&self, link: Option<u64>) -> Result<Option<Url>, NoMemory>
+        ensures { IfOk result (λ u. u ≡ url_on (live_in self.now.links.live) link) }
+    {
+        match link {
+            Some(link) => self.links.url(link),
+            None => Ok(None),
         }
-    }
-
-    /// The flow of a consumer that is due next is told.
-    pub(super) fn takes_flow(&mut self, who: Who, tasks: &mut Tasks) -> Result<(), NoMemory>
-        ensures left { OnOk result (agenda_of tasks.new ≡ goes_on (view_of self.old) (Act.Does who Action.TakeFlow) (agenda_of tasks.old)) }
-        ensures sees { OnOk result (view_of self.new ≡ after (Act.Does who Action.TakeFlow) (view_of self.old)) }
-        ensures settings { self.new.settings ≡ self.old.settings }
-    {
-        match self.consumers.take_flow(ticket_of(who))? {
-            Some((link, permits)) => tell_word(who, Word::Flow { link, permits }, tasks),
-            None => tell_word(who, Word::NoFlow, tasks),
-        }
-    }
-
-    /// The command is told by which a consumer is subscribed again.
-    pub(super) fn recalls_consumer(&mut self, who: Who, tasks: &mut Tasks) -> Result<(), NoMemory>
-        ensures left { OnOk result (agenda_of tasks.new ≡ goes_on (view_of self.old) (Act.Does who Action.RecallConsumer) (agenda_of tasks.old)) }
-        ensures sees { OnOk result (view_of self.new ≡ after (Act.Does who Action.RecallConsumer) (view_of self.old)) }
-        ensures settings { self.new.settings ≡ self.old.settings }
-    {
-        match self.consumers.recall(ticket_of(who))? {
-            Some(command) => {
-                let recalled = Recalled::new(self.alloc, command)?;
-                tell_word(who, Word::Recalled(recalled), tasks)
-            }
-            None => tell(who, Outcome::Disconnected, tasks),
-        }
-    }
-
-    /// A consumer was subscribed again. Those who wait for its link look again, and a flow is due.
-    pub(super) fn revives(&mut self, who: Who, link: u64, tasks: &mut Tasks) -> Result<(), NoMemory>
-        ensures left { OnOk result (agenda_of tasks.new ≡ goes_on (view_of self.old) (Act.Does who (Action.Revive link)) (agenda_of tasks.old)) }
-        ensures sees { OnOk result (view_of self.new ≡ after (Act.Does who (Action.Revive link)) (view_of self.old)) }
-        ensures settings { self.new.settings ≡ self.old.settings }
-    {
-        let ticket = ticket_of(who);
-        let is_ended = self.consumers.is_ended(ticket);
-        let url = self.links.url(link)?;
-        let notices = self.consumers.revive(ticket, link, url)?;
-        join_all(notices, tasks)?;
-        tell_word(who, revived(is_ended), tasks)
-    }
-
-    /// A consumer could not be subscribed again. Those who wait for its link look again.
-    pub(super) fn fails_consumer(
-        &mut self,
-        who: Who,
-        failure: Failure,
-        tasks: &mut Tasks,
-    ) -> Result<(), NoMemory>
-        ensures left { OnOk result (agenda_of tasks.new ≡ goes_on (view_of self.old) (Act.Does who (Action.FailConsumer failure)) (agenda_of tasks.old)) }
-        ensures sees { OnOk result (view_of self.new ≡ after (Act.Does who (Action.FailConsumer failure)) (view_of self.old)) }
-        ensures settings { self.new.settings ≡ self.old.settings }
-    {
-        let notices = self.consumers.fail(ticket_of(who), failure)?;
-        join_all(notices, tasks)?;
-        tell_word(who, Word::Over, tasks)
     }
 }
 
@@ -267,13 +225,6 @@ fn tell_word(who: Who, word: Word, tasks: &mut Tasks) -> Result<(), NoMemory>
     ensures { OnOk result (agenda_of tasks.new ≡ record (agenda_of tasks.old) { now = tells_word who word ++ tasks.old.now.items }) }
 {
     tell(who, Outcome::Word(word), tasks)
-}
-
-/// What a consumer is told that was subscribed again.
-fn revived(is_ended: bool) -> Word
-    ensures { result ≡ revived_said is_ended }
-{
-    if is_ended { Word::Over } else { Word::Lives }
 }
 
 /// This one joins those whom the present cause serves, if there is one.

@@ -8,8 +8,8 @@ ghost use Rattle.pulsar_consumer_table.specs.KeptConsumers.{consumers_in, member
 ghost use Rattle.pulsar_consumer_table.specs.Notices.{due_to};
 ghost use Rattle.pulsar_acts.specs.Reading.{made_due, serves_by};
 ghost use Rattle.pulsar_acts.specs.Rules.{left_with};
-ghost use Rattle.pulsar_acts.specs.Tables.{chosen_of, view_of};
-ghost use Rattle.pulsar_acts.specs.View.{consumers_left, consumers_made, joins_as, member_on, producers_left, producers_made, setup_of, ways_of};
+ghost use Rattle.pulsar_acts.specs.Tables.{chosen_of, consumers_made, joins_as, producers_made, view_of};
+ghost use Rattle.pulsar_acts.specs.View.{consumers_left, member_on, producers_left, setup_of, ways_of};
 ghost use Rattle.pulsar_calls.specs.Who.{ticket_of};
 
 use crate::tables::Tables;
@@ -135,8 +135,8 @@ impl Tables {
         ensures { IfOk result (λ acts. acts.items ≡ left_with (ways_of (chosen_of self.now.settings)) who makes.now) }
     {
         match makes {
-            Makes::Producer(made) => self.batches_made(made.building()),
-            Makes::Consumer(joined) => self.serves(who, joined.joining()),
+            Makes::Producer(made) => self.batches_made(made.get()),
+            Makes::Consumer(joined) => self.serves(who, joined.get()),
             Makes::Nothing | Makes::Client | Makes::RawConsumer { .. } => {
                 Ok(VecDeque::new(self.alloc))
             }

@@ -134,7 +134,11 @@ fn fills(ask: &TopicAsk) -> bool
 }
 
 /// One is told this, if anything.
-fn tell_some(who: Who, outcome: Option<Outcome>, tasks: &mut Tasks) -> Result<(), NoMemory>
+pub(super) fn tell_some(
+    who: Who,
+    outcome: Option<Outcome>,
+    tasks: &mut Tasks,
+) -> Result<(), NoMemory>
     ensures { OnOk result (agenda_of tasks.new ≡ record (agenda_of tasks.old) { now = says_to who outcome ++ tasks.old.now.items }) }
 {
     match outcome {

@@ -1,7 +1,7 @@
 -- The stop is asked for where nothing else is left to do.
 use Rattle.std.proofs.Common.{◌≡◌, ◌⊎◌, inl, inr, ◌∙◌, sym, ap, subst, ℕ, ◌+◌, List, ◌∷◌, ◌++◌, refl, map, Bool, true, false, cond, Option, Some, None, drop, length, [], ◌^◌, ◌-◌}
-use Rattle.pulsar_laws.proofs.ActWords.{Act, Answers, Asked, below, Call, Calls, Comes, Consumer, Does, lacks_tickets, Makes, next_advice, Notice, Outcome, Part, Procedure, Producer, CallRefusal, Rest, Share, shares, Starts, StopAll, Told, Verdict, Who}
-use Rattle.pulsar_laws.proofs.PlanWords.{begins, Errand, fails, Gives, Plan, Stays, told, Turn, verdict, Ways}
+use Rattle.pulsar_laws.proofs.ActWords.{Act, Answers, Asked, below, Call, Calls, Comes, Consumer, Does, lacks_tickets, Makes, next_advice, Notice, Outcome, Part, Procedure, Producer, CallRefusal, Rest, Share, shares, Starts, StopAll, Told, Who}
+use Rattle.pulsar_laws.proofs.PlanWords.{begins, Errand, fails, Gives, Plan, PlanTransition, Stays, told, verdict, Ways}
 use Rattle.pulsar_laws.proofs.RunWords.{agenda, Agenda, arranged, at_once, Begins, called, causes, Chosen, Each, each_append, each_first, each_map, each_rest, Entry, fails_as, first, first_of, follows, follows_some, is_served, IsRun, joins, left_with, may_call, Options, procedure_for, put_all, rest, rest_of, rules, sends_by, share, shares_of, shares_unless, starts, stores_as, Then, told_some, unless, unless_refused, view, View, ways_of, why_no_sends}
 use Rattle.pulsar_laws.proofs.LinkWords.{Exhausted}
 use Rattle.pulsar_acts.specs.Rules.{sends_with}
@@ -45,7 +45,7 @@ no_stop_at Holds h = cc
 no_stop_at Stores h = cc
 no_stop_at Nowhere h = cc
 
-turn_no_stop : (who : Who) (turn : Turn Plan Verdict) → Fits turn → Each NoStop (follows who turn)
+turn_no_stop : (who : Who) (turn : PlanTransition) → Fits turn → Each NoStop (follows who turn)
 turn_no_stop who (Gives verdict) h = (refl, tt)
 turn_no_stop who (Stays plan StopAll) h = absurd (no_stop_at (spot plan) h)
 turn_no_stop who (Stays plan Rest) h = tt

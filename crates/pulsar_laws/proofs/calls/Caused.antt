@@ -2,7 +2,7 @@
 use Rattle.std.proofs.Common.{◌≡◌, ◌⊎◌, inl, inr, ◌∙◌, sym, ap, subst, ℕ, List, ◌∷◌, ◌++◌, refl, map, Bool, true, false, cond, Option, Some, None, Result, Ok, Err, []}
 use Rattle.std.specs.List.{filter_map, flat_map}
 use Rattle.std.specs.Option.{option_map, option_to_list}
-use Rattle.pulsar_laws.proofs.ActWords.{Act, Action, Alarm, Answers, Arrival, Ask, Batch, CheckIdle, Comes, Consumer, Does, Drains, Draw, End, Ends, FailConsumer, Find, FindConsumer, Flush, Get, Hold, Idles, KeepAlive, Makes, Notice, Number, OfTopic, Outcome, Overdue, Part, PassTurn, Polls, Reads, Recall, RecallConsumer, Remake, Rest, Retry, Revive, Rings, Shut, StopAll, Stops, Store, TakeBatch, TakeFlow, TakeNumber, TakeTurn, Tell, TellAll, ToLink, Told, Verdict, Wait, Wake, Who, Word, is_same, opens, ticket_of, turn_of}
+use Rattle.pulsar_laws.proofs.ActWords.{Act, Action, Alarm, Answers, Arrival, Ask, Batch, CheckIdle, Comes, Consumer, Does, Drains, Draw, End, Ends, FailConsumer, Find, FindConsumer, Flush, Get, Hold, Idles, KeepAlive, Makes, Notice, Number, OfTopic, Outcome, Overdue, Part, PassTurn, Polls, Reads, Recall, RecallConsumer, Remake, Rest, Retry, Revive, Rings, Shut, StopAll, Stops, Store, TakeBatch, TakeFlow, TakeNumber, TakeTurn, Tell, TellAll, ToLink, Told, Verdict, Wait, Wake, Who, Word, is_same, opens, ticket_of, turn_of, OfConsumer}
 use Rattle.pulsar_laws.proofs.PlanWords.{closed_notice, Command, Drawn}
 use Rattle.pulsar_laws.proofs.RunWords.{Arises, at_once, Begins, Cause, causes, chosen_same, Each, Entry, further, In, InOne, IsRun, joins, lost_on, member_on, notice, Options, over_each, parts, readied, ready_notice, room_of, rules, setup_of, stopped_on, tells, Then, turn_notice, turned_by, view, View}
 use Rattle.pulsar_laws.proofs.LinkWords.{address_key, Addresses, answer_at, arrival_at, closed_by, closed_consumer, closing, ConnectionError, Exhausted, Failure, Fault, is_asked, is_reachable, Nobody, over_links, Pause, Pauses, Place, rings, Runs, Seat, Series, Serves, stop_act, tells_asker, told_at, url_at, Words}
@@ -40,11 +40,12 @@ use Rattle.url.specs.Parts.{Parts}
 use Rattle.pulsar_consumer.specs.Commands.{command_of}
 use Rattle.pulsar_consumer_table.specs.Consumers.{Member, over_rows}
 use Rattle.pulsar_consumer_table.specs.Notices.{again, again_at, due_at, due_to, heard_at, lost_at, stopped_seekers, word_to}
-use Rattle.pulsar_acts.specs.Reading.{closed_at, flow_said, heard_on, made_due, numbering_said, recalled_said, revived_said, sought_said, tells_word}
+use Rattle.pulsar_consumer_table.specs.Asks.{flow_said, recalled_said, revived_said, sought_said}
+use Rattle.pulsar_acts.specs.Reading.{closed_at, heard_on, made_due, numbering_said, tells_word}
 use Rattle.pulsar_consumer_table.specs.declared.numbers.Numbering.{Numbering}
 use Rattle.pulsar_consumer_table.specs.declared.numbers.Numbering.TheVariants.{Has, InUse, Spent}
-use Rattle.pulsar_consumer_table.specs.declared.row.Sought.{Sought}
-use Rattle.pulsar_consumer_table.specs.declared.row.Sought.TheVariants.{Found, Gone, Later}
+use Rattle.pulsar_consumer_table.specs.declared.row.LinkAnswer.{LinkAnswer}
+use Rattle.pulsar_consumer_table.specs.declared.row.LinkAnswer.TheVariants.{Found, Gone, Later}
 use Rattle.pulsar_laws.proofs.consumers.Members.{in_rows, polled_number, revived_number, subscribed_number}
 use Rattle.pulsar_calls.specs.declared.act.Word.TheVariants as word
 use Rattle.pulsar_calls.specs.declared.act.Makes.TheVariants as makes
@@ -256,39 +257,39 @@ module _ (o : Options) (who : Who) (u : Outcome) (older : List Entry) where
   found_link None l e = absurd cc
   found_link (Some m) l e = found_for (reader.is_ended m.seen) (reader.link_of m.seen) l e
 
-  sought_caused : (w : Who) (t : ℕ) (x : Sought) → consumer.sought (v.consumers.rows t) ≡ x → In (Told it) (sought_said w x) →
-      Cause o who u (Then (Does w (FindConsumer t))) older
+  sought_caused : (w : Who) (t : ℕ) (x : LinkAnswer) → consumer.sought (v.consumers.rows t) ≡ x → In (Told it) (says_to w (sought_said x)) →
+      Cause o who u (Then (Does w (OfConsumer (FindConsumer t)))) older
   sought_caused w t (Found l) e h =
       let k = told_is w (outcome.GotLink l) h in
-      named (Then (Does w (FindConsumer t))) (outcome.GotLink l) k.1
-      (inr (inr (FindConsumer t, did w (FindConsumer t) k.0, found_link (v.consumers.rows t) l e)))
-  sought_caused w t Gone e h = word_said w (FindConsumer t) word.Closed (λ is. e) h
+      named (Then (Does w (OfConsumer (FindConsumer t)))) (outcome.GotLink l) k.1
+      (inr (inr (OfConsumer (FindConsumer t), did w (OfConsumer (FindConsumer t)) k.0, found_link (v.consumers.rows t) l e)))
+  sought_caused w t Gone e h = word_said w (OfConsumer (FindConsumer t)) word.Closed (λ is. e) h
   sought_caused w t Later e h = absurd h
 
   flow_caused : (w : Who) (x : Option (ℕ × ℕ)) → consumer.flow_at (v.consumers.rows (ticket_of w)) ≡ x → In (Told it) (tells_word w (flow_said x)) →
-      Cause o who u (Then (Does w TakeFlow)) older
+      Cause o who u (Then (Does w (OfConsumer TakeFlow))) older
   flow_caused w None e h =
-      word_said w TakeFlow word.NoFlow (λ is. subst (λ y. consumer.flow_at (v.consumers.rows (ticket_of y)) ≡ None) (sym is) e) h
+      word_said w (OfConsumer TakeFlow) word.NoFlow (λ is. subst (λ y. consumer.flow_at (v.consumers.rows (ticket_of y)) ≡ None) (sym is) e) h
   flow_caused w (Some x) e h =
-      word_said w TakeFlow (word.Flow x.0 x.1)
+      word_said w (OfConsumer TakeFlow) (word.Flow x.0 x.1)
       (λ is. subst (λ y. consumer.flow_at (v.consumers.rows (ticket_of y)) ≡ Some (x.0, x.1)) (sym is) e) h
 
-  command_caused : (w : Who) (row : Option Member) → v.consumers.rows (ticket_of w) ≡ row → In (Told it) (recalled_said w (consumer.recalled row)) →
-      Cause o who u (Then (Does w RecallConsumer)) older
+  command_caused : (w : Who) (row : Option Member) → v.consumers.rows (ticket_of w) ≡ row → In (Told it) (tells w (recalled_said (consumer.recalled row))) →
+      Cause o who u (Then (Does w (OfConsumer RecallConsumer))) older
   command_caused w None e h =
       let k = told_is w outcome.Disconnected h in
-      named (Then (Does w RecallConsumer)) outcome.Disconnected k.1
-      (inr (inr (RecallConsumer, did w RecallConsumer k.0, subst (λ y. v.consumers.rows (ticket_of y) ≡ None) (sym k.0) e)))
+      named (Then (Does w (OfConsumer RecallConsumer))) outcome.Disconnected k.1
+      (inr (inr ((OfConsumer RecallConsumer), did w (OfConsumer RecallConsumer) k.0, subst (λ y. v.consumers.rows (ticket_of y) ≡ None) (sym k.0) e)))
   command_caused w (Some m) e h =
-      word_said w RecallConsumer (word.Recalled (command_of m.seen))
+      word_said w (OfConsumer RecallConsumer) (word.Recalled (command_of m.seen))
       (λ is. subst (λ y. consumer.recalled (v.consumers.rows (ticket_of y)) ≡ Some (command_of m.seen)) (sym is) (ap consumer.recalled e)) h
 
   revive_caused : (w : Who) (l : ℕ) (b : Bool) → consumer.is_ended_at (v.consumers.rows (ticket_of w)) ≡ b → In (Told it) (tells_word w (revived_said b)) →
-      Cause o who u (Then (Does w (Revive l))) older
+      Cause o who u (Then (Does w (OfConsumer (Revive l)))) older
   revive_caused w l true e h =
-      word_said w (Revive l) word.Over (λ is. subst (λ y. consumer.is_ended_at (v.consumers.rows (ticket_of y)) ≡ true) (sym is) e) h
+      word_said w (OfConsumer (Revive l)) word.Over (λ is. subst (λ y. consumer.is_ended_at (v.consumers.rows (ticket_of y)) ≡ true) (sym is) e) h
   revive_caused w l false e h =
-      word_said w (Revive l) word.Lives (λ is. subst (λ y. consumer.is_ended_at (v.consumers.rows (ticket_of y)) ≡ false) (sym is) e) h
+      word_said w (OfConsumer (Revive l)) word.Lives (λ is. subst (λ y. consumer.is_ended_at (v.consumers.rows (ticket_of y)) ≡ false) (sym is) e) h
 
   once_caused : (b : Act) → In (Told it) (at_once v b) → Cause o who u (Then b) older
   once_caused (Does w (Get p)) h = gets_caused w p (is_reachable p) refl h
@@ -313,11 +314,11 @@ module _ (o : Options) (who : Who) (u : Outcome) (older : List Entry) where
   once_caused (Does w (Tell n)) h = done_caused w (Tell n) tt h
   once_caused (Does w (TellAll ns)) h = done_caused w (TellAll ns) tt h
   once_caused (Does w (TakeNumber wanted)) h = numbering_caused w wanted (consumer.numbering v.consumers wanted) refl h
-  once_caused (Does w (FindConsumer t)) h = sought_caused w t (consumer.sought (v.consumers.rows t)) refl h
-  once_caused (Does w TakeFlow) h = flow_caused w (consumer.flow_at (v.consumers.rows (ticket_of w))) refl h
-  once_caused (Does w RecallConsumer) h = command_caused w (v.consumers.rows (ticket_of w)) refl h
-  once_caused (Does w (Revive l)) h = revive_caused w l (consumer.is_ended_at (v.consumers.rows (ticket_of w))) refl h
-  once_caused (Does w (FailConsumer f)) h = word_said w (FailConsumer f) word.Over (λ is. tt) h
+  once_caused (Does w (OfConsumer (FindConsumer t))) h = sought_caused w t (consumer.sought (v.consumers.rows t)) refl h
+  once_caused (Does w (OfConsumer TakeFlow)) h = flow_caused w (consumer.flow_at (v.consumers.rows (ticket_of w))) refl h
+  once_caused (Does w (OfConsumer RecallConsumer)) h = command_caused w (v.consumers.rows (ticket_of w)) refl h
+  once_caused (Does w (OfConsumer (Revive l))) h = revive_caused w l (consumer.is_ended_at (v.consumers.rows (ticket_of w))) refl h
+  once_caused (Does w (OfConsumer (FailConsumer f))) h = word_said w (OfConsumer (FailConsumer f)) word.Over (λ is. tt) h
   once_caused (Does w (Wait delay)) h = absurd h
   once_caused (Does w Rest) h = absurd h
   once_caused b h = absurd (none_told v b it refl h)
@@ -420,7 +421,7 @@ module _ (o : Options) (who : Who) (u : Outcome) (older : List Entry) where
       named (Then (Does w (Ask l request))) (outcome.Word k.word) k.told
       (inr (inr (inr (inl (l, r.0, w, request, r.1, refl, (r.2, k.who_is), k.is_some)))))
 
-  again_caused : (w : Who) (e : Entry) → ((l : ℕ) × (e ≡ Then (Does w (Revive l)))) ⊎ ((f : Failure) × (e ≡ Then (Does w (FailConsumer f)))) →
+  again_caused : (w : Who) (e : Entry) → ((l : ℕ) × (e ≡ Then (Does w (OfConsumer (Revive l))))) ⊎ ((f : Failure) × (e ≡ Then (Does w (OfConsumer (FailConsumer f))))) →
       In it (again_at (v.consumers.rows (ticket_of w))) → Cause o who u e older
   again_caused w e is h =
       let ws : List Who = consumer.seekers_at (v.consumers.rows (ticket_of w)) in
@@ -429,11 +430,11 @@ module _ (o : Options) (who : Who) (u : Outcome) (older : List Entry) where
       named e (outcome.Word word.Again) (ap (λ n. n.outcome) k.2) (inr (inr (inr (inr (inr (refl, (w, listed, is)))))))
 
   revived_caused : (w : Who) (l : ℕ) (row : Option Member) → v.consumers.rows (ticket_of w) ≡ row →
-      In it (due_at (ticket_of w) (option_map (consumer.revived l (url_at (v.links.live l))) row)) → Cause o who u (Then (Does w (Revive l))) older
+      In it (due_at (ticket_of w) (option_map (consumer.revived l (url_at (v.links.live l))) row)) → Cause o who u (Then (Does w (OfConsumer (Revive l)))) older
   revived_caused w l None e h = absurd h
   revived_caused w l (Some m) e h =
       let k = due_there (ticket_of w) (consumer.revived l (url_at (v.links.live l)) m) h in
-      is_due_caused (Then (Does w (Revive l))) k.told
+      is_due_caused (Then (Does w (OfConsumer (Revive l)))) k.told
       (inr (inl (l, w, m, refl, (e, k.who_is ∙ ap (λ n. Consumer n (ticket_of w)) (revived_number l (url_at (v.links.live l)) m)), k.due)))
 
   built_caused : (w : Who) (verdict : Verdict) (m : Makes) → verdict.makes ≡ m → In it (made_due v.links.live w m) →
@@ -488,13 +489,13 @@ module _ (o : Options) (who : Who) (u : Outcome) (older : List Entry) where
   joins_caused (Does w (TellAll ns)) run h = all_caused w ns (tell_settling o older w ns run) h
   joins_caused (Comes (Polls t)) run h = polled_caused t (v.consumers.rows t) refl h
   joins_caused (Does w (Ask l request)) run h = closed_caused w l request h
-  joins_caused (Does w (Revive l)) run h =
+  joins_caused (Does w (OfConsumer (Revive l))) run h =
       let row : Option Member = v.consumers.rows (ticket_of w) in
       elim (in_append it (again_at row) (due_at (ticket_of w) (option_map (consumer.revived l (url_at (v.links.live l))) row)) h) [
-        | inl i ↦ again_caused w (Then (Does w (Revive l))) (inl (l, refl)) i
+        | inl i ↦ again_caused w (Then (Does w (OfConsumer (Revive l)))) (inl (l, refl)) i
         | inr i ↦ revived_caused w l row refl i
       ]
-  joins_caused (Does w (FailConsumer f)) run h = again_caused w (Then (Does w (FailConsumer f))) (inr (f, refl)) h
+  joins_caused (Does w (OfConsumer (FailConsumer f))) run h = again_caused w (Then (Does w (OfConsumer (FailConsumer f)))) (inr (f, refl)) h
   joins_caused (Answers w verdict) run h = built_caused w verdict verdict.makes refl h
   joins_caused b run h = absurd h
 

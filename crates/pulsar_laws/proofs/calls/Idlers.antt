@@ -3,7 +3,7 @@
 use Rattle.std.proofs.Common.{◌≡◌, ◌⊎◌, inl, inr, ◌∙◌, sym, ap, subst, ℕ, ◌≤◌, ◌==◌, arith, List, [], ◌∷◌, refl, Bool, true, false, not, Option, Some, None}
 use Rattle.std.proofs.lemmas.Bool.{cases_Bool}
 use Rattle.std.specs.Option.{option_map}
-use Rattle.pulsar_laws.proofs.ActWords.{Act, Action, Ask, Call, Consumer, Does, Draw, Find, FindConsumer, Flush, Get, Number, OfTopic, Outcome, Producer, Recall, RecallConsumer, Rest, Store, TakeNumber, TakeTurn, Tell, TellAll, Told, Wait, Who, Word, is_same, ticket_of, turn_of}
+use Rattle.pulsar_laws.proofs.ActWords.{Act, Action, Ask, Call, Consumer, Does, Draw, Find, FindConsumer, Flush, Get, Number, OfTopic, Outcome, Producer, Recall, RecallConsumer, Rest, Store, TakeNumber, TakeTurn, Tell, TellAll, Told, Wait, Who, Word, is_same, ticket_of, turn_of, OfConsumer}
 use Rattle.pulsar_laws.proofs.PlanWords.{News}
 use Rattle.pulsar_laws.proofs.RunWords.{Begins, begun_same, Cause, counted, Entry, In, InThisStep, IsRun, notice, Options, start_of, Then, view, View}
 use Rattle.pulsar_laws.proofs.LinkWords.{Exhausted, Failure, Fault, Place, Seat, Words}
@@ -86,7 +86,7 @@ idle_stays : (a : Action) → is_idle a ≡ true → goes_nowhere a ≡ true
 idle_stays (Get p) h = absurd cc
 idle_stays (Ask l request) h = absurd cc
 idle_stays (Wait delay) h = absurd cc
-idle_stays (FindConsumer u) h = absurd cc
+idle_stays (OfConsumer (FindConsumer u)) h = absurd cc
 idle_stays _ h = refl
 
 idle_apart : (t : ℕ) (a : Act) → IdleBy t a → ApartBy (Call t) a
@@ -94,7 +94,7 @@ idle_apart t (Does who a) k = λ same. idle_stays a (k same)
 idle_apart t _ k = tt
 
 idle_finds : (t : ℕ) (a : Act) → IdleBy t a → NoFind (Call t) a
-idle_finds t (Does who (FindConsumer u)) k = other_idle t who (FindConsumer u) k refl
+idle_finds t (Does who (OfConsumer (FindConsumer u))) k = other_idle t who (OfConsumer (FindConsumer u)) k refl
 idle_finds t (Does who _) k = tt
 idle_finds t _ k = tt
 
@@ -190,7 +190,7 @@ no_turn_given P o t e older run others n (other, number, turn, version, is, same
 
 no_find : (l : ℕ) (a : Action) (v : View) → is_idle a ≡ true → Finds l a v → ⊥
 no_find l (OfTopic n Find) v h k = absurd cc
-no_find l (FindConsumer u) v h k = absurd cc
+no_find l (OfConsumer (FindConsumer u)) v h k = absurd cc
 no_find l a v h k = k
 
 no_draw : (f : Fault) (a : Action) (v : View) → is_idle a ≡ true → DrawsNone f a v → ⊥
@@ -204,7 +204,7 @@ all_known : (who : Who) (a : Action) (v : View) → is_idle a ≡ true → IsUnk
 all_known who (OfTopic n TakeTurn) v h k = absurd cc
 all_known who (OfTopic n Recall) v h k = absurd cc
 all_known who (OfTopic n Find) v h k = absurd cc
-all_known who RecallConsumer v h k = absurd cc
+all_known who (OfConsumer RecallConsumer) v h k = absurd cc
 all_known who a v h k = k
 
 no_says : (who : Who) (w : Word) (a : Action) (v : View) → is_idle a ≡ true → SaysSo who w a v → ⊥

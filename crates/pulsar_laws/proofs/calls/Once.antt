@@ -4,8 +4,8 @@ use Rattle.std.proofs.Common.{◌≡◌, ℕ, suc, ◌+◌, ◌-◌, ◌^◌, �
 use Rattle.std.proofs.lemmas.Bool.{cases_Bool}
 use Rattle.std.proofs.lemmas.Bool.Decides.{nat_tests}
 use Rattle.std.proofs.lemmas.Grind.{common_steps}
-use Rattle.pulsar_laws.proofs.ActWords.{Act, Action, Answers, Asked, Call, Calls, Comes, Consumer, Does, Heard, is_same, lacks_tickets, Makes, Notice, Outcome, Procedure, Producer, CallRefusal, Rest, shares, Starts, Told, Verdict, Who}
-use Rattle.pulsar_laws.proofs.PlanWords.{begins, Errand, Gives, Plan, Stays, told, Turn, Ways}
+use Rattle.pulsar_laws.proofs.ActWords.{Act, Action, Answers, Asked, Call, Calls, Comes, Consumer, Does, Heard, is_same, lacks_tickets, Makes, Notice, Outcome, Procedure, Producer, CallRefusal, Rest, shares, Starts, Told, Who}
+use Rattle.pulsar_laws.proofs.PlanWords.{begins, Errand, Gives, Plan, PlanTransition, Stays, told, Ways}
 use Rattle.pulsar_laws.proofs.RunWords.{agenda, at_once, Begins, begun_same, called, Chosen, counted, does, Each, EndsOnce, Entry, first, first_case, follows, follows_some, is_served, IsRun, left_with, Options, parts_of, rest, shares_of, shares_unless, start_of, starts, StartsIn, stays, stays_some, Then, told_some, view, View, ways_of, why_no_sends}
 use Rattle.pulsar_messages.specs.Claims.{is_spent}
 use Rattle.pulsar_calls.specs.declared.act.Procedure.TheVariants.{Batch, Serve}
@@ -75,16 +75,16 @@ does_end : (t : ℕ) (who : Who) (action : Action) → due (end_of t) (does who 
 does_end t who Rest = refl
 does_end t who _ = refl
 
-follows_start : (t : ℕ) (who : Who) (turn : Turn Plan Verdict) → due (start_of t) (follows who turn) ≡ 0
+follows_start : (t : ℕ) (who : Who) (turn : PlanTransition) → due (start_of t) (follows who turn) ≡ 0
 follows_start t who (Stays plan action) = does_start t who action
 follows_start t who (Gives verdict) = refl
 
-some_start : (t : ℕ) (who : Who) (turn : Option (Turn Plan Verdict)) → due (start_of t) (follows_some who turn) ≡ 0
+some_start : (t : ℕ) (who : Who) (turn : Option (PlanTransition)) → due (start_of t) (follows_some who turn) ≡ 0
 some_start t who None = refl
 some_start t who (Some turn) = follows_start t who turn
 
 -- a plan that goes on has the token, or its end is due
-follows_end : (t : ℕ) (who : Who) (turn : Turn Plan Verdict) →
+follows_end : (t : ℕ) (who : Who) (turn : PlanTransition) →
     due (end_of t) (follows who turn) + cond (is_same (Call t) who) (alive (stays turn)) 0 ≡ cond (is_same (Call t) who) 1 0
 follows_end t who (Stays plan action) = let e : due (end_of t) (does who action) ≡ 0 = does_end t who action in omega (arith, e)
 follows_end t who (Gives verdict) = elim (is_same (Call t) who) as (λ b. (cond b 1 0 + 0) + cond b 0 0 ≡ cond b 1 0) [ true ↦ refl | false ↦ refl ]
@@ -274,7 +274,7 @@ starts_on o log who p t k fits =
 
 told_on : (o : Options) (log : List Entry) (n : Notice) (t : ℕ) → Few o log t → first (agenda o log) ≡ Some (Told n) → Few o (Then (Told n) ∷ log) t
 told_on o log n t k fits =
-    let turn : Option (Turn Plan Verdict) = told_some ((view o log).stand n.who) n.outcome in
+    let turn : Option (PlanTransition) = told_some ((view o log).stand n.who) n.outcome in
     let xs : List Act = left o log (Told n) t k fits in
     let ds : due (start_of t) (follows_some n.who turn ++ xs) ≡ due (start_of t) (follows_some n.who turn) + due (start_of t) xs =
     due_append (start_of t) (follows_some n.who turn) xs in

@@ -6,8 +6,8 @@ use Rattle.std.specs.BTreeMap.{is_at}
 use Rattle.std.specs.Map.{lookup}
 use Rattle.std.specs.Option.{is_some}
 use Rattle.std.specs.Ordering.{nat_cmp}
-use Rattle.pulsar_laws.proofs.ActWords.{Act, Action, Answers, Call, Consumer, Does, is_same, Notice, numbers_from, OfTopic, Outcome, Procedure, Producer, Share, Starts, Store, Tell, TellAll, Told, Verdict, Who}
-use Rattle.pulsar_laws.proofs.PlanWords.{action_of, Batching, begins, Deed, Errand, Gives, Leaving, News, news_of, Plan, Producing, Reporting, Sending as Send, Stays, Stored, Storing, told, Turn, verdict, Ways}
+use Rattle.pulsar_laws.proofs.ActWords.{Act, Action, Answers, Call, Consumer, Does, is_same, Notice, numbers_from, OfTopic, Outcome, Procedure, Producer, Share, Starts, Store, Tell, TellAll, Told, Who}
+use Rattle.pulsar_laws.proofs.PlanWords.{action_of, Batching, begins, Deed, Errand, Gives, Leaving, News, news_of, Plan, PlanTransition, Producing, Reporting, Sending as Send, Stays, Stored, Storing, told, verdict, Ways}
 use Rattle.pulsar_laws.proofs.RunWords.{agenda, Answered, Begins, begun_same, Cause, counted, Entry, first, first_of, follows_some, In, IsRun, notice, Options, rest, rules, start_of, started, stays, stays_some, Then, told_some, view, View}
 use Rattle.pulsar_laws.proofs.LinkWords.{Failure}
 use Rattle.pulsar_wire.specs.Failures.{OfPartialSend, Sent}
@@ -152,7 +152,7 @@ arc_before part_stores h = absurd cc
 arc_before stored_rests h = absurd cc
 arc_before _ h = refl
 
-abbrev stays_before : Turn Plan Verdict → Bool
+abbrev stays_before : PlanTransition → Bool
 stays_before (Stays q a) = is_before q
 stays_before (Gives v) = false
 
@@ -291,7 +291,8 @@ module _ (o : Options) (u : ℕ) (f : Failure) where
       ap (λ b. cond b (stays_some (told_some ((view o log).stand (Call u)) (outcome.Granted news.Done))) ((view o log).stand (Call u))) (same_self (Call u))
       ∙ ap (λ r. stays_some (told_some r (outcome.Granted news.Done))) s in
       let next : first g ≡ Some the_end =
-      ap (λ (r : Option Plan). first_of rules (follows_some (Call u) (told_some r (outcome.Granted news.Done)) ++ (rest (agenda o log)).now) g.here g.behind g.parts) s in
+      ap (λ (r : Option Plan). first_of rules (follows_some (Call u) (told_some r (outcome.Granted news.Done)) ++ (rest
+      (agenda o log)).now) g.here g.behind g.parts) s in
       let y : queues_at o u log (Told done) ≡ 0 = ap (λ t. cond t 1 0) (and_false (is_same (Call u) (Call u))) in
       (IsDue here next, omega (arith, z, y))
 
@@ -619,7 +620,8 @@ own_at x fs = ap (λ b. cond b (Some x.1) (at x.0 fs)) (is_at-eqb x.0 x.0 ∙ eq
 said_so : (first n : ℕ) (fs : List (ℕ × Failure)) → ((x : ℕ × Failure) → In x fs → (first ≤ x.0) × (x.0 < first + n)) →
     sent_from first n fs
     ≡ cond (some_failed (outcomes_of fs (numbers_from first n))) (Failed (OfPartialSend (outcomes_of fs (numbers_from first n)))) (Sends (numbers_from first n))
-said_so first n [] k = sym (ap (λ b. cond b (Failed (OfPartialSend (outcomes_of [] (numbers_from first n)))) (Sends (numbers_from first n))) (all_went (numbers_from first n)))
+said_so first n [] k = sym (ap (λ b. cond b (Failed (OfPartialSend (outcomes_of [] (numbers_from first n)))) (Sends (numbers_from first n))) (all_went
+    (numbers_from first n)))
 said_so first n (x ∷ fs) k =
     let r = k x (inl refl) in
     let e : some_failed (outcomes_of (x ∷ fs) (numbers_from first n)) ≡ true = one_failed (x ∷ fs) x.0 x.1 (own_at x fs) first n r.0 r.1 in

@@ -1,7 +1,7 @@
 -- A call that stores its message does nothing else, and so it is told only what becomes of its message, or that the client is stopped.
 use Rattle.std.proofs.Common.{◌≡◌, ◌⊎◌, inl, inr, ◌∙◌, sym, ap, subst, ℕ, ◌+◌, ◌≤◌, ◌<◌, arith, List, [], ◌∷◌, refl, Bool, true, false, Option, Some, None, Result, Ok, Err}
 use Rattle.pulsar_laws.proofs.ActWords.{Act, Action, Call, Consumer, Does, Notice, OfTopic, Outcome, Procedure, Producer, Rest, Share, Starts, Store, Tell, TellAll, Told, Verdict, Who, is_same}
-use Rattle.pulsar_laws.proofs.PlanWords.{begins, fails, Gives, News, Plan, Stays, Stored, Storing, told, Turn}
+use Rattle.pulsar_laws.proofs.PlanWords.{begins, fails, Gives, News, Plan, PlanTransition, Stays, Stored, Storing, told}
 use Rattle.pulsar_laws.proofs.RunWords.{agenda, Answered, Begins, Cause, counted, Entry, first, InThisStep, IsRun, notice, Options, start_of, started, stays, Then, View, view}
 use Rattle.pulsar_laws.proofs.LinkWords.{Failure}
 use Rattle.pulsar_wire.specs.Row.{Values}
@@ -59,7 +59,7 @@ abbrev told_what : Act → Outcome
 told_what (Told m) = m.outcome
 told_what _ = outcome.Stopped
 
-abbrev stays_on : Turn Plan Verdict → Bool
+abbrev stays_on : PlanTransition → Bool
 stays_on (Stays p a) = true
 stays_on (Gives w) = false
 
@@ -243,7 +243,7 @@ told_open o log t n share x u run s only =
 
 -- HOW IT ENDS
 
-abbrev verdict_in : Verdict → Turn Plan Verdict → Verdict
+abbrev verdict_in : Verdict → PlanTransition → Verdict
 verdict_in v (Gives w) = w
 verdict_in v (Stays p a) = v
 

@@ -10,8 +10,8 @@ use Rattle.pulsar_session.proofs.Others.{slow_down_changes_nothing}
 use Rattle.pulsar_exchange.specs.Request.{is_awaited}
 use Rattle.pulsar_laws.specs.ProducerLaws.{SlowDownLeavesAll, seat_ticked}
 use Rattle.pulsar_consumer_table.specs.Consumers.{Member, closes}
-use Rattle.pulsar_acts.specs.View.{hears_ask}
 use Rattle.pulsar_links.specs.Seats.{asker_at}
+use Rattle.pulsar_acts.proofs.Linking.{asked_is}
 
 module _ (who : Who) (now l : ℕ) (request : Words) where
   seat_slow : (row : Option Seat) → answer_at now request row ≡ Err error.SlowDown →
@@ -32,7 +32,8 @@ module _ (who : Who) (now l : ℕ) (request : Words) where
     | inr e ↦ rw e refl
   ]
 
-  hears_slow : (row : Option Seat) (m : Option Member) → answer_at now request row ≡ Err error.SlowDown → option_map (hears_ask l now request row) m ≡ m
+  hears_slow : (row : Option Seat) (m : Option Member) → answer_at now request row ≡ Err error.SlowDown →
+      option_map (closes (closed_consumer request) l (is_asked (answer_at now request row))) m ≡ m
   hears_slow row None h = refl
   hears_slow row (Some m) h = ap (λ r. Some (closes (closed_consumer request) l (is_asked r) m)) h
 
@@ -44,7 +45,7 @@ slow_down_lem o log who l request h i =
       now = v.now;
       stand = v.stand;
       calls = v.calls;
-      links = record { started = v.links.started; live = λ k. row_slow who v.now l request v.links.live k h i };
+      links = record { started = v.links.started; live = λ k. (asked_is v who l request k ∙ row_slow who v.now l request v.links.live k h) i };
       addresses = v.addresses;
       alarms = v.alarms;
       consumers = record v.consumers { rows = λ t. hears_slow who v.now l request (v.links.live l) (v.consumers.rows t) h i };

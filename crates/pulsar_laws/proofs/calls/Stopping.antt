@@ -6,10 +6,10 @@ use Rattle.std.proofs.lemmas.Bool.{cases_Bool, eqb-true}
 use Rattle.std.proofs.lemmas.Bool.Decides.{nat_tests}
 use Rattle.std.specs.List.{filter_map, flat_map}
 use Rattle.std.specs.Option.{option_map, is_some}
-use Rattle.pulsar_laws.proofs.ActWords.{Act, Action, Alarm, Answers, Ask, Asked, Batch, below, Bytes, Call, CallRefusal, Calls, CheckIdle, Comes, Dials, Does, Drains, Ends, FindConsumer, Get, Heard, is_same, KeepAlive, lacks_tickets, LinkAct, Makes, next_advice, Nothing, Notice, numbers_from, OfTopic, Opens, opens, Outcome, Part, Pings, Polls, Procedure, Reads, Retry, Rings, shares, Starts, StopAll, Stops, TakeBatch, Tell, TellAll, Told, ToLink, Wait, Wake, Who}
+use Rattle.pulsar_laws.proofs.ActWords.{Act, Action, Alarm, Answers, Ask, Asked, Batch, below, Call, CallRefusal, Calls, CheckIdle, Comes, Dials, Does, Drains, Ends, FindConsumer, Get, Heard, is_same, KeepAlive, lacks_tickets, LinkAct, Makes, next_advice, Nothing, Notice, numbers_from, OfTopic, Opens, opens, Outcome, Part, Pings, Polls, Procedure, Reads, Retry, Rings, shares, Starts, StopAll, Stops, TakeBatch, Tell, TellAll, Told, ToLink, Wait, Wake, Who, OfConsumer}
 use Rattle.pulsar_laws.proofs.PlanWords.{Batching, fails, Plan, verdict, Ways}
-use Rattle.pulsar_laws.proofs.RunWords.{after, agenda, Agenda, arranged, asks_raw, asks_topics, at_once, Begins, begun, begun_live, begun_same, builds_with, called, causes, checks, Chosen, closes, consumers_after, consumers_made, Each, each_append, each_either, each_flat, each_map, Entry, first, first_case, first_of, flushes, follows_some, from_base, gathers, In, is_live, IsRun, joins, left_with, link_got, live_begun, lost_on, may_call, none_now, notice, Options, over_each, parts_of, procedure_for, produces, rest, rest_of, rules, searches, sends, shares_unless, starts, stays_some, stopped_on, tells, Then, Tickets, told_some, turned_by, unless_refused, view, View, ways_of, why_no_sends}
-use Rattle.pulsar_laws.proofs.LinkWords.{address_key, Addresses, arrival_at, Base, closing, Exhausted, got_at, Nobody, over_links, Pause, Pauses, Place, Reply, rings, Runs, Seat, Series, Serves, stop_act, tells_asker, took_some}
+use Rattle.pulsar_laws.proofs.RunWords.{after, agenda, Agenda, arranged, asks_raw, asks_topics, at_once, Begins, begun, begun_same, builds_with, called, causes, checks, Chosen, closes, consumers_after, Each, each_append, each_either, each_flat, each_map, Entry, first, first_case, first_of, flushes, follows_some, from_base, gathers, In, IsRun, joins, left_with, lost_on, may_call, none_now, notice, Options, over_each, parts_of, procedure_for, produces, rest, rest_of, rules, searches, sends, shares_unless, starts, stays_some, stopped_on, tells, Then, Tickets, told_some, turned_by, unless_refused, view, View, ways_of, why_no_sends}
+use Rattle.pulsar_laws.proofs.LinkWords.{address_key, Addresses, arrival_at, Base, closing, Exhausted, Nobody, over_links, Pause, Pauses, Place, Reply, rings, Runs, Seat, Series, Serves, stop_act, tells_asker, took_some}
 use Rattle.pulsar_session.specs.Link.{ends}
 use Rattle.pulsar_calls.specs.declared.act.Makes.TheVariants.{Client, Consumer, Producer, RawConsumer}
 use Rattle.pulsar_links.specs.Alarms.{clear}
@@ -20,7 +20,7 @@ use Rattle.pulsar_links.specs.Links.{line_places}
 use Rattle.pulsar_acts.specs.Rules.{failed_on, stopped_with, waiters_of, stopped_one}
 use Rattle.pulsar_links.specs.LinkRules.{dropped, ended_on, failed_at, failed_over, lost, on_link, stopped_at}
 use Rattle.pulsar_producer_table.specs.Notices.{stopped_all, stopped_call}
-use Rattle.pulsar_acts.specs.View.{alarms_after, alarms_built, alarms_on, alarms_over, builds, calls_after, live_after, pause_after, pause_of, pause_on, pause_rung, producers_after, stand_after, topic_of, building_of}
+use Rattle.pulsar_acts.specs.View.{alarms_after, alarms_built, alarms_on, alarms_over, building_of, builds, calls_after, member_made, pause_after, pause_of, pause_on, pause_rung, producers_after, stand_after, topic_of}
 use Rattle.pulsar_links.specs.Seats.{Links, pause_put}
 use Rattle.pulsar_producer_table.specs.declared.table.Topic.{Topic}
 use Rattle.pulsar_outgoing.specs.Storage.{Item}
@@ -42,8 +42,8 @@ use Rattle.pulsar_laws.proofs.calls.Whereabouts.{goes_nowhere}
 use Rattle.pulsar_laws.proofs.plans.LastWords.{AreLast, batch_fine, batch_some, batch_told, calm_fine, each_last, ends_fine, ends_some, is_fine, is_last_word, is_leaving, IsLast, IsLastNotice, IsLate, IsParting, last_append, last_rest, last_some, left_fine, left_some, makes_nothing, settling_told, some_fine, taking_told}
 use Rattle.pulsar_consumer_table.specs.Notices.{heard_at, lost_at}
 use Rattle.pulsar_acts.specs.Reading.{acknowledges, leaves, made_due, subscribes}
-use Rattle.pulsar_consumer_table.specs.Consumers.{Consumers, Member, hears, loses_by, member_after, over_rows}
-use Rattle.pulsar_laws.proofs.consumers.Members.{Gone, called_rows, gone_map, heard_gone, left_rows, loss_gone, no_due, no_loss, poll_gone, there_each}
+use Rattle.pulsar_consumer_table.specs.Consumers.{Consumers, IsPolled, Member, hears, loses_by, member_after, member_by, over_rows}
+use Rattle.pulsar_laws.proofs.consumers.Members.{Gone, gone_map, heard_gone, loss_gone, no_due, no_loss, poll_gone, row_made, there_each}
 use Rattle.pulsar_laws.proofs.plans.Wording.{IsStoppedWord, is_stopped_word, rows_each, stopped_words}
 use Rattle.pulsar_consumer_table.specs.Consumers as consumer
 use Rattle.pulsar_consumer.specs.Topic as reader
@@ -51,6 +51,9 @@ use Rattle.pulsar_calls.specs.declared.act.Arrival.TheVariants as arrivals
 use Rattle.pulsar_messages.specs.Words as words
 use Rattle.pulsar_run.specs.Things.{row_by, row_after}
 use Rattle.pulsar_laws.specs.ProducerLaws.{rung_by, topic_acts}
+use Rattle.pulsar_acts.proofs.Linking.{took_is}
+use Rattle.pulsar_laws.proofs.links.Rows.{after_holds as after_links, begun_holds as begun_links}
+use Rattle.pulsar_laws.proofs.Cases.{none_some}
 
 -- LISTS
 
@@ -67,25 +70,14 @@ same_either : {A : Type 0} (b : Bool) (x : A) → cond b x x ≡ x
 same_either true x = refl
 same_either false x = refl
 
-got_none : (k : Option ℕ) (now l : ℕ) → got_at k now l None ≡ None
-got_none None now l = refl
-got_none (Some k) now l = same_either (l == k) None
-
 -- only an attempt makes a link
-stays_dead : (v : View) (a : Act) (l : ℕ) → is_dial a ≡ false → live_after v.chosen v.addresses v.now v.links.started a l None ≡ None
-stays_dead v (Comes (ToLink k x)) l h = same_either (l == k) None
-stays_dead v (Does who (Get p)) l h = got_none (link_got v.addresses (Does who (Get p))) v.now l
-stays_dead v (Does who (Ask k request)) l h = same_either (l == k) None
-stays_dead v (Dials p starter n) l h = absurd cc
-stays_dead v _ l h = refl
-
-live_none : (e : Heard) (l : ℕ) → live_begun e l None ≡ None
-live_none (Bytes k piece) l = same_either (l == k) None
-live_none _ l = refl
+stays_dead : (v : View) (a : Act) (l : ℕ) → is_dial a ≡ false → v.links.live l ≡ None → (after a v).links.live l ≡ None
+stays_dead v a l n h =
+    after_links (λ row. row ≡ None) v l a (λ seat d. (let f : true ≡ false = sym (ap is_dial d.is_act) ∙ n in absurd cc)) (λ end. refl)
+    (λ d c seat at none. absurd (none_some (sym none))) h
 
 begun_dead : (e : Heard) (l : ℕ) (v : View) → v.links.live l ≡ None → (begun e v).links.live l ≡ None
-begun_dead e l v h =
-    elim (is_live v e) as (λ b. (cond b (begun_live e v) v).links.live l ≡ None) [ true ↦ ap (live_begun e l) h ∙ live_none e l | false ↦ h ]
+begun_dead e l v h = begun_links (λ row. row ≡ None) v l e (λ piece is seat at none. absurd (none_some (sym none))) h
 
 -- a link that was not started is none
 not_started : (o : Options) (log : List Entry) (l : ℕ) → (view o log).links.started ≤ l → (view o log).links.live l ≡ None
@@ -97,7 +89,7 @@ not_started o (Then (Dials p starter n) ∷ log) l h =
     let fewer : (view o log).links.started ≤ l = omega (arith, h) in
     rw other (not_started o log l fewer)
 not_started o (Then a ∷ log) l h =
-    let v = view o log in ap (live_after v.chosen v.addresses v.now v.links.started a l) (not_started o log l h) ∙ stays_dead v a l refl
+    stays_dead (view o log) a l refl (not_started o log l h)
 
 pub is_started : (o : Options) (log : List Entry) (l : ℕ) (seat : Seat) → (view o log).links.live l ≡ Some seat → nat_lt l (view o log).links.started ≡ true
 is_started o log l seat h = elim (cases_Bool (nat_lt l (view o log).links.started)) [
@@ -311,9 +303,9 @@ made_none : (o : Chosen) (who : Who) (m : Makes) (n : ℕ) → makes_nothing m �
 made_none o who Nothing n h = refl
 made_none o who m n h = absurd cc
 
-none_made : (live : ℕ → Option Seat) (who : Who) (m : Makes) (cs : Consumers) → makes_nothing m ≡ true → consumers_made live who m cs ≡ cs
-none_made live who Nothing cs h = refl
-none_made live who m cs h = absurd cc
+none_made : (live : ℕ → Option Seat) (m : Makes) → makes_nothing m ≡ true → member_made live m ≡ None
+none_made live Nothing h = refl
+none_made live m h = absurd cc
 
 none_due_made : (live : ℕ → Option Seat) (who : Who) (m : Makes) → makes_nothing m ≡ true → made_due live who m ≡ []
 none_due_made live who Nothing h = refl
@@ -365,7 +357,7 @@ module _ (o : Options) (log : List Entry) (run : IsRun o log) (k : Over o log) w
       alarms_after v a ≡ [] → ((w : Who) → is_fine (stand_after a w (v.stand w)) ≡ true) →
       ((m : ℕ) → next_batch_at ((producers_after v a).topics m) ≡ None) →
       ((t : ℕ) → Gone ((consumers_after v a).rows t)) →
-      ((l : ℕ) → Comes (ToLink l (Ends Stops)) ≡ a → live_after v.chosen v.addresses v.now v.links.started a l (v.links.live l) ≡ None) → Over o (Then a ∷ log)
+      ((l : ℕ) → Comes (ToLink l (Ends Stops)) ≡ a → (after a v).links.live l ≡ None) → Over o (Then a ∷ log)
   goes_over a fits no_dial ends once join caused pauses alarms fine bare gone own =
       let late = late_more a ends in
       let P : Notice → Type 0 = IsLate v.stand in
@@ -385,7 +377,7 @@ module _ (o : Options) (log : List Entry) (run : IsRun o log) (k : Over o log) w
         bare = bare;
         gone = gone;
         links = λ l. elim (k.links l) [
-          | inl e ↦ inl (ap (live_after v.chosen v.addresses v.now v.links.started a l) e ∙ stays_dead v a l no_dial)
+          | inl e ↦ inl (stays_dead v a l no_dial e)
           | inr i ↦ elim (left_of_now a l fits i) [
             | inl e ↦ inl (own l e)
             | inr j ↦ inr (in_right (Comes (ToLink l (Ends Stops))) (at_once v a) (rest g).now j)
@@ -438,8 +430,11 @@ module _ (o : Options) (log : List Entry) (run : IsRun o log) (k : Over o log) w
       alarms_after_end l alarms = alarms_on v.chosen v.now (option_map (turned_by v.chosen v.addresses v.now l (Ends Stops)) (v.links.live l)) alarms
 
       own : (j : ℕ) → Comes (ToLink j (Ends Stops)) ≡ Comes (ToLink l (Ends Stops)) →
-          cond (j == l) (took_some (Ends Stops) v.now (v.links.live j)) (v.links.live j) ≡ None
-      own j e = let same : j ≡ l = cc in let d : (j == l) ≡ true = rw same (grind (arith, nat_tests)) in rw d (took_stops v.now (v.links.live j))
+          (after (Comes (ToLink l (Ends Stops))) v).links.live j ≡ None
+      own j e =
+          let same : j ≡ l = cc in
+          let d : (j == l) ≡ true = rw same (grind (arith, nat_tests)) in
+          took_is v l (Ends Stops) j ∙ (rw d (took_stops v.now (v.links.live j)))
   last_on (Told n) fits is =
       goes_over (Told n) fits refl (told_ends n)
       (last_some (Keeps o log) (told_stand n) n.who (v.stand n.who) n.outcome (λ t p. told_ends n (Call t) p.waits) (own_stand n) is (k.fine n.who)
@@ -451,9 +446,7 @@ module _ (o : Options) (log : List Entry) (run : IsRun o log) (k : Over o log) w
       (rw (none_due_made v.links.live who verdict.makes is) tt) tt (λ l. refl)
       (ap (λ b. alarms_built v.now b v.alarms) (none_built (not v.calls.is_built) verdict.makes is) ∙ k.alarms) k.fine
       (λ m. ap (λ r. next_batch_at (row_after topic_after r false [] (v.producers.topics m))) (made_none v.chosen who verdict.makes m is) ∙ k.bare m)
-      (λ t. subst Gone
-      (sym (ap (λ f. f t) (left_rows who (consumers_made v.links.live who verdict.makes v.consumers))
-      ∙ ap (λ cs. cs.rows t) (none_made v.links.live who verdict.makes v.consumers is))) (k.gone t))
+      (λ t. subst Gone (sym (ap (λ r. row_made r who t (v.consumers.rows t)) (none_made v.links.live verdict.makes is))) (k.gone t))
       (λ l e. absurd cc)
   last_on (Starts who (procedure.Refuse r)) fits is =
       goes_over (Starts who (procedure.Refuse r)) fits refl (refused_ends who r) (inl refl, tt) tt tt (λ l. refl) k.alarms (λ w. refused_fine who w r) k.bare
@@ -533,15 +526,12 @@ module _ (o : Options) (log : List Entry) (run : IsRun o log) (k : Over o log) w
   part_on (Calls asked advice) fits none =
       goes_over (Comes (Calls asked advice)) fits refl (λ w h. h)
       (each_last v.stand (called v advice asked) (last_called v advice asked k.is_stopped)) tt tt (λ l. refl) k.alarms k.fine
-      k.bare
-      (λ t. subst Gone
-      (sym (ap (λ f. f t) (called_rows (lacks_tickets v.calls.drawn (shares asked)) (may_call v.calls) asked v.consumers))) (k.gone t))
-      (λ l e. absurd cc)
+      k.bare k.gone (λ l e. absurd cc)
   part_on (ToLink l x) fits none =
       let dead = all_dead none l in
       goes_over (Comes (ToLink l x)) fits refl (λ w h. h) (dead_once l dead x) tt (dead_causes l dead x) (dead_pause l dead x) (dead_alarms l dead x) k.fine
       k.bare (dead_gone l dead x)
-      (λ j e. ap (live_after v.chosen v.addresses v.now v.links.started (Comes (ToLink l x)) j) (all_dead none j) ∙ stays_dead v (Comes (ToLink l x)) j refl)
+      (λ j e. stays_dead v (Comes (ToLink l x)) j refl (all_dead none j))
   part_on (Rings a) fits none =
       let e = no_alarm a in
       goes_over (Comes (Rings a)) fits refl (λ w h. h) (rw e tt) tt (rw e tt) (λ l. rung_pause (rings v.now a v.alarms) a l) (rw e k.alarms) k.fine
@@ -552,7 +542,7 @@ module _ (o : Options) (log : List Entry) (run : IsRun o log) (k : Over o log) w
       goes_over (Comes (Polls t)) fits refl (λ w h. h) tt
       (no_due (IsLate (after (Comes (Polls t)) v).stand) t (option_map (member_after (reader.Polls clock)) (v.consumers.rows t))
       (gone_map (member_after (reader.Polls clock)) (v.consumers.rows t) (poll_gone clock) (k.gone t))) tt (λ l. refl) k.alarms k.fine k.bare
-      (λ u. elim (u == t) as (λ b. Gone (cond b (option_map (member_after (reader.Polls clock)) (v.consumers.rows u)) (v.consumers.rows u))) [
+      (λ u. elim (u == t) as (λ b. Gone (row_by member_by (cond b (IsPolled clock ∷ []) []) (v.consumers.rows u))) [
         | true ↦ gone_map (member_after (reader.Polls clock)) (v.consumers.rows u) (poll_gone clock) (k.gone u)
         | false ↦ k.gone u
       ]) (λ l e. absurd cc)
@@ -705,5 +695,5 @@ never_asks o log w a run h =
     by (Get p) left = absurd left
     by (Ask l request) left = absurd left
     by (Wait delay) left = absurd left
-    by (FindConsumer t) left = absurd left
+    by (OfConsumer (FindConsumer t)) left = absurd left
     by _ left = refl

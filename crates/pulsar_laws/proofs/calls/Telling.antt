@@ -1,8 +1,8 @@
 -- A part of a call tells once what became of it, and so the call is told it once at most.
 use Rattle.std.proofs.Common.{◌≡◌, inl, inr, ◌∙◌, sym, ap, subst, ℕ, ◌+◌, ◌<◌, ◌≤◌, ◌==◌, arith, List, [], ◌∷◌, ◌++◌, refl, map, Bool, true, false, cond, Option, Some, None}
 use Rattle.std.proofs.lemmas.Bool.{cases_Bool, eqb-true}
-use Rattle.pulsar_laws.proofs.ActWords.{Act, Call, Comes, Consumer, Does, Notice, OfTopic, Outcome, Part, PassTurn, Procedure, Producer, Share, Starts, Tell, TellAll, Told, Verdict, Who, below, is_same}
-use Rattle.pulsar_laws.proofs.PlanWords.{action_of, begins, Deed, Gives, Plan, Stays, told, Turn}
+use Rattle.pulsar_laws.proofs.ActWords.{Act, Call, Comes, Consumer, Does, Notice, OfTopic, Outcome, Part, PassTurn, Procedure, Producer, Share, Starts, Tell, TellAll, Told, Who, below, is_same}
+use Rattle.pulsar_laws.proofs.PlanWords.{action_of, begins, Deed, Gives, Plan, PlanTransition, Stays, told}
 use Rattle.pulsar_laws.proofs.RunWords.{agenda, arranged, at_once, Begins, begun_same, causes, counted, Each, each_append, Entry, first_of, IsRun, joins, notice, Options, performs, put_all, rest, rest_of, rules, start_of, stays, stays_some, Then, told_some, view, View}
 use Rattle.pulsar_calls.specs.declared.act.Outcome.TheVariants as outcome
 use Rattle.pulsar_laws.proofs.plans.Standing.{run_older, stands_so}
@@ -66,7 +66,7 @@ abbrev Tells : Options → List Entry → Type 0
 Tells o log = (u : ℕ) → counted (tell_of u) log + can ((view o log).stand (Call u)) ≤ counted (start_of u) log
 
 -- a plan that goes on is a part of no other call
-can_less : (share : Option Share) (x : Turn Plan Verdict) → StaysSo (SharesSo share) x → can (stays x) ≤ can_in share
+can_less : (share : Option Share) (x : PlanTransition) → StaysSo (SharesSo share) x → can (stays x) ≤ can_in share
 can_less share (Gives v) k = omega arith
 can_less share (Stays q a) k = by (shares_of q) refl
   where

@@ -2,18 +2,17 @@
 use Rattle.std.proofs.Common.{◌≡◌, ◌∙◌, sym, ap, subst, ℕ, ◌+◌, ◌<◌, arith, List, [], ◌∷◌, ◌++◌, refl, true, false, cond, ◌==◌, ◌&&◌, Option, Some, None, inl, inr}
 use Rattle.std.proofs.lemmas.Bool.{and_parts, cases_Bool, eqb-true}
 use Rattle.std.proofs.lemmas.Bool.Decides.{nat_tests}
-use Rattle.std.specs.Option.{option_map}
-use Rattle.pulsar_laws.proofs.ActWords.{Act, Action, Answers, Ask, Asked, Call, Calls, Comes, Consumer, Does, Ends, FailConsumer, FindConsumer, Heard, is_same, lacks_tickets, Makes, Outcome, Part, Polls, Producer, Reads, Rest, Revive, shares, Starts, StopAll, TakeFlow, TakeNumber, ticket_of, Told, ToLink, Verdict, Who}
-use Rattle.pulsar_laws.proofs.PlanWords.{begins, Gives, Plan, Stays, told, Turn}
-use Rattle.pulsar_laws.proofs.RunWords.{agenda, at_once, Begins, begun_same, called, consumers_after, consumers_made, does, Each, each_append, each_first, each_map, each_rest, Entry, first, follows, follows_some, is_served, IsRun, may_call, Options, performs, rest, StartsIn, stays_some, Then, told_some, view, View}
+use Rattle.pulsar_laws.proofs.ActWords.{Act, Action, Answers, Asked, Call, Calls, Comes, Consumer, Does, Heard, is_same, lacks_tickets, Makes, Outcome, Part, Producer, Rest, shares, Starts, Told, Verdict, Who}
+use Rattle.pulsar_laws.proofs.PlanWords.{begins, Gives, Plan, PlanTransition, Stays, told}
+use Rattle.pulsar_laws.proofs.RunWords.{agenda, at_once, Begins, begun_same, called, consumers_after, does, Each, each_append, each_first, each_map, each_rest, Entry, first, follows, follows_some, is_served, IsRun, Options, performs, rest, StartsIn, stays_some, Then, told_some, view, View}
 use Rattle.pulsar_messages.specs.Claims.{is_spent}
 use Rattle.pulsar_calls.specs.declared.act.Makes.TheVariants as makes
-use Rattle.pulsar_consumer_table.specs.Consumers as consumer
-use Rattle.pulsar_consumer_table.specs.Consumers.{Member}
-use Rattle.pulsar_acts.specs.View.{drawn_after, joins_as, stand_after}
+use Rattle.pulsar_consumer_table.specs.Consumers.{Member, member_by}
+use Rattle.pulsar_acts.specs.View.{drawn_after, member_acts, member_born, member_made, stand_after}
 use Rattle.pulsar_client.proofs.Acts.{called_each}
 use Rattle.pulsar_laws.proofs.Cases.{none_some}
-use Rattle.pulsar_laws.proofs.consumers.Members.{called_rows, left_rows, numbered_rows}
+use Rattle.pulsar_run.proofs.Things.{IsNewIn, WasIn, came}
+use Rattle.pulsar_laws.proofs.consumers.Members.{born_joins}
 use Rattle.pulsar_laws.proofs.calls.Quiet.{IsQuiet, comes_quiet, performs_quiet}
 use Rattle.pulsar_client.proofs.Raising.{IsRaised, raises}
 
@@ -105,7 +104,7 @@ makes_so n who (makes.Consumer made) k = k
 makes_so n who (makes.RawConsumer l made) k = k
 makes_so n who _ k = tt
 
-follows_due : (n : ℕ) (who : Who) (turn : Turn Plan Verdict) → Has n who → Each (IsDue n) (follows who turn)
+follows_due : (n : ℕ) (who : Who) (turn : PlanTransition) → Has n who → Each (IsDue n) (follows who turn)
 follows_due n who (Stays plan action) k = does_due n who action
 follows_due n who (Gives verdict) k = (makes_so n who verdict.makes k, tt)
 
@@ -152,10 +151,6 @@ pub record IsTicketed (o : Options) (log : List Entry) : Type 0 where
   consumers : (t : ℕ) (m : Member) → (view o log).consumers.rows t ≡ Some m → Has (view o log).calls.drawn (Call t)
 
 -- what a row was made of was there
-was_some : {A B : Type 0} (f : A → B) (row : Option A) (y : B) → option_map f row ≡ Some y → (x : A) × (row ≡ Some x)
-was_some f None y h = absurd (none_some h)
-was_some f (Some x) y h = (x, refl)
-
 told_was : (row : Option Plan) (o : Outcome) (plan : Plan) → stays_some (told_some row o) ≡ Some plan → (old : Plan) × (row ≡ Some old)
 told_was None o plan h = absurd (none_some h)
 told_was (Some old) o plan h = (old, refl)
@@ -186,51 +181,21 @@ module _ (o : Options) (log : List Entry) (k : IsTicketed o log) where
       (raises (view o log) (Answers who verdict))
   arises _ is_due = tt
 
-  from_made : (who : Who) (made : Member) → Has drawn who → (t : ℕ) (m : Member) → (joins_as who made (view o log).consumers).rows t ≡ Some m →
-      Has drawn (Call t)
-  from_made (Call u) made is_due t m h = elim (cases_Bool (t == u)) [
-    | inl e ↦ subst (λ n. Has drawn (Call n)) (sym (eqb-true t u e)) is_due
-    | inr e ↦ k.consumers t m (rw e at h)
-  ]
-  from_made (Consumer n u) made is_due t m h = k.consumers t m h
-  from_made (Producer n) made is_due t m h = k.consumers t m h
-
-  from_makes : (who : Who) (x : Makes) → MakesSo drawn who x → (t : ℕ) (m : Member) →
-      (consumers_made (view o log).links.live who x (view o log).consumers).rows t ≡ Some m → Has drawn (Call t)
-  from_makes who (makes.Consumer made) is_due t m h = from_made who _ is_due t m h
-  from_makes who (makes.RawConsumer l made) is_due t m h = from_made who _ is_due t m h
-  from_makes who makes.Nothing is_due t m h = k.consumers t m h
-  from_makes who makes.Client is_due t m h = k.consumers t m h
-  from_makes who (makes.Producer made) is_due t m h = k.consumers t m h
-
-  from_map : (f : Member → Member) (t : ℕ) (m : Member) → option_map f ((view o log).consumers.rows t) ≡ Some m → Has drawn (Call t)
-  from_map f t m h = let was = was_some f ((view o log).consumers.rows t) m h in k.consumers t was.0 was.1
-
-  from_change : (u : ℕ) (f : Member → Member) (t : ℕ) (m : Member) → (consumer.changed u f (view o log).consumers).rows t ≡ Some m → Has drawn (Call t)
-  from_change u f t m h = elim (cases_Bool (t == u)) [
-    | inl e ↦ from_map f t m (rw e at h)
-    | inr e ↦ k.consumers t m (rw e at h)
-  ]
+  from_makes : (t : ℕ) (x : Makes) (m : Member) → MakesSo drawn (Call t) x → member_made (view o log).links.live x ≡ Some m → Has drawn (Call t)
+  from_makes t (makes.Consumer made) m is_due e = is_due
+  from_makes t (makes.RawConsumer l made) m is_due e = is_due
+  from_makes t makes.Nothing m is_due e = absurd cc
+  from_makes t makes.Client m is_due e = absurd cc
+  from_makes t (makes.Producer made) m is_due e = absurd cc
 
   next_consumers : (a : Act) → IsDue drawn a → (t : ℕ) (m : Member) → (consumers_after (view o log) a).rows t ≡ Some m → Has (drawn_after a drawn) (Call t)
-  next_consumers (Comes (ToLink l Reads)) is_due t m h = from_map _ t m h
-  next_consumers (Comes (ToLink l (Ends end))) is_due t m h = from_map _ t m h
-  next_consumers (Comes (Polls u)) is_due t m h = from_change u _ t m h
-  next_consumers (Comes (Calls asked advice)) is_due t m h =
-      has_more (Comes (Calls asked advice)) drawn (Call t)
-      (k.consumers t m (ap (λ f. f t) (sym (called_rows (lacks_tickets drawn (shares asked)) (may_call (view o log).calls) asked (view o log).consumers)) ∙ h))
-  next_consumers (Does who (Ask l request)) is_due t m h = from_map _ t m h
-  next_consumers (Does who (TakeNumber wanted)) is_due t m h =
-      k.consumers t m (ap (λ f. f t) (sym (numbered_rows (ticket_of who) wanted (view o log).consumers)) ∙ h)
-  next_consumers (Does who (FindConsumer u)) is_due t m h = from_change u _ t m h
-  next_consumers (Does who TakeFlow) is_due t m h = from_change (ticket_of who) _ t m h
-  next_consumers (Does who (Revive l)) is_due t m h = from_change (ticket_of who) _ t m h
-  next_consumers (Does who (FailConsumer f)) is_due t m h = from_change (ticket_of who) _ t m h
-  next_consumers (Does who StopAll) is_due t m h = from_map _ t m h
-  next_consumers (Answers who verdict) is_due t m h =
-      from_makes who verdict.makes is_due t m
-      (ap (λ f. f t) (sym (left_rows who (consumers_made (view o log).links.live who verdict.makes (view o log).consumers))) ∙ h)
-  next_consumers _ is_due t m h = k.consumers t m h
+  next_consumers a is_due t m h =
+      elim (came member_by (member_born (view o log) t a) false (member_acts (view o log) t a) ((view o log).consumers.rows t) m h) [
+        | WasIn w ↦ has_more a drawn (Call t) (k.consumers t w.before w.was)
+        | IsNewIn b ↦
+            (let j = born_joins (view o log) a t m b in
+            has_more a drawn (Call t) (from_makes t j.verdict.makes m (subst (IsDue drawn) j.is_act is_due) j.makes))
+      ]
 
   next_ticketed : (a : Act) → first (agenda o log) ≡ Some a → IsTicketed o (Then a ∷ log)
   next_ticketed a fits =

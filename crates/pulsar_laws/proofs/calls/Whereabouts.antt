@@ -1,6 +1,6 @@
 -- Where one waits: for the link of an address, for what it asked for, for a moment, or for the link of a consumer. What others do leaves it there,
 -- or takes it from there.
-use Rattle.std.proofs.Common.{◌≡◌, ◌+◌, ◌≤◌, ap, arith, inl, inr, ◌∙◌, sym, subst, ℕ, List, [], ◌∷◌, refl, Bool, true, false, cond, not, Option, Some, None, ◌++◌, ◌==◌}
+use Rattle.std.proofs.Common.{◌≡◌, ◌+◌, ◌≤◌, ap, arith, inl, inr, ◌∙◌, sym, subst, ℕ, List, [], ◌∷◌, refl, Bool, true, false, cond, not, Option, Some, None, ◌++◌, ◌==◌, ◌&&◌}
 use Rattle.std.proofs.lemmas.Bool.{cases_Bool}
 use Rattle.std.specs.BTreeMap.{insert_entry}
 use Rattle.std.specs.Map.{lookup}
@@ -8,17 +8,17 @@ use Rattle.std.specs.Option.{option_map}
 use Rattle.std.specs.Ordering.{match_ordering}
 use Rattle.std.specs.declared.cmp.Ordering.{Ordering}
 use Rattle.std.specs.declared.cmp.Ordering.TheVariants.{Less, Equal, Greater}
-use Rattle.pulsar_laws.proofs.ActWords.{Act, Action, Alarm, Answers, Arrival, Ask, Batch, Bytes, Call, Calls, CheckIdle, Comes, Consumer, Dials, Does, Drains, Ends, FailConsumer, FindConsumer, Flush, Get, Heard, is_same, KeepAlive, lacks_tickets, LinkAct, Makes, OfTopic, Opens, Pings, Polls, Producer, Reads, Retry, Revive, Rings, shares, Shut, StopAll, Store, TakeFlow, TakeNumber, ticket_of, ToLink, turn_of, Wait, Wake, Who}
-use Rattle.pulsar_laws.proofs.RunWords.{after, begun, begun_live, Chosen, consumers_after, consumers_made, Each, In, is_live, link_got, live_begun, may_call, member_on, setup_of, turned, Turned, View}
-use Rattle.pulsar_laws.proofs.LinkWords.{Addresses, arrival_at, Base, Becomes, Change, closing, Fault, got_at, is_body, IsOver, Nobody, Pause, Pauses, Remains, Reply, rings, Runs, Seat, seat_asked, seat_fed, seat_got, Series, Serves, took_end, took_some, url_at, Words}
+use Rattle.pulsar_laws.proofs.ActWords.{Act, Action, Alarm, Answers, Arrival, Ask, Batch, CheckIdle, Comes, Dials, Does, FindConsumer, Flush, Get, Heard, is_same, KeepAlive, Makes, OfTopic, Retry, Rings, Shut, StopAll, Store, ToLink, turn_of, Wait, Wake, Who, OfConsumer}
+use Rattle.pulsar_laws.proofs.RunWords.{after, begun, Chosen, consumers_after, Each, In, setup_of, turned, Turned, View, begun_same}
+use Rattle.pulsar_laws.proofs.LinkWords.{Base, Becomes, Change, Fault, is_body, IsOver, Nobody, Pause, Pauses, Remains, Reply, rings, Runs, Seat, Series, Serves, url_at, Words}
 use Rattle.pulsar_producer.specs.Topic as topic
 use Rattle.pulsar_producer.specs.Topic.{Act as TopicAct}
 use Rattle.pulsar_producer_table.specs.declared.table.Topic.{Topic}
 use Rattle.pulsar_links.specs.Alarms.{alarm_cmp, clear, is_same_alarm, moment_of, set}
 use Rattle.pulsar_laws.proofs.Lists.{in_append}
-use Rattle.pulsar_laws.proofs.Cases.{cond_so, none_some}
+use Rattle.pulsar_laws.proofs.Cases.{cond_so, none_some, some_is}
 use Rattle.pulsar_producer_table.specs.Producers.{is_bare, numbers_at, timeout_at, topic_after}
-use Rattle.pulsar_acts.specs.View.{alarms_after, alarms_on, alarms_on_topic, alarms_over, alarms_rung, alarms_turned, alarms_waiting, base_after, base_on, clear_all, live_after, waits_for, waits_from, waits_on, hears_ask, joins_as}
+use Rattle.pulsar_acts.specs.View.{alarms_after, alarms_on, alarms_on_topic, alarms_over, alarms_rung, alarms_turned, alarms_waiting, base_after, base_on, clear_all, waits_for, waits_from, waits_on, member_made}
 use Rattle.pulsar_links.specs.Seats.{asker_at, base_turned, nobody}
 use Rattle.pulsar_links.proofs.Ringing.{is_this}
 use Rattle.pulsar_laws.proofs.calls.Same.{same_self, same_who}
@@ -30,17 +30,19 @@ use Rattle.pulsar_consumer.specs.Frames.{frame_in}
 use Rattle.pulsar_consumer.specs.Topic as reader
 use Rattle.pulsar_incoming.specs.declared.polled.Ending.TheVariants.{Closed, TopicEnded}
 use Rattle.pulsar_consumer_table.specs.Consumers as consumer
-use Rattle.pulsar_consumer_table.specs.Consumers.{Member}
-use Rattle.pulsar_consumer_table.specs.declared.row.Sought.{Sought}
-use Rattle.pulsar_consumer_table.specs.declared.row.Sought.TheVariants.{Found, Gone, Later}
-use Rattle.pulsar_laws.proofs.consumers.Members.{called_rows, left_rows, numbered_rows}
+use Rattle.pulsar_consumer_table.specs.Consumers.{Arrives, ClientStops, CloseAsked, Deed, FlowTaken, IsPolled, IsSought, LinkEnds, Member, NotRevived, Revived, member_by}
+use Rattle.pulsar_consumer_table.specs.declared.row.LinkAnswer.{LinkAnswer}
+use Rattle.pulsar_consumer_table.specs.declared.row.LinkAnswer.TheVariants.{Found, Gone, Later}
+use Rattle.pulsar_laws.proofs.consumers.Members.{CameFrom, after_holds}
+use Rattle.pulsar_links.specs.Asks as of_link
+use Rattle.pulsar_laws.proofs.links.Rows as rows
 
 -- what brings one somewhere
 abbrev pub goes_nowhere : Action → Bool
 goes_nowhere (Get p) = false
 goes_nowhere (Ask l request) = false
 goes_nowhere (Wait delay) = false
-goes_nowhere (FindConsumer t) = false
+goes_nowhere (OfConsumer (FindConsumer t)) = false
 goes_nowhere _ = true
 
 module _ (me : Who) where
@@ -115,26 +117,6 @@ module _ (me : Who) where
     left_free true r w h e = absurd (none_some e)
     left_free false r w h e = h e
 
-    end_free : (cause : Option Fault) (seat : Seat) → Asker (Some seat) → Asker (took_end cause seat)
-    end_free None seat h = h
-    end_free (Some cause) seat h = tt
-
-    took_free : (x : LinkAct) (now : ℕ) (row : Option Seat) → Asker row → Asker (took_some x now row)
-    took_free x now None h = tt
-    took_free Opens now (Some seat) h = h
-    took_free Reads now (Some seat) h = λ place e. left_free _ (seat.askers place) me (h place) e
-    took_free (Drains most) now (Some seat) h = h
-    took_free Pings now (Some seat) h = h
-    took_free (Ends end) now (Some seat) h = end_free _ seat h
-
-    pub got_free : (k : Option ℕ) (now l : ℕ) (row : Option Seat) → Asker row → Asker (got_at k now l row)
-    got_free None now l row h = h
-    got_free (Some k) now l row h = cond_so (Asker) (l == k) (option_map (seat_got now) row) row (by row h) h
-      where
-        by : (r : Option Seat) → Asker r → Asker (option_map (seat_got now) r)
-        by None h = tt
-        by (Some seat) h = h
-
     at_free : (is : Bool) (who : Who) (place : Option ℕ) (askers : ℕ → Option Who) → (me ≡ who → ⊥) → ((p : ℕ) → askers p ≡ Some me → P p) →
         (p : ℕ) → asker_at is who place askers p ≡ Some me → P p
     at_free is who None askers other h p e = h p e
@@ -144,26 +126,19 @@ module _ (me : Who) where
       | inr q ↦ h p (rw q at e)
     ]
 
-    live_absent : (o : Chosen) (known : Addresses) (now n : ℕ) (a : Act) (l : ℕ) (row : Option Seat) → ApartBy a → Asker row →
-        Asker (live_after o known now n a l row)
-    live_absent o known now n (Comes (ToLink k x)) l row idle h = cond_so (Asker) (l == k) (took_some x now row) row (took_free x now row h) h
-    live_absent o known now n (Does who (Get p)) l row idle h = got_free (link_got known (Does who (Get p))) now l row h
-    live_absent o known now n (Does who (Ask k request)) l row idle h =
-        cond_so (Asker) (l == k) (option_map (seat_asked who now request) row) row (by row h) h
-      where
-        by : (r : Option Seat) → Asker r → Asker (option_map (seat_asked who now request) r)
-        by None h = tt
-        by (Some seat) h = at_free _ who _ seat.askers (other_apart who (Ask k request) idle refl) h
-    live_absent o known now n (Dials p starter retries) l row idle h = cond_so (Asker) (l == n) _ row (λ place e. absurd (none_some e)) h
-    live_absent o known now n _ l row idle h = h
+    deed_free : (v : View) (l : ℕ) (a : Act) → ((request : Words) → a ≡ Does me (Ask l request) → ⊥) → (d : of_link.Deed) → rows.CameFrom v l a d →
+        (seat : Seat) → Asker (Some seat) → Asker (Some (of_link.seat_by d seat))
+    deed_free v l a other (of_link.IsRead now) c seat h = λ place e. left_free _ (seat.askers place) me (h place) e
+    deed_free v l a other (of_link.IsAsked who now request) c seat h =
+        at_free _ who _ seat.askers (λ e. other request (c.0 ∙ ap (λ w. Does w (Ask l request)) (sym e))) h
+    deed_free v l a other _ c seat h = h
 
-    begun_free : (e : Heard) (l : ℕ) (row : Option Seat) → Asker row → Asker (live_begun e l row)
-    begun_free (Bytes k piece) l row h = cond_so (Asker) (l == k) (option_map (seat_fed piece) row) row (by row h) h
-      where
-        by : (r : Option Seat) → Asker r → Asker (option_map (seat_fed piece) r)
-        by None h = tt
-        by (Some seat) h = h
-    begun_free _ l row h = h
+    pub live_absent : (v : View) (a : Act) (l : ℕ) → ((request : Words) → a ≡ Does me (Ask l request) → ⊥) → Asker (v.links.live l) →
+        Asker ((after a v).links.live l)
+    live_absent v a l other h =
+        rows.after_holds Asker v l a
+        (λ seat d place e. absurd (none_some (subst (λ (t : Seat). t.askers place ≡ Some me) (sym d.is_it) e))) (λ end. tt)
+        (λ d c seat at k. deed_free v l a other d c seat k) h
 
   -- IT WAITS FOR A MOMENT only so
   module _ (A : Type 0) where
@@ -271,16 +246,6 @@ module _ (me : Who) where
       last (inl e) = other e
       last (inr j) = j
 
-  map_seeks : (f : Member → Member) (row : Option Member) → ((m : Member) → Away m.seekers → Away (f m).seekers) →
-      Away (consumer.seekers_at row) → Away (consumer.seekers_at (option_map f row))
-  map_seeks f None k h = h
-  map_seeks f (Some m) k h = k m h
-
-  one_seeks : (b : Bool) (f : Member → Member) (row : Option Member) → ((m : Member) → Away m.seekers → Away (f m).seekers) →
-      Away (consumer.seekers_at row) → Away (consumer.seekers_at (cond b (option_map f row) row))
-  one_seeks true f row k h = map_seeks f row k h
-  one_seeks false f row k h = h
-
   frame_seeks : (l : ℕ) (r : Reply) (m : Member) → Away m.seekers → Away (consumer.hears_frame l r m).seekers
   frame_seeks l r m h =
       cond_so (λ z. Away z.seekers) (is_body 9 r.content.body) (consumer.member_after (reader.Hears l (frame_in r)) m) _ h
@@ -296,10 +261,7 @@ module _ (me : Who) where
   loses_seeks l None m h = h
   loses_seeks l (Some cause) m h = h
 
-  asks_seeks : (l now : ℕ) (request : Words) (row : Option Seat) (m : Member) → Away m.seekers → Away (hears_ask l now request row m).seekers
-  asks_seeks l now request row m h = cond_so (λ z. Away z.seekers) _ (consumer.member_after (reader.Ends Closed) m) m h h
-
-  finds_seeks : (x : Sought) (w : Who) (m : Member) → (me ≡ w → ⊥) → Away m.seekers → Away (consumer.waits_so x w m).seekers
+  finds_seeks : (x : LinkAnswer) (w : Who) (m : Member) → (me ≡ w → ⊥) → Away m.seekers → Away (consumer.waits_so x w m).seekers
   finds_seeks (Found l) w m other h = h
   finds_seeks Gone w m other h = h
   finds_seeks Later w m other h = away_end w m.seekers other h
@@ -308,55 +270,41 @@ module _ (me : Who) where
   on_seeks l None s i = i
   on_seeks l (Some url) s i = i
 
-  joins_seeks : (who : Who) (m : Member) (cs : consumer.Consumers) (u : ℕ) → Away m.seekers → Away (consumer.seekers_at (cs.rows u)) →
-      Away (consumer.seekers_at ((joins_as who m cs).rows u))
-  joins_seeks (Call x) m cs u h k = elim (u == x) as (λ b. Away (consumer.seekers_at (cond b (Some m) (cs.rows u)))) [ true ↦ h | false ↦ k ]
-  joins_seeks (Consumer n x) m cs u h k = k
-  joins_seeks (Producer n) m cs u h k = k
-
-  made_seeks : (live : ℕ → Option Seat) (who : Who) (m : Makes) (cs : consumer.Consumers) (u : ℕ) → Away (consumer.seekers_at (cs.rows u)) →
-      Away (consumer.seekers_at ((consumers_made live who m cs).rows u))
-  made_seeks live who makes.Nothing cs u k = k
-  made_seeks live who makes.Client cs u k = k
-  made_seeks live who (makes.Producer b) cs u k = k
-  made_seeks live who (makes.Consumer j) cs u k =
-      joins_seeks who (member_on live j.link (setup_of j)) cs u (on_seeks j.link (url_at (live j.link)) (reader.fresh (setup_of j))) k
-  made_seeks live who (makes.RawConsumer l made) cs u k =
-      joins_seeks who (member_on live l (reader.of_raw made)) cs u (on_seeks l (url_at (live l)) (reader.fresh (reader.of_raw made))) k
-
   none_seeks : Away []
   none_seeks = λ i. i
 
   -- nor looks for one
   abbrev pub NoFind : Act → Type 0
-  NoFind (Does who (FindConsumer t)) = me ≡ who → ⊥
+  NoFind (Does who (OfConsumer (FindConsumer t))) = me ≡ who → ⊥
   NoFind _ = Unit {0}
+
+  -- one that joins has none, and no deed adds this one
+  joins_seeks : (live : ℕ → Option Seat) (x : Makes) (m : Member) → member_made live x ≡ Some m → Away m.seekers
+  joins_seeks live (makes.Consumer j) m e =
+      subst (λ n. Away n.seekers) (some_is e) (on_seeks j.link (url_at (live j.link)) (reader.fresh (setup_of j)))
+  joins_seeks live (makes.RawConsumer l made) m e =
+      subst (λ n. Away n.seekers) (some_is e) (on_seeks l (url_at (live l)) (reader.fresh (reader.of_raw made)))
+  joins_seeks live makes.Nothing m e = absurd cc
+  joins_seeks live makes.Client m e = absurd cc
+  joins_seeks live (makes.Producer b) m e = absurd cc
+
+  deed_seeks : (v : View) (a : Act) (u : ℕ) (d : Deed) → CameFrom v u a d → NoFind a → (m : Member) → Away m.seekers → Away (member_by d m).seekers
+  deed_seeks v a u (Arrives l x) c idle m h = hears_seeks l x m h
+  deed_seeks v a u (LinkEnds l cause) c idle m h = loses_seeks l cause m h
+  deed_seeks v a u (CloseAsked closed l b) c idle m h =
+      cond_so (λ z. Away z.seekers) (b && consumer.is_closed_by closed l m) (consumer.member_after (reader.Ends Closed) m) m h h
+  deed_seeks v a u (IsPolled clock) c idle m h = h
+  deed_seeks v a u (IsSought w) c idle m h = finds_seeks (consumer.sought (Some m)) w m (subst NoFind c idle) h
+  deed_seeks v a u FlowTaken c idle m h = h
+  deed_seeks v a u (Revived l url) c idle m h = none_seeks
+  deed_seeks v a u (NotRevived f) c idle m h = none_seeks
+  deed_seeks v a u ClientStops c idle m h = none_seeks
 
   pub seekers_absent : (v : View) (a : Act) (u : ℕ) → NoFind a → Away (consumer.seekers_at (v.consumers.rows u)) →
       Away (consumer.seekers_at ((consumers_after v a).rows u))
-  seekers_absent v (Comes (Calls asked advice)) u idle h =
-      subst (λ f. Away (consumer.seekers_at (f u)))
-      (sym (called_rows (lacks_tickets v.calls.drawn (shares asked)) (may_call v.calls) asked v.consumers)) h
-  seekers_absent v (Comes (ToLink l Reads)) u idle h = map_seeks _ (v.consumers.rows u) (hears_seeks l (arrival_at (v.links.live l))) h
-  seekers_absent v (Comes (ToLink l (Ends end))) u idle h = map_seeks _ (v.consumers.rows u) (loses_seeks l (closing end v.now (v.links.live l))) h
-  seekers_absent v (Comes (Polls w)) u idle h = one_seeks (u == w) (consumer.member_after (reader.Polls v.now)) (v.consumers.rows u) (λ m k. k) h
-  seekers_absent v (Does w (Ask l request)) u idle h = map_seeks _ (v.consumers.rows u) (asks_seeks l v.now request (v.links.live l)) h
-  seekers_absent v (Does w (TakeNumber wanted)) u idle h =
-      subst (λ f. Away (consumer.seekers_at (f u))) (sym (numbered_rows (ticket_of w) wanted v.consumers)) h
-  seekers_absent v (Does w (FindConsumer x)) u idle h =
-      one_seeks (u == x) (consumer.seeks w) (v.consumers.rows u)
-      (λ m k. finds_seeks (consumer.sought (Some m)) w m idle k) h
-  seekers_absent v (Does w TakeFlow) u idle h =
-      one_seeks (u == ticket_of w) (consumer.member_after reader.Asks) (v.consumers.rows u) (λ m k. k) h
-  seekers_absent v (Does w (Revive l)) u idle h =
-      one_seeks (u == ticket_of w) (consumer.revived l (url_at (v.links.live l))) (v.consumers.rows u) (λ m k. none_seeks) h
-  seekers_absent v (Does w (FailConsumer f)) u idle h =
-      one_seeks (u == ticket_of w) (consumer.failed f) (v.consumers.rows u) (λ m k. none_seeks) h
-  seekers_absent v (Does w StopAll) u idle h = map_seeks consumer.stopped (v.consumers.rows u) (λ m k. none_seeks) h
-  seekers_absent v (Answers who verdict) u idle h =
-      subst (λ f. Away (consumer.seekers_at (f u))) (sym (left_rows who (consumers_made v.links.live who verdict.makes v.consumers)))
-      (made_seeks v.links.live who verdict.makes v.consumers u h)
-  seekers_absent v _ u idle h = h
+  seekers_absent v a u idle h =
+      after_holds (λ row. Away (consumer.seekers_at row)) v u a (λ m j. joins_seeks v.links.live j.verdict.makes m j.makes)
+      (λ d c m k. deed_seeks v a u d c idle m k) h
 
   -- ALL OF THAT
 
@@ -369,12 +317,13 @@ module _ (me : Who) where
       Somewhere Q B A (after a v)
   then_there Q B A v a apart k = record {
     base = λ key. base_absent (B key) v a key (v.addresses.base key) apart (k.base key);
-    asker = λ l. live_absent (Q l) v.chosen v.addresses v.now v.links.started a l (v.links.live l) apart (k.asker l);
+    asker = λ l. live_absent (Q l) v a l (λ request is. other_apart me (Ask l request) (subst ApartBy is apart) refl refl) (k.asker l);
     alarm = alarms_absent A v a apart k.alarm;
   }
 
   pub begun_there : (Q : ℕ → ℕ → Type 0) (B : List ℕ → ℕ) (A : Type 0) (v : View) (e : Heard) → Somewhere Q B A v → Somewhere Q B A (begun e v)
-  begun_there Q B A v e k = elim (is_live v e) as (λ b. Somewhere Q B A (cond b (begun_live e v) v)) [
-    | true ↦ record { base = k.base; asker = λ l. begun_free (Q l) e l (v.links.live l) (k.asker l); alarm = k.alarm }
-    | false ↦ k
-  ]
+  begun_there Q B A v e k = record {
+    base = λ key. subst (λ (b : Base). Within (B key) b.waiting) (sym (begun_same (λ w. w.addresses.base key) e v refl)) (k.base key);
+    asker = λ l. rows.begun_holds (Asker (Q l)) v l e (λ piece is seat at h. h) (k.asker l);
+    alarm = subst (Each (NotWake A)) (sym (begun_same (λ w. w.alarms) e v refl)) k.alarm;
+  }

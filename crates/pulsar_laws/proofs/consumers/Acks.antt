@@ -43,7 +43,7 @@ use Rattle.pulsar_calls.specs.declared.act.Says.{Says}
 use Rattle.pulsar_calls.specs.declared.act.Says.TheVariants as says
 use Rattle.std.specs.Prelude.{not}
 use Rattle.std.specs.Option.{is_some}
-use Rattle.pulsar_laws.proofs.ActWords.{Act, Action, Answers, Arrival, Ask, Asked, Call, Calls, Checks, Comes, Consumer, Does, Flushes, Notice, OfTopic, Outcome, Procedure, Producer, Recall, RecallConsumer, CallRefusal, Share, Starts, Told, Who, Word, is_same, lacks_tickets, next_advice, shares, ticket_of}
+use Rattle.pulsar_laws.proofs.ActWords.{Act, Action, Answers, Arrival, Ask, Asked, Call, Calls, Checks, Comes, Consumer, Does, Flushes, Notice, OfTopic, Outcome, Procedure, Producer, Recall, RecallConsumer, CallRefusal, Share, Starts, Told, Who, Word, is_same, lacks_tickets, next_advice, shares, ticket_of, OfConsumer}
 use Rattle.pulsar_laws.proofs.PlanWords.{begins, Command, Errand, Plan, Sought, Stays, told, Ways}
 use Rattle.pulsar_laws.proofs.RunWords.{agenda, asks_topics, at_once, Begins, builds_with, Cause, Chosen, counted, Each, each_append, each_either, each_first, each_map, each_rest, EndsOnce, Entry, fails_as, flushes_all, from_base, In, InThisStep, is_served, IsRun, may_call, notice, Options, parts_of, procedure_for, produces_from, rest, searches, sends_as, sends_by, share, shares_of, shares_unless, start_of, starts, stores_as, Then, Tickets, unless_refused, view, View, ways_of, why_no_raw, why_no_sends}
 use Rattle.pulsar_laws.proofs.LinkWords.{Fault, is_body, Place, Reply, Words}
@@ -314,7 +314,7 @@ told_none : (w : Option Word) (c : Command) → NoRecall w → w ≡ Some (word.
 told_none w c h e = subst NoRecall e h
 
 recall_said : (o : Options) (who : Who) (c : Command) (e : Entry) (older : List Entry) → Cause o who (outcome.Word (word.Recalled c)) e older → IsMildCommand c
-recall_said o who c e older (inl (RecallConsumer, is, said)) = member_mild ((view o older).consumers.rows (ticket_of who)) c said
+recall_said o who c e older (inl ((OfConsumer RecallConsumer), is, said)) = member_mild ((view o older).consumers.rows (ticket_of who)) c said
 recall_said o who c e older (inl (action, is, said)) = absurd said
 recall_said o who c e older (inr (inl (l, t, m, is, serves, h))) = absurd (told_none _ c (heard_none l _ m) h)
 recall_said o who c e older (inr (inr (inl (l, t, end, m, is, serves, h)))) = absurd (told_none _ c (loss_none l _ m) h)

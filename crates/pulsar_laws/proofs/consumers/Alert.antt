@@ -3,9 +3,9 @@ use Rattle.std.proofs.Common.{◌≡◌, ◌⊎◌, inl, inr, ◌∙◌, sym, ap
 use Rattle.std.proofs.lemmas.Bool.{and_parts, cases_Bool, eqb-true}
 use Rattle.std.specs.List.{sum}
 use Rattle.std.specs.Option.{is_some, option_map}
-use Rattle.pulsar_laws.proofs.ActWords.{Act, Action, Answers, Ask, Call, Consumer, Does, is_same, Makes, Outcome, Procedure, Producer, Rest, Revive, Starts, ticket_of, Told, Verdict, Who, Word}
-use Rattle.pulsar_laws.proofs.PlanWords.{begins, fails, Gives, overrides, Plan, Serving, Stays, Subscribing, told, Turn, Ways}
-use Rattle.pulsar_laws.proofs.RunWords.{agenda, Agenda, Answered, Begins, begun_same, chosen_same, consumers_after, consumers_made, EndsOnce, Entry, first, follows, follows_some, IsRun, left_with, member_on, notice, Options, setup_of, stays, stays_some, Then, told_some, view, View, ways_of}
+use Rattle.pulsar_laws.proofs.ActWords.{Act, Action, Answers, Ask, Call, Consumer, Does, is_same, Makes, Outcome, Procedure, Producer, Rest, Revive, Starts, ticket_of, Told, Verdict, Who, Word, OfConsumer}
+use Rattle.pulsar_laws.proofs.PlanWords.{begins, fails, Gives, overrides, Plan, PlanTransition, Serving, Stays, Subscribing, told, Ways}
+use Rattle.pulsar_laws.proofs.RunWords.{agenda, Agenda, Answered, Begins, begun_same, chosen_same, consumers_after, EndsOnce, Entry, first, follows, follows_some, IsRun, left_with, member_on, notice, Options, setup_of, stays, stays_some, Then, told_some, view, View, ways_of}
 use Rattle.pulsar_laws.proofs.LinkWords.{answer_at, Exhausted, told_at, url_at, Words}
 use Rattle.pulsar_exchange.specs.declared.content.Subscribed.{Subscribed}
 use Rattle.pulsar_consumer.proofs.Histories.{raw_asks_for_nothing}
@@ -40,7 +40,8 @@ use Rattle.pulsar_laws.proofs.consumers.Flows.{first_at, start_serves}
 use Rattle.pulsar_laws.proofs.consumers.Halted.{halted_gone}
 use Rattle.pulsar_laws.proofs.consumers.Lone.{IsKept, IsMade, IsNone, RowFrom, applied, begun_rows, consumers_alone_lem, none_after, row_from}
 use Rattle.pulsar_laws.proofs.consumers.Losses.{ended_run, lost_run}
-use Rattle.pulsar_laws.proofs.consumers.Members.{left_rows, subscribed_number}
+use Rattle.pulsar_laws.proofs.consumers.Members.{row_made, subscribed_number}
+use Rattle.pulsar_acts.specs.View.{member_made}
 use Rattle.pulsar_laws.proofs.consumers.Placed.{takes_run, told_flow}
 use Rattle.pulsar_laws.proofs.consumers.Reached.{makes_of, plain_makes, reached_run}
 use Rattle.pulsar_laws.proofs.consumers.Rested.{is_resting, revived_run, told_revived}
@@ -60,7 +61,7 @@ is_alert (Serving w n service.Asking) = true
 is_alert (Serving w n (service.Reviving l)) = true
 is_alert _ = false
 
-abbrev stays_alert : Turn Plan Verdict → Bool
+abbrev stays_alert : PlanTransition → Bool
 stays_alert (Stays q a) = is_alert q
 stays_alert (Gives v) = false
 
@@ -164,13 +165,14 @@ module _ (o : Options) (log : List Entry) (t : ℕ) where
   made_starts : (who : Who) (verdict : Verdict) (m : Member) → IsRun o (Then (Answers who verdict) ∷ log) → v.consumers.rows t ≡ None →
       (consumers_after v (Answers who verdict)).rows t ≡ Some m → m.seen.is_raw ≡ false → Starting o (Then (Answers who verdict) ∷ log) m.seen.number t
   made_starts who verdict m run none is plain =
-      by verdict.makes refl (sym (ap (λ f. f t) (left_rows who (consumers_made v.links.live who verdict.makes v.consumers))) ∙ is)
+      by verdict.makes refl is
     where
       old : {A : Type 0} → v.consumers.rows t ≡ Some m → A
       old e = absurd (none_some (sym none ∙ e))
 
       joined_by : (who : Who) (j : Joining) → IsRun o (Then (Answers who verdict) ∷ log) → verdict.makes ≡ makes.Consumer j →
-          (consumers_made v.links.live who (makes.Consumer j) v.consumers).rows t ≡ Some m → Starting o (Then (Answers who verdict) ∷ log) m.seen.number t
+          row_made (Some (member_on v.links.live j.link (setup_of j))) who t (v.consumers.rows t) ≡ Some m →
+          Starting o (Then (Answers who verdict) ∷ log) m.seen.number t
       joined_by (Call u) j run made e = elim (cases_Bool (t == u)) [
         | inl d ↦
             (let same : Some (member_on v.links.live j.link (setup_of j)) ≡ Some m = rw d at e in
@@ -189,7 +191,7 @@ module _ (o : Options) (log : List Entry) (t : ℕ) where
       raw_is l s e =
           let f : true ≡ false = sym (raw_of l (url_at (v.links.live l)) (reader.of_raw s)) ∙ ap (λ (x : Member). x.seen.is_raw) e ∙ plain in cc
 
-      raw_by : (who : Who) (l : ℕ) (s : Subscribed) → (consumers_made v.links.live who (makes.RawConsumer l s) v.consumers).rows t ≡ Some m → ⊥
+      raw_by : (who : Who) (l : ℕ) (s : Subscribed) → row_made (Some (member_on v.links.live l (reader.of_raw s))) who t (v.consumers.rows t) ≡ Some m → ⊥
       raw_by (Call u) l s e = elim (cases_Bool (t == u)) [
         | inl d ↦ (let same : Some (member_on v.links.live l (reader.of_raw s)) ≡ Some m = rw d at e in raw_is l s (some_is same))
         | inr d ↦ old (rw d at e)
@@ -197,7 +199,7 @@ module _ (o : Options) (log : List Entry) (t : ℕ) where
       raw_by (Consumer k u) l s e = old e
       raw_by (Producer k) l s e = old e
 
-      by : (x : Makes) → verdict.makes ≡ x → (consumers_made v.links.live who x v.consumers).rows t ≡ Some m →
+      by : (x : Makes) → verdict.makes ≡ x → row_made (member_made v.links.live x) who t (v.consumers.rows t) ≡ Some m →
           Starting o (Then (Answers who verdict) ∷ log) m.seen.number t
       by (makes.Consumer j) made e = joined_by who j run made e
       by (makes.RawConsumer l s) made e = absurd (raw_by who l s e)
@@ -245,7 +247,7 @@ module _ (once : EndsOnce) (o : Options) (log : List Entry) (n t : ℕ) where
         IsAlert o (Then (Told (notice who u)) ∷ log) n t
     own_told p u run stood alert = elim (alert_on p u alert) [ inl s ↦ by (told p u) refl s | inr h ↦ absurd (off u run h) ]
       where
-        by : (x : Turn Plan Verdict) → told p u ≡ x → stays_alert x ≡ true → IsAlert o (Then (Told (notice who u)) ∷ log) n t
+        by : (x : PlanTransition) → told p u ≡ x → stays_alert x ≡ true → IsAlert o (Then (Told (notice who u)) ∷ log) n t
         by (Stays q a) leads s = inr (q, stand_told o log who u p q a stood leads, s)
         by (Gives v) leads s = absurd cc
 
@@ -273,20 +275,23 @@ module _ (once : EndsOnce) (o : Options) (log : List Entry) (n t : ℕ) where
 
 module _ (once : EndsOnce) (o : Options) (log : List Entry) (t : ℕ) (was : Alert o t log) where
   -- it is subscribed again
-  again : (w : Who) (j : ℕ) (m : Member) → IsRun o (Then (Does w (Revive j)) ∷ log) → (t == ticket_of w) ≡ true → (view o log).consumers.rows t ≡ Some m →
-      IsAlert o (Then (Does w (Revive j)) ∷ log) m.seen.number t
+  again : (w : Who) (j : ℕ) (m : Member) → IsRun o (Then (Does w (OfConsumer (Revive j))) ∷ log) → (t == ticket_of w) ≡ true →
+      (view o log).consumers.rows t ≡ Some m →
+      IsAlert o (Then (Does w (OfConsumer (Revive j))) ∷ log) m.seen.number t
   again w j m run d is =
       let x = revivers o log w j run in
       let u : t ≡ x.1 = eqb-true t x.1 (ap (λ y. t == ticket_of y) (sym x.2) ∙ d) in
       let s : w ≡ Consumer x.0 t = x.2 ∙ ap (Consumer x.0) (sym u) in
-      subst (λ y. IsAlert o (Then (Does y (Revive j)) ∷ log) m.seen.number t) (sym s) (by x.0 (subst (λ y. IsRun o (Then (Does y (Revive j)) ∷ log)) s run))
+      subst (λ y. IsAlert o (Then (Does y (OfConsumer (Revive j))) ∷ log) m.seen.number t) (sym s) (by x.0 (subst (λ y. IsRun o (Then (Does y (OfConsumer
+      (Revive j))) ∷ log)) s run))
     where
-      by : (n : ℕ) → IsRun o (Then (Does (Consumer n t) (Revive j)) ∷ log) → IsAlert o (Then (Does (Consumer n t) (Revive j)) ∷ log) m.seen.number t
+      by : (n : ℕ) → IsRun o (Then (Does (Consumer n t) (OfConsumer (Revive j))) ∷ log) →
+          IsAlert o (Then (Does (Consumer n t) (OfConsumer (Revive j))) ∷ log) m.seen.number t
       by n run =
           let k : IsRevived o log (Consumer n t) j = is_revived o log (Consumer n t) j run in
           let stood : (view o log).stand (Consumer n t) ≡ Some k.plan =
           ap (λ y. (view o y).stand (Consumer n t)) k.is_there
-          ∙ stand_told o k.older (Consumer n t) (outcome.Replied k.reply) k.before k.plan (Revive j) k.stood k.leads in
+          ∙ stand_told o k.older (Consumer n t) (outcome.Replied k.reply) k.before k.plan (OfConsumer (Revive j)) k.stood k.leads in
           let r : Numbered o n t log = numbered_run once o log n t k.plan run.0 stood in
           let number : m.seen.number ≡ n = ap (λ (y : Member). y.seen.number) (some_is (sym is ∙ r.1)) ∙ r.2 in
           inr (k.plan, ap (λ y. (view o log).stand (Consumer y t)) number ∙ stood, revived_alert k.plan k.revives)
@@ -315,7 +320,7 @@ module _ (once : EndsOnce) (o : Options) (log : List Entry) (t : ℕ) (was : Ale
             | inr (inr (w, j, it, d)) ↦
                 (let own = (and_parts (t == ticket_of w) (is_some ((view o log).links.live j)) d).0 in
                 subst (λ y. IsAlert o (Then y ∷ log) m.seen.number t) (sym it)
-                (subst (λ n. IsAlert o (Then (Does w (Revive j)) ∷ log) n t) number
+                (subst (λ n. IsAlert o (Then (Does w (OfConsumer (Revive j))) ∷ log) n t) number
                 (again w j x (subst (λ y. IsRun o (Then y ∷ log)) it run) own e)))
           ]
 

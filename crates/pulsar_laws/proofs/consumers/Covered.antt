@@ -3,9 +3,9 @@ use Rattle.std.proofs.Common.{◌≡◌, ◌⊎◌, inl, inr, ◌∙◌, sym, ap
 use Rattle.std.proofs.lemmas.Bool.{cases_Bool, eqb-true}
 use Rattle.std.proofs.lemmas.List.Sums.{sum_by-cons}
 use Rattle.std.specs.Option.{is_some, option_map}
-use Rattle.pulsar_laws.proofs.ActWords.{Act, Answers, Arrival, Ask, Comes, Consumer, Does, Ends, FailConsumer, Notice, Polls, Reads, Revive, StopAll, TakeFlow, ticket_of, Told, ToLink}
+use Rattle.pulsar_laws.proofs.ActWords.{Act, Answers, Arrival, Ask, Consumer, Does, Notice, Revive, TakeFlow, ticket_of, Told, OfConsumer}
 use Rattle.pulsar_laws.proofs.RunWords.{Begins, EndsOnce, Entry, IsRun, notice, Options, Then, view, View}
-use Rattle.pulsar_laws.proofs.LinkWords.{answer_at, arrival_at, closed_consumer, closing, Fault, is_asked, is_body, place_of, Reply, Seat, url_at}
+use Rattle.pulsar_laws.proofs.LinkWords.{answer_at, Fault, is_body, place_of, Reply, Seat, url_at}
 use Rattle.pulsar_messages.specs.Words as words
 use Rattle.pulsar_consumer.specs.Laws.{asked_since}
 use Rattle.pulsar_consumer.specs.Topic.{Act as Done, Lives, Hears, Loses, Fails, Ends as Over, Polls as Polled, Asks, Seen, Live, Setup, first_due, link_of, lives_on, seen}
@@ -13,12 +13,13 @@ use Rattle.pulsar_incoming.specs.declared.polled.Ending.TheVariants.{TopicEnded}
 use Rattle.pulsar_calls.specs.declared.act.Arrival.TheVariants as arrivals
 use Rattle.pulsar_calls.specs.declared.act.Outcome.TheVariants as outcome
 use Rattle.pulsar_calls.specs.declared.act.Word.TheVariants as word
-use Rattle.pulsar_consumer_table.specs.Consumers.{Member, is_closed_by}
+use Rattle.pulsar_consumer_table.specs.Consumers.{Arrives, CloseAsked, Deed, FlowTaken, LinkEnds, Member, Revived, is_closed_by}
 use Rattle.pulsar_laws.proofs.Cases.{none_some, some_is}
 use Rattle.pulsar_laws.proofs.calls.Ticketed.{consumer_ticket}
-use Rattle.pulsar_laws.specs.ConsumerLaws.{Flow, arrival_does, does_to, done_since, done_to, flows_after, flows_since, frame_does, loss_does, made_with, permits_of, subscription_does}
+use Rattle.pulsar_laws.specs.ConsumerLaws.{Flow, arrival_does, deed_does, deeds_do, does_to, done_since, done_to, flows_after, flows_since, frame_does, loss_does, made_with, permits_of}
 use Rattle.pulsar_laws.proofs.producers.Drawing.{Every, here}
-use Rattle.pulsar_laws.proofs.consumers.Lone.{IsKept, IsMade, IsNone, RowFrom, begun_rows, consumers_alone_lem, row_from}
+use Rattle.pulsar_laws.proofs.consumers.Lone.{IsKept, IsMade, IsNone, RowFrom, begun_rows, consumers_alone_lem, did_so, is_revival, row_from}
+use Rattle.pulsar_laws.proofs.consumers.Members.{CameFrom}
 use Rattle.pulsar_laws.proofs.consumers.Placed.{IsPlaced, asked_there, is_placed}
 use Rattle.pulsar_laws.proofs.consumers.Queueing.{flows_run, fresh_below, fresh_none}
 use Rattle.pulsar_laws.proofs.consumers.Riding.{LinkFrom, link_from}
@@ -62,23 +63,36 @@ loss_new : (l : ℕ) (cause : Option Fault) → makes_new (loss_does l cause) �
 loss_new l None = refl
 loss_new l (Some cause) = refl
 
+none_new : (xs ys : List Done) → makes_new xs ≡ false → makes_new ys ≡ false → makes_new (xs ++ ys) ≡ false
+none_new [] ys p q = q
+none_new (Lives l url ∷ xs) ys p q = absurd cc
+none_new (Hears l f ∷ xs) ys p q = none_new xs ys p q
+none_new (Loses l ∷ xs) ys p q = none_new xs ys p q
+none_new (Fails f ∷ xs) ys p q = none_new xs ys p q
+none_new (Over why ∷ xs) ys p q = none_new xs ys p q
+none_new (Polled clock ∷ xs) ys p q = none_new xs ys p q
+none_new (Asks ∷ xs) ys p q = none_new xs ys p q
+
+other_new : (v : View) (t : ℕ) (a : Act) → is_revival a ≡ false → (m : Member) → makes_new (does_to v t m a) ≡ false
+other_new v t a h = did_so (λ xs s. makes_new xs ≡ false) (λ s. refl) (λ xs ys s q p. none_new xs ys p q) v t a one
+  where
+    one : (d : Deed) → CameFrom v t a d → (m : Member) → makes_new (deed_does d m) ≡ false
+    one (Arrives l x) c m = arrival_new l x m.seen
+    one (LinkEnds l cause) c m = loss_new l cause
+    one (CloseAsked closed l b) c m = either_new (b && is_closed_by closed l m) _ _ refl refl
+    one (Revived l url) c m = let f : true ≡ false = sym (ap is_revival c.1) ∙ h in absurd cc
+    one _ c m = refl
+
 -- an act makes none, or begins the flows anew
 does_new : (v : View) (t : ℕ) (m : Member) (a : Act) (fs : List Flow) → (makes_new (does_to v t m a) ≡ false) ⊎ (flows_after v t a fs ≡ [])
-does_new v t m (Comes (ToLink l Reads)) fs = inl (arrival_new l (arrival_at (v.links.live l)) m.seen)
-does_new v t m (Comes (ToLink l (Ends end))) fs = inl (loss_new l (closing end v.now (v.links.live l)))
-does_new v t m (Comes (Polls u)) fs = inl (either_new (t == u) _ _ refl refl)
-does_new v t m (Does who (Ask l request)) fs =
-    inl (either_new (is_asked (answer_at v.now request (v.links.live l)) && is_closed_by (closed_consumer request) l m) _ _ refl refl)
-does_new v t m (Does who TakeFlow) fs = inl (either_new (t == ticket_of who) _ _ refl refl)
-does_new v t m (Does who (Revive l)) fs = by (t == ticket_of who) (v.links.live l)
+does_new v t m (Does who (OfConsumer (Revive l))) fs = by (t == ticket_of who) (v.links.live l)
   where
-    by : (b : Bool) (row : Option Seat) → (makes_new (cond b (subscription_does l (url_at row)) []) ≡ false) ⊎ (cond (b && is_some row) [] fs ≡ [])
+    by : (b : Bool) (row : Option Seat) →
+        (makes_new (deeds_do (cond b (Revived l (url_at row) ∷ []) []) m) ≡ false) ⊎ (cond (b && is_some row) [] fs ≡ [])
     by true None = inl refl
     by true (Some seat) = inr refl
     by false row = inl refl
-does_new v t m (Does who (FailConsumer f)) fs = inl (either_new (t == ticket_of who) _ _ refl refl)
-does_new v t m (Does who StopAll) fs = inl refl
-does_new v t m a fs = inl refl
+does_new v t m a fs = inl (other_new v t a refl m)
 
 -- ALONG A LOG
 
@@ -103,7 +117,7 @@ module _ (once : EndsOnce) (o : Options) (log : List Entry) (n t l m p : ℕ) (r
   told_so = notice (Consumer n t) (outcome.Word (word.Flow l p))
 
   abbrev pub took : List Entry
-  took = Then (Does (Consumer n t) TakeFlow) ∷ x.older
+  took = Then (Does (Consumer n t) (OfConsumer TakeFlow)) ∷ x.older
 
   before : IsRun o x.older
   before = (subst (IsRun o) x.is_behind run).0.0
@@ -113,8 +127,9 @@ module _ (once : EndsOnce) (o : Options) (log : List Entry) (n t l m p : ℕ) (r
       ap (done_to o t) x.is_behind
       ∙ row_done (view o took) t (Told told_so) _ ((view o took).consumers.rows t) (done_to o t took)
       (asked_there o x.older n t told_so x.was_due.member x.was_due.is_there)
-      ∙ row_done (view o x.older) t (Does (Consumer n t) TakeFlow) x.was_due.member ((view o x.older).consumers.rows t) (done_to o t x.older) x.was_due.is_there
-      ∙ ap (λ b. cond b (Asks ∷ []) [] ++ done_to o t x.older) (eq-eqb t t refl)
+      ∙ row_done (view o x.older) t (Does (Consumer n t) (OfConsumer TakeFlow)) x.was_due.member ((view o x.older).consumers.rows t)
+      (done_to o t x.older) x.was_due.is_there
+      ∙ ap (λ b. deeds_do (cond b (FlowTaken ∷ []) []) x.was_due.member ++ done_to o t x.older) (eq-eqb t t refl)
 
   -- its permits count as taken
   pub taken_then : (s : Setup) → made_with t log ≡ Some s → asked_since s (done_to o t log) ≡ asked_since s (done_to o t x.older) + p
@@ -178,12 +193,10 @@ module _ (once : EndsOnce) (o : Options) (log : List Entry) (t : ℕ) (k : Every
   ]
     where
       ask_new : (m : Member) (n u j m' p : ℕ) → makes_new (does_to v t m (Does (Consumer n u) (Ask j (words.SendFlow m' p)))) ≡ false
-      ask_new m n u j m' p =
-          either_new (is_asked (answer_at v.now (words.SendFlow m' p) (v.links.live j)) && is_closed_by (closed_consumer (words.SendFlow m' p)) j m) _ _ refl
-          refl
-  kept_covered (Does who (Revive j)) l s m run from is made = elim (cases_Bool (t == ticket_of who && is_some (v.links.live j))) [
-    | inl d ↦ none_covered (flows_after v t (Does who (Revive j)) fs) _ (ap (λ b. cond b [] fs) d)
-    | inr d ↦ plain_covered (Does who (Revive j)) l s m run from is made (ap (λ b. cond b [] fs) d)
+      ask_new m n u j m' p = other_new v t (Does (Consumer n u) (Ask j (words.SendFlow m' p))) refl m
+  kept_covered (Does who (OfConsumer (Revive j))) l s m run from is made = elim (cases_Bool (t == ticket_of who && is_some (v.links.live j))) [
+    | inl d ↦ none_covered (flows_after v t (Does who (OfConsumer (Revive j))) fs) _ (ap (λ b. cond b [] fs) d)
+    | inr d ↦ plain_covered (Does who (OfConsumer (Revive j))) l s m run from is made (ap (λ b. cond b [] fs) d)
   ]
   kept_covered a l s m run from is made = plain_covered a l s m run from is made refl
 

@@ -6,9 +6,9 @@ use Rattle.std.specs.List.{flat_map}
 use Rattle.std.specs.Option.{is_some, option_map, option_to_list}
 use Rattle.std.specs.Ordering.{match_ordering, nat_cmp}
 use Rattle.std.specs.declared.cmp.Ordering.TheVariants.{Less, Equal, Greater}
-use Rattle.pulsar_laws.proofs.ActWords.{Act, Answers, Arrival, Ask, Asked, Call, Calls, Comes, Consumer, Does, Ends, FailConsumer, FindConsumer, is_same, lacks_tickets, Makes, Notice, opens, Polls, Producer, Reads, Revive, shares, StopAll, TakeFlow, TakeNumber, ticket_of, Told, ToLink, Verdict, Who, Word}
-use Rattle.pulsar_laws.proofs.RunWords.{Arises, Begins, begun_same, consumers_after, consumers_made, Entry, In, InOne, joins, may_call, member_on, Options, rules, Then, turned, view, View}
-use Rattle.pulsar_laws.proofs.LinkWords.{answer_at, arrival_at, closed_consumer, closing, Failure, Fault, is_asked, is_body, Reply, Seat, url_at}
+use Rattle.pulsar_laws.proofs.ActWords.{Act, Answers, Arrival, Ask, Asked, Call, Calls, Comes, Consumer, Does, Ends, is_same, lacks_tickets, Makes, Notice, opens, Polls, Producer, Reads, Revive, shares, StopAll, TakeNumber, ticket_of, Told, ToLink, Verdict, Who, Word, OfConsumer}
+use Rattle.pulsar_laws.proofs.RunWords.{Arises, Begins, begun_same, consumers_after, Entry, In, InOne, joins, may_call, member_on, Options, rules, Then, turned, view, View}
+use Rattle.pulsar_laws.proofs.LinkWords.{arrival_at, Failure, is_body, Reply, Seat, url_at}
 use Rattle.url.specs.Parts.{Parts}
 use Rattle.pulsar_exchange.specs.Request.{named_consumer}
 use Rattle.pulsar_exchange.specs.declared.content.Subscribed.{Subscribed}
@@ -23,20 +23,20 @@ use Rattle.pulsar_calls.specs.declared.act.Makes.TheVariants as makes
 use Rattle.pulsar_calls.specs.declared.act.Word.TheVariants as word
 use Rattle.pulsar_calls.specs.declared.content.Joining.{Joining}
 use Rattle.pulsar_consumer_table.specs.Consumers as consumer
-use Rattle.pulsar_consumer_table.specs.Consumers.{Consumers, Member, at_row, called_on, drew, ends_on, hears, hears_frame, holds, is_closed_by, member_after, names_in, next_free, numbering, opened_on, revived, word_if, word_of, word_of_frame}
+use Rattle.pulsar_consumer_table.specs.Consumers.{Arrives, ClientStops, CloseAsked, Consumers, Deed, FlowTaken, IsPolled, IsSought, LinkEnds, Member, NotRevived, Revived, at_row, called_on, drew, ends_on, hears, hears_frame, holds, is_closed_by, member_after, names_in, next_free, numbering, opened_on, revived, word_if, word_of, word_of_frame}
 use Rattle.pulsar_consumer_table.specs.declared.numbers.Numbering.{Numbering}
 use Rattle.pulsar_consumer_table.specs.declared.numbers.Numbering.TheVariants.{Has, InUse, Spent}
 use Rattle.pulsar_consumer_table.specs.Notices.{again_at, due_at, due_to, heard_at, word_notice, word_to}
 use Rattle.pulsar_acts.specs.Reading.{heard_on, made_due}
 use Rattle.pulsar_acts.specs.Rules.{served_on, waiters_of}
-use Rattle.pulsar_acts.specs.View.{consumers_left, joins_as, setup_of}
+use Rattle.pulsar_acts.specs.View.{consumers_left, consumers_listed, listed_as, member_made, setup_of}
 use Rattle.pulsar_links.specs.LinkRules.{answered_on}
 use Rattle.pulsar_laws.proofs.Cases.{none_some, some_is}
 use Rattle.pulsar_laws.proofs.Lists.{in_right, into_flat}
-use Rattle.pulsar_laws.proofs.consumers.Lone.{applied, arrival_done, joins_here, none_after}
+use Rattle.pulsar_laws.proofs.consumers.Lone.{applied, applied_append, deeds_did, did_so, joins_here, none_after}
 use Rattle.pulsar_laws.proofs.calls.Same.{same_self}
-use Rattle.pulsar_laws.proofs.consumers.Members.{either_number, left_rows, lost_gone, polled_number}
-use Rattle.pulsar_laws.specs.ConsumerLaws.{does_to, loss_does, subscription_does}
+use Rattle.pulsar_laws.proofs.consumers.Members.{CameFrom, either_number, lost_gone, polled_number, row_made}
+use Rattle.pulsar_laws.specs.ConsumerLaws.{deed_does, deeds_do, does_to}
 
 -- THE TICKETS of all consumers are known
 
@@ -92,17 +92,17 @@ module _ (t : ℕ) where
   abbrev Has' : Consumers → Type 0
   Has' cs = In t cs.tickets
 
-  joins_has : (who : Who) (m : Member) (cs : Consumers) → Has' cs → Has' (joins_as who m cs)
-  joins_has (Call u) m cs h = in_kept t u cs.tickets h
-  joins_has (Consumer n u) m cs h = h
-  joins_has (Producer n) m cs h = h
+  listed_has : (who : Who) (cs : Consumers) → Has' cs → Has' (listed_as who cs)
+  listed_has (Call u) cs h = in_kept t u cs.tickets h
+  listed_has (Consumer n u) cs h = h
+  listed_has (Producer n) cs h = h
 
-  made_has : (live : ℕ → Option Seat) (who : Who) (x : Makes) (cs : Consumers) → Has' cs → Has' (consumers_made live who x cs)
-  made_has live who (makes.Consumer j) cs h = joins_has who (member_on live j.link (setup_of j)) cs h
-  made_has live who (makes.RawConsumer l made) cs h = joins_has who (member_on live l (reader.of_raw made)) cs h
-  made_has live who makes.Nothing cs h = h
-  made_has live who makes.Client cs h = h
-  made_has live who (makes.Producer b) cs h = h
+  made_has : (who : Who) (x : Makes) (cs : Consumers) → Has' cs → Has' (consumers_listed who x cs)
+  made_has who (makes.Consumer j) cs h = listed_has who cs h
+  made_has who (makes.RawConsumer l made) cs h = listed_has who cs h
+  made_has who makes.Nothing cs h = h
+  made_has who makes.Client cs h = h
+  made_has who (makes.Producer b) cs h = h
 
   after_has : (v : View) (a : Act) → Has' v.consumers → Has' (consumers_after v a)
   after_has v (Comes (Calls asked advice)) h =
@@ -113,21 +113,18 @@ module _ (t : ℕ) where
       (drew_tickets (next_free v.consumers) wanted (holds (ticket_of who) (numbering v.consumers wanted) v.consumers)
       ∙ holds_tickets (ticket_of who) (numbering v.consumers wanted) v.consumers)) h
   after_has v (Answers who verdict) h =
-      subst (In t) (sym (left_tickets who (consumers_made v.links.live who verdict.makes v.consumers)))
-      (made_has v.links.live who verdict.makes v.consumers h)
+      subst (In t) (sym (left_tickets who (consumers_listed who verdict.makes v.consumers))) (made_has who verdict.makes v.consumers h)
   after_has v (Comes (ToLink l Reads)) h = h
   after_has v (Comes (ToLink l (Ends end))) h = h
   after_has v (Comes (Polls u)) h = h
   after_has v (Does who (Ask l request)) h = h
-  after_has v (Does who (FindConsumer u)) h = h
-  after_has v (Does who TakeFlow) h = h
-  after_has v (Does who (Revive l)) h = h
-  after_has v (Does who (FailConsumer f)) h = h
+  after_has v (Does who (OfConsumer ask)) h = h
   after_has v (Does who StopAll) h = h
   after_has v a h = h
 
   -- one that joins
-  joins_new : (who : Who) (m n : Member) (cs : Consumers) → (joins_as who m cs).rows t ≡ Some n → (cs.rows t ≡ Some n) ⊎ Has' (joins_as who m cs)
+  joins_new : (who : Who) (m n : Member) (cs : Consumers) → row_made (Some m) who t (cs.rows t) ≡ Some n →
+      (cs.rows t ≡ Some n) ⊎ Has' (listed_as who cs)
   joins_new (Call u) m n cs h = elim (cases_Bool (t == u)) [
     | inl e ↦ inr (subst (λ x. In t (insert_key nat_cmp cs.tickets x)) (eqb-true t u e) (in_new t cs.tickets))
     | inr e ↦ inl (rw e at h)
@@ -135,8 +132,8 @@ module _ (t : ℕ) where
   joins_new (Consumer k u) m n cs h = inl h
   joins_new (Producer k) m n cs h = inl h
 
-  made_new : (live : ℕ → Option Seat) (who : Who) (x : Makes) (n : Member) (cs : Consumers) → (consumers_made live who x cs).rows t ≡ Some n →
-      (cs.rows t ≡ Some n) ⊎ Has' (consumers_made live who x cs)
+  made_new : (live : ℕ → Option Seat) (who : Who) (x : Makes) (n : Member) (cs : Consumers) →
+      row_made (member_made live x) who t (cs.rows t) ≡ Some n → (cs.rows t ≡ Some n) ⊎ Has' (consumers_listed who x cs)
   made_new live who (makes.Consumer j) n cs h = joins_new who (member_on live j.link (setup_of j)) n cs h
   made_new live who (makes.RawConsumer l made) n cs h = joins_new who (member_on live l (reader.of_raw made)) n cs h
   made_new live who makes.Nothing n cs h = inl h
@@ -154,11 +151,9 @@ module _ (t : ℕ) where
   has_on : (v : View) (a : Act) → ((m : Member) → v.consumers.rows t ≡ Some m → Has' v.consumers) → (n : Member) →
       (consumers_after v a).rows t ≡ Some n → Has' (consumers_after v a)
   has_on v (Answers who verdict) k n h =
-      let cs : Consumers = consumers_made v.links.live who verdict.makes v.consumers in
-      let made : cs.rows t ≡ Some n = sym (ap (λ f. f t) (left_rows who cs)) ∙ h in
-      elim (made_new v.links.live who verdict.makes n v.consumers made) [
+      elim (made_new v.links.live who verdict.makes n v.consumers h) [
         | inl e ↦ after_has v (Answers who verdict) (k n e)
-        | inr e ↦ subst (In t) (sym (left_tickets who cs)) e
+        | inr e ↦ subst (In t) (sym (left_tickets who (consumers_listed who verdict.makes v.consumers))) e
       ]
   has_on v a k n h = other_has v a (λ who verdict f. absurd cc) k n h
 
@@ -227,25 +222,23 @@ falls_asks s h = by s.engine.live h
 abbrev pub is_waker : Act → Bool
 is_waker (Comes (ToLink l Reads)) = true
 is_waker (Comes (Polls t)) = true
-is_waker (Does who (Revive l)) = true
+is_waker (Does who (OfConsumer (Revive l))) = true
 is_waker _ = false
 
 pub falls_due : (v : View) (t : ℕ) (m : Member) (a : Act) → is_waker a ≡ false → is_due (applied (does_to v t m a) m.seen) ≡ true → is_due m.seen ≡ true
-falls_due v t m (Comes (ToLink l Reads)) w h = absurd cc
-falls_due v t m (Comes (Polls u)) w h = absurd cc
-falls_due v t m (Does who (Revive l)) w h = absurd cc
-falls_due v t m (Comes (ToLink l (Ends end))) w h = by (closing end v.now (v.links.live l)) h
+falls_due v t m a w h = did_so Falls (λ s k. k) (λ xs ys s q p k. q (p (ap is_due (sym (applied_append xs ys s)) ∙ k))) v t a one m h
   where
-    by : (c : Option Fault) → is_due (applied (loss_does l c) m.seen) ≡ true → is_due m.seen ≡ true
-    by None k = k
-    by (Some cause) k = falls_loses l m.seen k
-falls_due v t m (Does who (Ask l request)) w h =
-    falls_either (is_asked (answer_at v.now request (v.links.live l)) && is_closed_by (closed_consumer request) l m) (Over Closed ∷ []) m.seen
-    (λ k. absurd cc) h
-falls_due v t m (Does who TakeFlow) w h = falls_either (t == ticket_of who) (Asks ∷ []) m.seen (falls_asks m.seen) h
-falls_due v t m (Does who (FailConsumer f)) w h = falls_either (t == ticket_of who) (Fails f ∷ []) m.seen (falls_fails f m.seen) h
-falls_due v t m (Does who StopAll) w h = absurd cc
-falls_due v t m a w h = h
+    one : (d : Deed) → CameFrom v t a d → (n : Member) → Falls (deed_does d n) n.seen
+    one (Arrives l x) c n k = let f : true ≡ false = sym (ap is_waker c.0) ∙ w in absurd cc
+    one (LinkEnds l None) c n k = k
+    one (LinkEnds l (Some cause)) c n k = falls_loses l n.seen k
+    one (CloseAsked closed l b) c n k = falls_either (b && is_closed_by closed l n) (Over Closed ∷ []) n.seen (λ j. absurd cc) k
+    one (IsPolled clock) c n k = let f : true ≡ false = sym (ap is_waker c.0) ∙ w in absurd cc
+    one (IsSought who) c n k = k
+    one FlowTaken c n k = falls_asks n.seen k
+    one (Revived l url) c n k = let f : true ≡ false = sym (ap is_waker c.1) ∙ w in absurd cc
+    one (NotRevived f) c n k = falls_fails f n.seen k
+    one ClientStops c n k = absurd cc
 
 -- WHERE ONE FALLS DUE its plan is told so
 
@@ -338,58 +331,55 @@ module _ (o : Options) (log : List Entry) (t : ℕ) (m : Member) (there : (view 
         inl (inr (inr (inl (opened_in (word_notice t m word.Due) (front ++ heard_on v l) (in_right (word_notice t m word.Due) front (heard_on v l) all))))))
   ]
 
-  polls_due : (u : ℕ) → is_due (applied (cond (t == u) (Polled v.now ∷ []) []) m.seen) ≡ true → Rises (Comes (Polls u))
+  polls_due : (u : ℕ) → is_due (applied (deeds_do (cond (t == u) (IsPolled v.now ∷ []) []) m) m.seen) ≡ true → Rises (Comes (Polls u))
   polls_due u h = elim (cases_Bool (t == u)) [
-    | inr e ↦ inr (sym (ap (λ b. is_due (applied (cond b (Polled v.now ∷ []) []) m.seen)) e) ∙ h)
+    | inr e ↦ inr (sym (ap (λ b. is_due (applied (deeds_do (cond b (IsPolled v.now ∷ []) []) m) m.seen)) e) ∙ h)
     | inl e ↦
         (let n : Member = member_after (Polled v.now) m in
-        let d : is_due n.seen ≡ true = sym (ap (λ b. is_due (applied (cond b (Polled v.now ∷ []) []) m.seen)) e) ∙ h in
+        let d : is_due n.seen ≡ true = sym (ap (λ b. is_due (applied (deeds_do (cond b (IsPolled v.now ∷ []) []) m) m.seen)) e) ∙ h in
         let i : In (due_to_plan m.seen.number t) (map Told (due_at t (option_map (member_after (Polled v.now)) (v.consumers.rows t)))) =
         subst (λ row. In (due_to_plan m.seen.number t) (map Told (due_at t (option_map (member_after (Polled v.now)) row)))) (sym there)
         (renamed n (due_at t (Some n)) (polled_number v.now m.seen) (due_there t n d)) in
         inl (subst (λ x. Arises rules o (due_to_plan m.seen.number t) (Then (Comes (Polls x))) log) (eqb-true t u e) (inr (inl i))))
   ]
 
-  pub revived_due : (who : Who) (l : ℕ) → (t == ticket_of who) ≡ true → is_due (applied (subscription_does l (url_at (v.links.live l))) m.seen) ≡ true →
-      Arises rules o (due_to_plan m.seen.number t) (Then (Does who (Revive l))) log
+  pub revived_due : (who : Who) (l : ℕ) → (t == ticket_of who) ≡ true → is_due (applied (deeds_do (Revived l (url_at (v.links.live l)) ∷ []) m) m.seen) ≡ true →
+      Arises rules o (due_to_plan m.seen.number t) (Then (Does who (OfConsumer (Revive l)))) log
   revived_due who l e h =
       let url : Option Parts = url_at (v.links.live l) in
       let n : Member = revived l url m in
       let i : In (due_to_plan m.seen.number t) (map Told (due_at t (Some n))) =
-      renamed n (due_at t (Some n)) (seen_number url) (due_there t n (ap is_due (seen_so url) ∙ h)) in
+      renamed n (due_at t (Some n)) (seen_number url) (due_there t n (ap is_due (deeds_did (Revived l url ∷ []) m) ∙ h)) in
       let j : In (due_to_plan m.seen.number t) (map Told (again_at (v.consumers.rows t) ++ due_at t (option_map (revived l url) (v.consumers.rows t)))) =
       due_append m.seen.number t (again_at (v.consumers.rows t)) (due_at t (option_map (revived l url) (v.consumers.rows t)))
       (subst (λ row. In (due_to_plan m.seen.number t) (map Told (due_at t (option_map (revived l url) row)))) (sym there) i) in
-      inr (inl (subst (λ x. In (due_to_plan m.seen.number t) (map Told (again_at (v.consumers.rows x) ++ due_at x (option_map (revived l url) (v.consumers.rows x)))))
+      inr (inl (subst (λ x. In (due_to_plan m.seen.number t) (map Told (again_at (v.consumers.rows x) ++ due_at x (option_map (revived l url)
+      (v.consumers.rows x)))))
       (eqb-true t (ticket_of who) e) j))
     where
-      seen_so : (url : Option Parts) → (revived l url m).seen ≡ applied (subscription_does l url) m.seen
-      seen_so None = refl
-      seen_so (Some u) = refl
-
       seen_number : (url : Option Parts) → (revived l url m).seen.number ≡ m.seen.number
-      seen_number url = ap (λ (s : Seen). s.number) (seen_so url) ∙ applied_number (subscription_does l url) m.seen
+      seen_number url = ap (λ (s : Seen). s.number) (deeds_did (Revived l url ∷ []) m) ∙ applied_number (deeds_do (Revived l url ∷ []) m) m.seen
 
-  revive_due : (who : Who) (l : ℕ) → is_due (applied (cond (t == ticket_of who) (subscription_does l (url_at (v.links.live l))) []) m.seen) ≡ true →
-      Rises (Does who (Revive l))
+  revive_due : (who : Who) (l : ℕ) → is_due (applied (deeds_do (cond (t == ticket_of who) (Revived l (url_at (v.links.live l)) ∷ []) []) m) m.seen) ≡ true →
+      Rises (Does who (OfConsumer (Revive l)))
   revive_due who l h = elim (cases_Bool (t == ticket_of who)) [
-    | inr e ↦ inr (sym (ap (λ b. is_due (applied (cond b (subscription_does l (url_at (v.links.live l))) []) m.seen)) e) ∙ h)
-    | inl e ↦ inl (revived_due who l e (sym (ap (λ b. is_due (applied (cond b (subscription_does l (url_at (v.links.live l))) []) m.seen)) e) ∙ h))
+    | inr e ↦ inr (sym (ap (λ b. is_due (applied (deeds_do (cond b (Revived l (url_at (v.links.live l)) ∷ []) []) m) m.seen)) e) ∙ h)
+    | inl e ↦ inl (revived_due who l e (sym (ap (λ b. is_due (applied (deeds_do (cond b (Revived l (url_at (v.links.live l)) ∷ []) []) m) m.seen)) e) ∙ h))
   ]
 
   pub rises : (a : Act) → is_waker a ≡ true → is_due (applied (does_to v t m a) m.seen) ≡ true → Rises a
-  rises (Comes (ToLink l Reads)) w h = reads_due l (ap is_due (arrival_done l (arrival_at (v.links.live l)) m) ∙ h)
+  rises (Comes (ToLink l Reads)) w h = reads_due l (ap is_due (deeds_did (Arrives l (arrival_at (v.links.live l)) ∷ []) m) ∙ h)
   rises (Comes (Polls u)) w h = polls_due u h
-  rises (Does who (Revive l)) w h = revive_due who l h
+  rises (Does who (OfConsumer (Revive l))) w h = revive_due who l h
   rises a w h = absurd cc
 
 -- and where a consumer is made
 call_due : (v : View) (t : ℕ) (verdict : Verdict) (j : Joining) (n : Member) → verdict.makes ≡ makes.Consumer j →
-    (joins_as (Call t) (member_on v.links.live j.link (setup_of j)) v.consumers).rows t ≡ Some n → is_due n.seen ≡ true →
+    row_made (Some (member_on v.links.live j.link (setup_of j))) (Call t) t (v.consumers.rows t) ≡ Some n → is_due n.seen ≡ true →
     In (due_to_plan n.seen.number t) (map Told (joins v (Answers (Call t) verdict)))
 call_due v t verdict j n made is h =
     let it : Member = member_on v.links.live j.link (setup_of j) in
-    let same : it ≡ n = some_is (sym (joins_here (Call t) it v.consumers t (same_self (Call t))) ∙ is) in
+    let same : it ≡ n = some_is (sym (joins_here (Call t) it (v.consumers.rows t) t (same_self (Call t))) ∙ is) in
     let one : due_to t n ≡ word_notice t n word.Due ∷ [] = ap (λ b. word_to t n (word_if b word.Due)) h in
     subst (λ x. In (due_to_plan n.seen.number t) (map Told (made_due v.links.live (Call t) x))) (sym made)
     (subst (λ x. In (due_to_plan n.seen.number t) (map Told (due_to t x))) (sym same)
@@ -407,25 +397,25 @@ pub made_due_so : (v : View) (t : ℕ) (who : Who) (verdict : Verdict) (n : Memb
     (consumers_after v (Answers who verdict)).rows t ≡ Some n → is_due n.seen ≡ true →
     In (due_to_plan n.seen.number t) (map Told (joins v (Answers who verdict)))
 made_due_so v t who verdict n none is h =
-    by verdict.makes refl (sym (ap (λ f. f t) (left_rows who (consumers_made v.links.live who verdict.makes v.consumers))) ∙ is)
+    by verdict.makes refl is
   where
     old : {A : Type 0} → v.consumers.rows t ≡ Some n → A
     old e = absurd (none_some (sym none ∙ e))
 
     joined_by : (who : Who) (j : Joining) → verdict.makes ≡ makes.Consumer j →
-        (joins_as who (member_on v.links.live j.link (setup_of j)) v.consumers).rows t ≡ Some n →
+        row_made (Some (member_on v.links.live j.link (setup_of j))) who t (v.consumers.rows t) ≡ Some n →
         In (due_to_plan n.seen.number t) (map Told (joins v (Answers who verdict)))
     joined_by (Call u) j made e = elim (cases_Bool (t == u)) [
       | inl same ↦
           subst (λ x. In (due_to_plan n.seen.number t) (map Told (joins v (Answers (Call x) verdict)))) (eqb-true t u same)
-          (call_due v t verdict j n made (subst (λ x. (joins_as (Call x) (member_on v.links.live j.link (setup_of j)) v.consumers).rows t ≡ Some n)
+          (call_due v t verdict j n made (subst (λ x. row_made (Some (member_on v.links.live j.link (setup_of j))) (Call x) t (v.consumers.rows t) ≡ Some n)
           (sym (eqb-true t u same)) e) h)
       | inr other ↦ old (rw other at e)
     ]
     joined_by (Consumer k u) j made e = old e
     joined_by (Producer k) j made e = old e
 
-    raw_by : (who : Who) (l : ℕ) (made : Subscribed) → (joins_as who (member_on v.links.live l (reader.of_raw made)) v.consumers).rows t ≡ Some n →
+    raw_by : (who : Who) (l : ℕ) (made : Subscribed) → row_made (Some (member_on v.links.live l (reader.of_raw made))) who t (v.consumers.rows t) ≡ Some n →
         In (due_to_plan n.seen.number t) (map Told (joins v (Answers who verdict)))
     raw_by (Call u) l made e = elim (cases_Bool (t == u)) [
       | inl same ↦
@@ -436,7 +426,7 @@ made_due_so v t who verdict n none is h =
     raw_by (Consumer k u) l made e = old e
     raw_by (Producer k) l made e = old e
 
-    by : (x : Makes) → verdict.makes ≡ x → (consumers_made v.links.live who x v.consumers).rows t ≡ Some n →
+    by : (x : Makes) → verdict.makes ≡ x → row_made (member_made v.links.live x) who t (v.consumers.rows t) ≡ Some n →
         In (due_to_plan n.seen.number t) (map Told (joins v (Answers who verdict)))
     by (makes.Consumer j) made e = joined_by who j made e
     by (makes.RawConsumer l made) f e = raw_by who l made e
@@ -449,5 +439,4 @@ pub built_due : (v : View) (t : ℕ) (verdict : Verdict) (j : Joining) (n : Memb
     In (due_to_plan n.seen.number t) (map Told (joins v (Answers (Call t) verdict)))
 built_due v t verdict j n made is h =
     call_due v t verdict j n made
-    (ap (λ x. (consumers_made v.links.live (Call t) x v.consumers).rows t) (sym made)
-    ∙ sym (ap (λ f. f t) (left_rows (Call t) (consumers_made v.links.live (Call t) verdict.makes v.consumers))) ∙ is) h
+    (ap (λ x. row_made (member_made v.links.live x) (Call t) t (v.consumers.rows t)) (sym made) ∙ is) h

@@ -1,9 +1,9 @@
 -- A consumer ends at one of the acts that end it, and stays so; and its permits are in bounds.
 use Rattle.std.proofs.Common.{◌≡◌, ◌≤◌, ℕ, ◌+◌, ◌-◌, ◌∙◌, sym, ap, subst, List, [], ◌∷◌, ◌++◌, refl, arith, Bool, true, false, ◌&&◌, ◌||◌, cond, Option, Some, None, ◌==◌, append_assoc}
 use Rattle.std.specs.Option.{is_some, option_or}
-use Rattle.pulsar_laws.proofs.ActWords.{Act, Arrival, Ask, Comes, Does, Ends, FailConsumer, Polls, Reads, Revive, StopAll, TakeFlow, ticket_of, ToLink}
+use Rattle.pulsar_laws.proofs.ActWords.{Act, Arrival}
 use Rattle.pulsar_laws.proofs.RunWords.{Begins, EndsOnce, Entry, IsRun, Options, Then, view, View}
-use Rattle.pulsar_laws.proofs.LinkWords.{answer_at, arrival_at, closed_consumer, closing, Fault, is_asked, is_body, Reply, url_at}
+use Rattle.pulsar_laws.proofs.LinkWords.{Fault, is_body, Reply, url_at}
 use Rattle.url.specs.Parts.{Parts}
 use Rattle.pulsar_frame.specs.Items.{Item, is_message}
 use Rattle.pulsar_messages.specs.Claims.{is_spent}
@@ -17,12 +17,14 @@ use Rattle.pulsar_incoming.specs.declared.polled.Ending.TheVariants.{Closed, Lin
 use Rattle.pulsar_consumer.proofs.Histories.{counted_same, end_is_final, permits_in_bounds}
 use Rattle.pulsar_consumer.proofs.Counted.{permits_are_counted}
 use Rattle.pulsar_calls.specs.declared.act.Arrival.TheVariants as arrivals
-use Rattle.pulsar_consumer_table.specs.Consumers.{Member, is_closed_by, subscribed_on}
+use Rattle.pulsar_consumer_table.specs.Consumers.{Arrives, ClientStops, CloseAsked, Deed, FlowTaken, IsPolled, IsSought, LinkEnds, Member, NotRevived, Revived, is_closed_by, member_by, subscribed_on}
+use Rattle.pulsar_run.specs.Things.{along}
+use Rattle.pulsar_acts.specs.View.{member_acts}
 use Rattle.pulsar_laws.proofs.Cases.{none_some, some_is}
 use Rattle.pulsar_laws.proofs.calls.Ticketed.{consumer_ticket, older_ticket}
-use Rattle.pulsar_laws.specs.ConsumerLaws.{ConsumersEnd, ConsumersRemain, PermitsAreKept, arrival_does, arrival_ends, does_to, done_to, ends_at, ends_by, frame_does, frame_ends, has_ended, loss_does, made_with, subscription_does}
+use Rattle.pulsar_laws.specs.ConsumerLaws.{ConsumersEnd, ConsumersRemain, PermitsAreKept, arrival_does, arrival_ends, deed_does, deed_ends, deeds_do, deeds_end, does_to, done_to, ends_at, ends_by, frame_does, frame_ends, has_ended, loss_does, made_with, subscription_does}
 use Rattle.pulsar_laws.proofs.consumers.Finished.{half_is_left}
-use Rattle.pulsar_laws.proofs.consumers.Lone.{IsKept, IsMade, IsNone, RowFrom, applied, begun_rows, consumers_alone_lem, row_from}
+use Rattle.pulsar_laws.proofs.consumers.Lone.{IsKept, IsMade, IsNone, RowFrom, applied, applied_append, begun_rows, consumers_alone_lem, deeds_did, row_from}
 
 or_false : (b : Bool) → b ≡ (b || false)
 or_false true = refl
@@ -95,10 +97,6 @@ when_ends : (c : Bool) (xs : List Done) (s : Seen) → EndsSo xs s true → Ends
 when_ends true xs s p = p
 when_ends false xs s p = none_ends s
 
-plain_ends : (c : Bool) (xs : List Done) (s : Seen) → EndsSo xs s false → EndsSo (cond c xs []) s false
-plain_ends true xs s p = p
-plain_ends false xs s p = none_ends s
-
 frame_end : (l : ℕ) (r : Reply) (s : Seen) → EndsSo (frame_does l r s) s (frame_ends l r s)
 frame_end l r s =
     either_ends (is_body 9 r.content.body) (Hears l (frame_in r) ∷ []) _ s false _ (after_ends (Hears l (frame_in r)) s)
@@ -122,20 +120,32 @@ subscription_end : (l : ℕ) (url : Option Parts) (s : Seen) → EndsSo (subscri
 subscription_end l None s = none_ends s
 subscription_end l (Some url) s = after_ends (Lives l url) s
 
+deed_end : (d : Deed) (m : Member) → EndsSo (deed_does d m) m.seen (deed_ends d m)
+deed_end (Arrives l a) m = arrival_end l a m.seen
+deed_end (LinkEnds l cause) m = loss_end l cause m.seen
+deed_end (CloseAsked closed l b) m = when_ends (b && is_closed_by closed l m) (Over Closed ∷ []) m.seen (after_ends (Over Closed) m.seen)
+deed_end (IsPolled clock) m = after_ends (Polled clock) m.seen
+deed_end (IsSought who) m = none_ends m.seen
+deed_end FlowTaken m = after_ends Asks m.seen
+deed_end (Revived l url) m = subscription_end l url m.seen
+deed_end (NotRevived f) m = after_ends (Fails f) m.seen
+deed_end ClientStops m = after_ends (Over Stopped) m.seen
+
+or_next : (a b c : Bool) → ((a || b) || c) ≡ (a || (b || c))
+or_next true b c = refl
+or_next false b c = refl
+
+deeds_ended : (ds : List Deed) (m : Member) → EndsSo (deeds_do ds m) m.seen (deeds_end ds m)
+deeds_ended [] m = none_ends m.seen
+deeds_ended (d ∷ ds) m =
+    let n : Member = along member_by ds m in
+    ap is_ended (applied_append (deed_does d n) (deeds_do ds m) m.seen)
+    ∙ subst (λ s. EndsSo (deed_does d n) s (deed_ends d n)) (deeds_did ds m) (deed_end d n)
+    ∙ ap (λ b. b || deed_ends d n) (deeds_ended ds m)
+    ∙ or_next (is_ended m.seen) (deeds_end ds m) (deed_ends d n)
+
 pub does_end : (v : View) (t : ℕ) (m : Member) (a : Act) → EndsSo (does_to v t m a) m.seen (ends_by v t m a)
-does_end v t m (Comes (ToLink l Reads)) = arrival_end l (arrival_at (v.links.live l)) m.seen
-does_end v t m (Comes (ToLink l (Ends end))) = loss_end l (closing end v.now (v.links.live l)) m.seen
-does_end v t m (Comes (Polls u)) = plain_ends (t == u) (Polled v.now ∷ []) m.seen (after_ends (Polled v.now) m.seen)
-does_end v t m (Does who (Ask l request)) =
-    when_ends (is_asked (answer_at v.now request (v.links.live l)) && is_closed_by (closed_consumer request) l m) (Over Closed ∷ []) m.seen
-    (after_ends (Over Closed) m.seen)
-does_end v t m (Does who TakeFlow) = plain_ends (t == ticket_of who) (Asks ∷ []) m.seen (after_ends Asks m.seen)
-does_end v t m (Does who (Revive l)) =
-    let url : Option Parts = url_at (v.links.live l) in
-    plain_ends (t == ticket_of who) (subscription_does l url) m.seen (subscription_end l url m.seen)
-does_end v t m (Does who (FailConsumer f)) = when_ends (t == ticket_of who) (Fails f ∷ []) m.seen (after_ends (Fails f) m.seen)
-does_end v t m (Does who StopAll) = after_ends (Over Stopped) m.seen
-does_end v t m a = none_ends m.seen
+does_end v t m a = deeds_ended (member_acts v t a) m
 
 -- ALONG A LOG
 

@@ -1,6 +1,6 @@
 -- The plan of a consumer asks for the flows that it took.
 use Rattle.std.proofs.Common.{◌≡◌, inl, inr, ◌∙◌, sym, ap, subst, ℕ, ◌==◌, List, [], ◌∷◌, ◌++◌, map, refl, Bool, true, false, Option, Some, None}
-use Rattle.pulsar_laws.proofs.ActWords.{Act, Action, Arrival, Ask, below, Consumer, Does, Outcome, Procedure, Rest, Starts, TakeFlow, Told, Who, Word}
+use Rattle.pulsar_laws.proofs.ActWords.{Act, Action, Arrival, Ask, below, Consumer, Does, Outcome, Procedure, Rest, Starts, TakeFlow, Told, Who, Word, OfConsumer}
 use Rattle.pulsar_laws.proofs.PlanWords.{begins, news_in, Plan, Serving, Stays, Ways}
 use Rattle.pulsar_laws.proofs.RunWords.{agenda, Agenda, arranged, at_once, Cause, causes, Entry, first, follows_some, further, InThisStep, IsRun, joins, notice, Options, put_all, rest, Then, told_some, view, View}
 use Rattle.pulsar_laws.proofs.LinkWords.{Fault, is_body, Reply, Words}
@@ -13,7 +13,8 @@ use Rattle.pulsar_calls.specs.declared.act.Word.TheVariants as word
 use Rattle.pulsar_plans.specs.declared.service.Service.TheVariants as service
 use Rattle.pulsar_plans.specs.Plan.{resubscribing}
 use Rattle.pulsar_consumer_table.specs.Consumers.{Member, word_if, word_of, word_of_frame, word_of_loss}
-use Rattle.pulsar_acts.specs.Reading.{flow_said, tells_word}
+use Rattle.pulsar_consumer_table.specs.Asks.{flow_said}
+use Rattle.pulsar_acts.specs.Reading.{tells_word}
 use Rattle.pulsar_laws.proofs.Cases.{cond_so}
 use Rattle.pulsar_laws.proofs.plans.Standing.{run_older, stands_so, starts_so}
 use Rattle.pulsar_plans.proofs.Arcs.{Arc, due_takes, ended_closes, flow_asks, flowed_takes, lives_rests, lost_recalls, no_flow_rests, over_closes, recalled_fails, recalled_resumes_asks, recalled_resumes_gets, recalled_resumes_waits, recalled_revives, resumed_fails, resumed_revives, resumes_on_asks, resumes_on_gets, resumes_on_waits, serving_rests, told_arc}
@@ -35,7 +36,7 @@ ServesSo n _ = ⊥
 -- for no flow but that which it is told; and it takes one only where it waits for it then
 abbrev AsksSo : ℕ → Outcome → Plan → Action → Type 0
 AsksSo n u q (Ask l (words.SendFlow m p)) = (m ≡ n) × (u ≡ outcome.Word (word.Flow l p))
-AsksSo n u q TakeFlow = (w : Ways) × (q ≡ Serving w n service.Taking)
+AsksSo n u q (OfConsumer TakeFlow) = (w : Ways) × (q ≡ Serving w n service.Taking)
 AsksSo n u q _ = Unit {0}
 
 abbrev GoesSo : ℕ → Outcome → Plan → Action → Type 0
@@ -148,7 +149,7 @@ no_flow l p w h e = subst NoFlowIn e h
 -- where it is told of a flow it took it
 takes_so : (o : Options) (n t l p : ℕ) (e : Entry) (older : List Entry) → Cause o (Consumer n t) (outcome.Word (word.Flow l p)) e older →
     TakesSo o n t l p e older
-takes_so o n t l p e older (inl (TakeFlow, is, said)) = (is, said)
+takes_so o n t l p e older (inl ((OfConsumer TakeFlow), is, said)) = (is, said)
 takes_so o n t l p e older (inl (action, is, said)) = absurd said
 takes_so o n t l p e older (inr (inl (k, u, m, is, serves, h))) = absurd (no_flow l p _ (heard_plain k _ m) h)
 takes_so o n t l p e older (inr (inr (inl (k, u, end, m, is, serves, h)))) = absurd (no_flow l p _ (loss_plain k _ m) h)
@@ -177,14 +178,14 @@ flows_are_taken_lem o log n t l m p run = by (led_by o n t log (Ask l (words.Sen
         )
 
 -- it waits for the flow that it takes
-waits_then : (o : Options) (older : List Entry) (n t : ℕ) → IsRun o (Then (Does (Consumer n t) TakeFlow) ∷ older) →
+waits_then : (o : Options) (older : List Entry) (n t : ℕ) → IsRun o (Then (Does (Consumer n t) (OfConsumer TakeFlow)) ∷ older) →
     (w : Ways) × ((view o older).stand (Consumer n t) ≡ Some (Serving w n service.Taking))
 waits_then o older n t run =
-    let y = led_by o n t older TakeFlow run (λ e. absurd cc) in
+    let y = led_by o n t older (OfConsumer TakeFlow) run (λ e. absurd cc) in
     let k = y.0 in (
       y.1.1.0,
       ap (λ l. (view o l).stand (Consumer n t)) k.is_there
-          ∙ stand_told o k.older (Consumer n t) k.outcome k.before k.plan TakeFlow k.stood k.leads
+          ∙ stand_told o k.older (Consumer n t) k.outcome k.before k.plan (OfConsumer TakeFlow) k.stood k.leads
           ∙ ap Some y.1.1.1,
     )
 
@@ -204,7 +205,7 @@ pub flows_are_asked_lem : FlowsAreAsked
 flows_are_asked_lem o older n t l p run e =
     let who : Who = Consumer n t in
     let w = waits_then o older n t run in (
-      first_at o older (Does who TakeFlow) (Told (notice who (outcome.Word (word.Flow l p)))) (ap (λ r. tells_word who (flow_said r)) e),
-      first_at o (Then (Does who TakeFlow) ∷ older) (Told (notice who (outcome.Word (word.Flow l p)))) (Does who (Ask l (words.SendFlow n p)))
+      first_at o older (Does who (OfConsumer TakeFlow)) (Told (notice who (outcome.Word (word.Flow l p)))) (ap (λ r. tells_word who (flow_said r)) e),
+      first_at o (Then (Does who (OfConsumer TakeFlow)) ∷ older) (Told (notice who (outcome.Word (word.Flow l p)))) (Does who (Ask l (words.SendFlow n p)))
           (ap (λ row. follows_some who (told_some row (outcome.Word (word.Flow l p)))) w.1),
     )

@@ -26,6 +26,7 @@ use Rattle.pulsar_laws.proofs.calls.Sources.{step_runs}
 use Rattle.pulsar_laws.proofs.calls.Stopping.{over_run}
 use Rattle.pulsar_laws.proofs.calls.Tellers.{causes_told_lem}
 use Rattle.pulsar_laws.proofs.consumers.Members.{Gone}
+use Rattle.pulsar_laws.proofs.producers.BatchTold.{cut_same, told_same}
 use Rattle.pulsar_laws.specs.BatchLaws.{TellsBatch}
 use Rattle.pulsar_laws.specs.CauseLaws.{Cause, IsToldByBatch}
 use Rattle.pulsar_laws.specs.Laws.{ended_as, stopped}
@@ -88,7 +89,8 @@ stop_arises o l (Then b) older (inl i) =
 stop_arises o l (Then b) older (inr (inl i)) = (let f : true ≡ false = in_each NotHalt (Comes (ToLink l (Ends Stops))) _ i (told_not _) in absurd cc)
 stop_arises o l (Then b) older (inr (inr (inl i))) = (let f : true ≡ false = one_not (Comes (ToLink l (Ends Stops))) _ i in absurd cc)
 stop_arises o l (Then b) older (inr (inr (inr i))) =
-    (let f : true ≡ false = in_each NotHalt (Comes (ToLink l (Ends Stops))) (map Comes (further (view o older) b)) i (further_not (view o older) b) in absurd cc)
+    (let f : true ≡ false = in_each NotHalt (Comes (ToLink l (Ends Stops))) (map Comes (further (view o older) b)) i (further_not
+    (view o older) b) in absurd cc)
 
 -- what is stopped stays so
 stopped_more : (a : Act) (log : List Entry) → stopped log ≡ true → stopped (Then a ∷ log) ≡ true
@@ -155,8 +157,8 @@ module _ (o : Options) (n t : ℕ) where
   not_batch u e older (m, ns, is, listed, tells) = by tells
     where
       by : TellsBatch o m ns older → ⊥
-      by (items, x, before, under, there, inl (f, fate, same)) = not_reported u _ ns same listed
-      by (items, x, before, under, there, inr (over, same)) = not_reported u _ ns same listed
+      by (items, x, before, under, there, inl (f, fate, same)) = not_reported u _ ns (same ∙ told_same 0 _ f items) listed
+      by (items, x, before, under, there, inr (over, same)) = not_reported u _ ns (same ∙ cut_same items) listed
 
   stopped_so : (u : Outcome) (e : Entry) (older : List Entry) → overrides u ≡ true → IsRun o (e ∷ older) → Cause o who u e older → stopped (e ∷ older) ≡ true
   stopped_so outcome.Cut e older h run k = halts o e older k.0 k.1 run k.4 (cut_end k.1 _ k.7.3)

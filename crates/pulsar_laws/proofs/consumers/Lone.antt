@@ -1,27 +1,28 @@
 -- A consumer is what was done to it since it was made.
 use Rattle.std.proofs.Common.{◌≡◌, ◌≤◌, ℕ, ◌+◌, ◌∙◌, sym, ap, subst, List, [], ◌∷◌, ◌++◌, refl, arith, Bool, true, false, ◌&&◌, cond, Option, Some, None, inl, inr, ◌==◌}
 use Rattle.std.proofs.lemmas.Bool.{and_parts, cases_Bool}
-use Rattle.std.specs.Option.{option_map}
-use Rattle.pulsar_laws.proofs.ActWords.{Act, Answers, Arrival, Ask, Call, Calls, Comes, Consumer, Does, Ends, FailConsumer, FindConsumer, Heard, is_same, lacks_tickets, Makes, Polls, Producer, Reads, Revive, shares, StopAll, TakeFlow, TakeNumber, ticket_of, ToLink, Verdict, Who}
-use Rattle.pulsar_laws.proofs.RunWords.{Begins, begun, begun_live, consumers_after, consumers_made, counted, EndsOnce, Entry, is_live, IsRun, may_call, member_on, Options, setup_of, Then, view, View}
-use Rattle.pulsar_laws.proofs.LinkWords.{answer_at, arrival_at, closed_consumer, closing, Fault, is_asked, is_body, Reply, Seat, url_at}
+use Rattle.pulsar_laws.proofs.ActWords.{Act, Answers, Arrival, Call, Consumer, Does, Heard, is_same, Makes, OfConsumer, Producer, Revive, Verdict, Who}
+use Rattle.pulsar_laws.proofs.RunWords.{Begins, begun, begun_live, consumers_after, counted, Each, EndsOnce, Entry, is_live, IsRun, member_on, Options, setup_of, Then, view, View}
+use Rattle.pulsar_laws.proofs.LinkWords.{Fault, is_body, Reply, url_at}
 use Rattle.url.specs.Parts.{Parts}
 use Rattle.pulsar_messages.specs.Claims.{is_spent}
 use Rattle.pulsar_consumer.specs.Frames.{frame_in}
-use Rattle.pulsar_consumer.specs.Topic.{Act as Done, Hears, Loses, Fails, Ends as Over, Polls as Polled, Asks, Seen, Setup, after, fresh, lives_on, of_raw, seen}
+use Rattle.pulsar_consumer.specs.Topic.{Act as Done, Hears, Loses, Ends as Over, Seen, Setup, after, fresh, lives_on, of_raw, seen}
 use Rattle.pulsar_incoming.specs.declared.polled.Ending.TheVariants.{Closed, TopicEnded}
 use Rattle.pulsar_calls.specs.declared.act.Arrival.TheVariants as arrivals
 use Rattle.pulsar_calls.specs.declared.act.Makes.TheVariants as makes
 use Rattle.pulsar_consumer_table.specs.Consumers as consumer
-use Rattle.pulsar_consumer_table.specs.Consumers.{Consumers, Member, hears, hears_frame, loses_by, member_after, seeks, subscribed_on, waits_so}
-use Rattle.pulsar_consumer_table.specs.declared.row.Sought.{Sought}
-use Rattle.pulsar_consumer_table.specs.declared.row.Sought.TheVariants.{Found, Gone, Later}
-use Rattle.pulsar_acts.specs.View.{hears_ask, joins_as}
+use Rattle.pulsar_consumer_table.specs.Consumers.{Arrives, ClientStops, CloseAsked, Deed, FlowTaken, IsPolled, IsSought, LinkEnds, Member, NotRevived, Revived, hears, hears_frame, loses_by, member_after, member_by, subscribed_on, waits_so}
+use Rattle.pulsar_consumer_table.specs.declared.row.LinkAnswer.{LinkAnswer}
+use Rattle.pulsar_consumer_table.specs.declared.row.LinkAnswer.TheVariants.{Found, Gone, Later}
+use Rattle.pulsar_acts.specs.View.{member_acts, member_born, member_made, member_of}
+use Rattle.pulsar_run.specs.Things.{along, row_after as row_of, row_by}
+use Rattle.pulsar_run.proofs.Things.{row_stays}
 use Rattle.pulsar_laws.proofs.Cases.{none_some}
 use Rattle.pulsar_laws.proofs.calls.Ticketed.{consumer_ticket}
-use Rattle.pulsar_laws.specs.ConsumerLaws.{ConsumersAlone, arrival_does, does_to, done_since, done_to, frame_does, loss_does, made_as, made_with, making_does, subscription_does}
+use Rattle.pulsar_laws.specs.ConsumerLaws.{ConsumersAlone, arrival_does, deed_does, deeds_do, does_to, done_since, done_to, frame_does, loss_does, made_as, made_with, making_does, subscription_does}
 use Rattle.pulsar_laws.specs.Laws.{end_of}
-use Rattle.pulsar_laws.proofs.consumers.Members.{called_rows, left_rows, numbered_rows}
+use Rattle.pulsar_laws.proofs.consumers.Members.{CameFrom, came_from, row_made}
 
 -- WHAT ACTS MAKE OF WHAT IS SEEN
 
@@ -65,120 +66,98 @@ subscription_done : (l : ℕ) (url : Option Parts) (m : Member) → IsDone (subs
 subscription_done l None m = refl
 subscription_done l (Some url) m = refl
 
-waits_done : (x : Sought) (w : Who) (m : Member) → (waits_so x w m).seen ≡ m.seen
+waits_done : (x : LinkAnswer) (w : Who) (m : Member) → (waits_so x w m).seen ≡ m.seen
 waits_done (Found l) w m = refl
 waits_done Gone w m = refl
 waits_done Later w m = refl
 
--- A CONSUMER IS MADE
+pub applied_append : (xs ys : List Done) (s : Seen) → applied (xs ++ ys) s ≡ applied xs (applied ys s)
+applied_append [] ys s = refl
+applied_append (x ∷ xs) ys s = ap (after x) (applied_append xs ys s)
+
+deed_did : (d : Deed) (m : Member) → IsDone (member_by d m) (deed_does d m) m.seen
+deed_did (Arrives l a) m = arrival_done l a m
+deed_did (LinkEnds l cause) m = loss_done l cause m
+deed_did (CloseAsked closed l b) m =
+    either_done (b && consumer.is_closed_by closed l m) (member_after (Over Closed) m) m (Over Closed ∷ []) [] m.seen refl refl
+deed_did (IsPolled clock) m = refl
+deed_did (IsSought who) m = waits_done (consumer.sought (Some m)) who m
+deed_did FlowTaken m = refl
+deed_did (Revived l url) m = subscription_done l url m
+deed_did (NotRevived f) m = refl
+deed_did ClientStops m = refl
+
+pub deeds_did : (ds : List Deed) (m : Member) → IsDone (along member_by ds m) (deeds_do ds m) m.seen
+deeds_did [] m = refl
+deeds_did (d ∷ ds) m =
+    let n : Member = along member_by ds m in
+    deed_did d n ∙ ap (applied (deed_does d n)) (deeds_did ds m) ∙ sym (applied_append (deed_does d n) (deeds_do ds m) m.seen)
+
+-- so what is so of what each deed of an act does is so of all that the act does
+pub did_so : (Q : List Done → Seen → Type 0) → ((s : Seen) → Q [] s) →
+    ((xs ys : List Done) (s : Seen) → Q ys s → Q xs (applied ys s) → Q (xs ++ ys) s) → (v : View) (t : ℕ) (a : Act) →
+    ((d : Deed) → CameFrom v t a d → (m : Member) → Q (deed_does d m) m.seen) → (m : Member) → Q (does_to v t m a) m.seen
+did_so Q none more v t a one m = all (member_acts v t a) (came_from v t a)
+  where
+    all : (ds : List Deed) → Each (CameFrom v t a) ds → Q (deeds_do ds m) m.seen
+    all [] c = none m.seen
+    all (d ∷ ds) c =
+        let n : Member = along member_by ds m in
+        more (deed_does d n) (deeds_do ds m) m.seen (all ds c.1) (subst (Q (deed_does d n)) (deeds_did ds m) (one d c.0 n))
+
+-- an act by which one is subscribed again
+abbrev pub is_revival : Act → Bool
+is_revival (Does who (OfConsumer (Revive l))) = true
+is_revival _ = false
+
+-- WHAT BECOMES OF A ROW
+
+abbrev IsOther : (ticket : ℕ) → Act → Type 0
+IsOther t a = (who : Who) (verdict : Verdict) → a ≡ Answers who verdict → is_same (Call t) who ≡ false
 
 apart_call : (t u : ℕ) → is_same (Call t) (Call u) ≡ false → (t == u) ≡ false
 apart_call t u h = elim (cases_Bool (t == u)) [ inl e ↦ (let f : true ≡ false = sym (ap (λ b. b && b) e) ∙ h in absurd cc) | inr e ↦ e ]
 
-joins_other : (who : Who) (m : Member) (cs : Consumers) (t : ℕ) → is_same (Call t) who ≡ false → (joins_as who m cs).rows t ≡ cs.rows t
-joins_other (Call u) m cs t h = let e : (t == u) ≡ false = apart_call t u h in rw e refl
-joins_other (Consumer n u) m cs t h = refl
-joins_other (Producer n) m cs t h = refl
+-- an act by which no call of this ticket ends makes none
+born_none : (v : View) (t : ℕ) (a : Act) → IsOther t a → member_born v t a ≡ None
+born_none v t (Answers who verdict) other = by (member_made v.links.live verdict.makes) who (other who verdict refl)
+  where
+    by : (m : Option Member) (who : Who) → is_same (Call t) who ≡ false → member_of m who t ≡ None
+    by None who h = refl
+    by (Some m) (Call u) h = ap (λ b. cond b (Some m) None) (apart_call t u h)
+    by (Some m) (Consumer n u) h = refl
+    by (Some m) (Producer n) h = refl
+born_none v t a other = refl
 
-made_other : (live : ℕ → Option Seat) (who : Who) (m : Makes) (cs : Consumers) (t : ℕ) → is_same (Call t) who ≡ false →
-    (consumers_made live who m cs).rows t ≡ cs.rows t
-made_other live who makes.Nothing cs t h = refl
-made_other live who makes.Client cs t h = refl
-made_other live who (makes.Producer b) cs t h = refl
-made_other live who (makes.Consumer j) cs t h = joins_other who (member_on live j.link (setup_of j)) cs t h
-made_other live who (makes.RawConsumer l made) cs t h = joins_other who (member_on live l (of_raw made)) cs t h
-
--- WHAT BECOMES OF A ROW
+by_acts : (v : View) (t : ℕ) (a : Act) (row : Option Member) → IsOther t a → v.consumers.rows t ≡ row →
+    (consumers_after v a).rows t ≡ row_by member_by (member_acts v t a) row
+by_acts v t a row other h =
+    ap (λ b. row_of member_by b false (member_acts v t a) (v.consumers.rows t)) (born_none v t a other) ∙ ap (row_by member_by (member_acts v t a)) h
 
 pub record RowAfter (v : View) (a : Act) (t : ℕ) (m : Member) : Type 0 where
   pub row : Member
   pub is_it : (consumers_after v a).rows t ≡ Some row
   pub seen : row.seen ≡ applied (does_to v t m a) m.seen
 
-module _ (v : View) (t : ℕ) (m : Member) (h : v.consumers.rows t ≡ Some m) where
-  mapped : (a : Act) (f : Member → Member) → (consumers_after v a).rows t ≡ option_map f (v.consumers.rows t) → IsDone (f m) (does_to v t m a) m.seen →
-      RowAfter v a t m
-  mapped a f e d = record { row = f m; is_it = e ∙ ap (option_map f) h; seen = d }
-
-  same : (a : Act) → (consumers_after v a).rows t ≡ v.consumers.rows t → does_to v t m a ≡ [] → RowAfter v a t m
-  same a e d = record { row = m; is_it = e ∙ h; seen = ap (λ xs. applied xs m.seen) (sym d) }
-
-  -- one of them is changed
-  changed_row : (u : ℕ) (f : Member → Member) (xs : List Done) → IsDone (f m) xs m.seen →
-      (r : Member) × (cond (t == u) (option_map f (v.consumers.rows t)) (v.consumers.rows t) ≡ Some r) × IsDone r (cond (t == u) xs []) m.seen
-  changed_row u f xs d = by (t == u)
-    where
-      by : (b : Bool) → (r : Member) × (cond b (option_map f (v.consumers.rows t)) (v.consumers.rows t) ≡ Some r) × IsDone r (cond b xs []) m.seen
-      by true = (f m, ap (option_map f) h, d)
-      by false = (m, h, refl)
-
-  pub row_after : (a : Act) → ((who : Who) (verdict : Verdict) → a ≡ Answers who verdict → is_same (Call t) who ≡ false) → RowAfter v a t m
-  row_after (Comes (Calls asked advice)) other =
-      same (Comes (Calls asked advice))
-      (ap (λ f. f t) (called_rows (lacks_tickets v.calls.drawn (shares asked)) (may_call v.calls) asked v.consumers)) refl
-  row_after (Comes (ToLink l Reads)) other =
-      mapped (Comes (ToLink l Reads)) (hears l (arrival_at (v.links.live l))) refl (arrival_done l (arrival_at (v.links.live l)) m)
-  row_after (Comes (ToLink l (Ends end))) other =
-      let c : Option Fault = closing end v.now (v.links.live l) in mapped (Comes (ToLink l (Ends end))) (loses_by l c) refl (loss_done l c m)
-  row_after (Comes (Polls u)) other =
-      let k = changed_row u (member_after (Polled v.now)) (Polled v.now ∷ []) refl in record { row = k.0; is_it = k.1; seen = k.2 }
-  row_after (Does w (Ask l request)) other =
-      let asked : Bool = is_asked (answer_at v.now request (v.links.live l)) in
-      mapped (Does w (Ask l request)) (hears_ask l v.now request (v.links.live l)) refl
-      (either_done (asked && consumer.is_closed_by (closed_consumer request) l m) (member_after (Over Closed) m) m (Over Closed ∷ []) [] m.seen refl refl)
-  row_after (Does w (TakeNumber wanted)) other =
-      same (Does w (TakeNumber wanted)) (ap (λ f. f t) (numbered_rows (ticket_of w) wanted v.consumers)) refl
-  row_after (Does w (FindConsumer u)) other =
-      let k = changed_row u (seeks w) [] (waits_done (consumer.sought (Some m)) w m) in
-      record { row = k.0; is_it = k.1; seen = k.2 ∙ ap (λ xs. applied xs m.seen) (same_either (t == u)) }
-    where
-      same_either : (b : Bool) → ◌≡◌ {A = List Done} (cond b [] []) []
-      same_either true = refl
-      same_either false = refl
-  row_after (Does w TakeFlow) other =
-      let k = changed_row (ticket_of w) (member_after Asks) (Asks ∷ []) refl in record { row = k.0; is_it = k.1; seen = k.2 }
-  row_after (Does w (Revive l)) other =
-      let url : Option Parts = url_at (v.links.live l) in
-      let k = changed_row (ticket_of w) (consumer.revived l url) (subscription_does l url) (subscription_done l url m) in
-      record { row = k.0; is_it = k.1; seen = k.2 }
-  row_after (Does w (FailConsumer f)) other =
-      let k = changed_row (ticket_of w) (consumer.failed f) (Fails f ∷ []) refl in record { row = k.0; is_it = k.1; seen = k.2 }
-  row_after (Does w StopAll) other = mapped (Does w StopAll) consumer.stopped refl refl
-  row_after (Answers who verdict) other =
-      same (Answers who verdict)
-      (ap (λ f. f t) (left_rows who (consumers_made v.links.live who verdict.makes v.consumers))
-      ∙ made_other v.links.live who verdict.makes v.consumers t (other who verdict refl)) refl
-  row_after a other = same a refl refl
+pub row_after : (v : View) (t : ℕ) (m : Member) → v.consumers.rows t ≡ Some m → (a : Act) → IsOther t a → RowAfter v a t m
+row_after v t m h a other =
+    record {
+      row = along member_by (member_acts v t a) m;
+      is_it = by_acts v t a (Some m) other h ∙ row_stays member_by (member_acts v t a) m;
+      seen = deeds_did (member_acts v t a) m;
+    }
 
 -- NO CONSUMER OF A CALL THAT HAS NOT ENDED
 
 pub begun_rows : (e : Heard) (v : View) (t : ℕ) → (begun e v).consumers.rows t ≡ v.consumers.rows t
 begun_rows e v t = elim (is_live v e) as (λ b. (cond b (begun_live e v) v).consumers.rows t ≡ v.consumers.rows t) [ true ↦ refl | false ↦ refl ]
 
-changed_none : (b : Bool) (f : Member → Member) (row : Option Member) → row ≡ None → cond b (option_map f row) row ≡ None
-changed_none true f row h = ap (option_map f) h
-changed_none false f row h = h
+none_stays : (es : List Deed) → row_by member_by es None ≡ None
+none_stays [] = refl
+none_stays (e ∷ es) = refl
 
--- an act by which no call of this ticket ends makes none
-pub none_after : (v : View) (t : ℕ) (a : Act) → ((who : Who) (verdict : Verdict) → a ≡ Answers who verdict → is_same (Call t) who ≡ false) →
-    v.consumers.rows t ≡ None → (consumers_after v a).rows t ≡ None
-none_after v t (Comes (Calls asked advice)) other h =
-    ap (λ f. f t) (called_rows (lacks_tickets v.calls.drawn (shares asked)) (may_call v.calls) asked v.consumers) ∙ h
-none_after v t (Comes (ToLink l Reads)) other h = ap (option_map (hears l (arrival_at (v.links.live l)))) h
-none_after v t (Comes (ToLink l (Ends end))) other h = ap (option_map (loses_by l (closing end v.now (v.links.live l)))) h
-none_after v t (Comes (Polls u)) other h = changed_none (t == u) (member_after (Polled v.now)) (v.consumers.rows t) h
-none_after v t (Does w (Ask l request)) other h = ap (option_map (hears_ask l v.now request (v.links.live l))) h
-none_after v t (Does w (TakeNumber wanted)) other h = ap (λ f. f t) (numbered_rows (ticket_of w) wanted v.consumers) ∙ h
-none_after v t (Does w (FindConsumer u)) other h = changed_none (t == u) (seeks w) (v.consumers.rows t) h
-none_after v t (Does w TakeFlow) other h = changed_none (t == ticket_of w) (member_after Asks) (v.consumers.rows t) h
-none_after v t (Does w (Revive l)) other h = changed_none (t == ticket_of w) (consumer.revived l (url_at (v.links.live l))) (v.consumers.rows t) h
-none_after v t (Does w (FailConsumer f)) other h = changed_none (t == ticket_of w) (consumer.failed f) (v.consumers.rows t) h
-none_after v t (Does w StopAll) other h = ap (option_map consumer.stopped) h
-none_after v t (Answers who verdict) other h =
-    ap (λ f. f t) (left_rows who (consumers_made v.links.live who verdict.makes v.consumers))
-    ∙ made_other v.links.live who verdict.makes v.consumers t (other who verdict refl)
-    ∙ h
-none_after v t a other h = h
+pub none_after : (v : View) (t : ℕ) (a : Act) → IsOther t a → v.consumers.rows t ≡ None → (consumers_after v a).rows t ≡ None
+none_after v t a other h = by_acts v t a None other h ∙ none_stays (member_acts v t a)
 
 none_left : (n m : ℕ) → n + m ≡ 0 → n ≡ 0
 none_left n m h = omega (arith, h)
@@ -219,10 +198,10 @@ pub data RowFrom (o : Options) (log : List Entry) (a : Act) (t : ℕ) : Type 0 w
   IsKept : (m : Member) → (view o log).consumers.rows t ≡ Some m → RowAfter (view o log) a t m → made_with t (Then a ∷ log) ≡ made_with t log →
       done_to o t (Then a ∷ log) ≡ does_to (view o log) t m a ++ done_to o t log → RowFrom o log a t
 
-pub joins_here : (who : Who) (m : Member) (cs : Consumers) (t : ℕ) → is_same (Call t) who ≡ true → (joins_as who m cs).rows t ≡ Some m
-joins_here (Call u) m cs t h = let e : (t == u) ≡ true = (and_parts (t == u) (t == u) h).0 in rw e refl
-joins_here (Consumer n u) m cs t h = absurd cc
-joins_here (Producer n) m cs t h = absurd cc
+pub joins_here : (who : Who) (m : Member) (row : Option Member) (t : ℕ) → is_same (Call t) who ≡ true → row_made (Some m) who t row ≡ Some m
+joins_here (Call u) m row t h = let e : (t == u) ≡ true = (and_parts (t == u) (t == u) h).0 in rw e refl
+joins_here (Consumer n u) m row t h = absurd cc
+joins_here (Producer n) m row t h = absurd cc
 
 module _ (o : Options) (log : List Entry) (t : ℕ) where
   abbrev v : View
@@ -234,10 +213,8 @@ module _ (o : Options) (log : List Entry) (t : ℕ) where
   made_row who verdict m f none e = made_by m f
     where
       rows_are : (m : Makes) → verdict.makes ≡ m →
-          (view o (Then (Answers who verdict) ∷ log)).consumers.rows t ≡ (consumers_made v.links.live who m v.consumers).rows t
-      rows_are m f =
-          ap (λ g. g t) (left_rows who (consumers_made v.links.live who verdict.makes v.consumers))
-          ∙ ap (λ x. (consumers_made v.links.live who x v.consumers).rows t) f
+          (view o (Then (Answers who verdict) ∷ log)).consumers.rows t ≡ row_made (member_made v.links.live m) who t (v.consumers.rows t)
+      rows_are m f = ap (λ x. row_made (member_made v.links.live x) who t (v.consumers.rows t)) f
 
       did : (m : Makes) → verdict.makes ≡ m → done_to o t (Then (Answers who verdict) ∷ log) ≡ making_does v.links.live m
       did m f =
@@ -251,25 +228,21 @@ module _ (o : Options) (log : List Entry) (t : ℕ) where
       made_by : (m : Makes) → verdict.makes ≡ m → RowFrom o log (Answers who verdict) t
       made_by (makes.Consumer j) f =
           IsMade (setup_of j) j.link none
-          (rows_are (makes.Consumer j) f ∙ joins_here who (member_on v.links.live j.link (setup_of j)) v.consumers t e)
+          (rows_are (makes.Consumer j) f ∙ joins_here who (member_on v.links.live j.link (setup_of j)) (v.consumers.rows t) t e)
           (how (makes.Consumer j) f) (did (makes.Consumer j) f)
       made_by (makes.RawConsumer l made) f =
           IsMade (of_raw made) l none
-          (rows_are (makes.RawConsumer l made) f ∙ joins_here who (member_on v.links.live l (of_raw made)) v.consumers t e)
+          (rows_are (makes.RawConsumer l made) f ∙ joins_here who (member_on v.links.live l (of_raw made)) (v.consumers.rows t) t e)
           (how (makes.RawConsumer l made) f) (did (makes.RawConsumer l made) f)
       made_by makes.Nothing f = IsNone none (rows_are makes.Nothing f ∙ none)
       made_by makes.Client f = IsNone none (rows_are makes.Client f ∙ none)
       made_by (makes.Producer b) f = IsNone none (rows_are (makes.Producer b) f ∙ none)
 
-  -- an act that is no verdict of its call
-  abbrev IsOther : Act → Type 0
-  IsOther a = (who : Who) (verdict : Verdict) → a ≡ Answers who verdict → is_same (Call t) who ≡ false
-
-  with_other : (a : Act) → IsOther a → made_with t (Then a ∷ log) ≡ made_with t log
+  with_other : (a : Act) → IsOther t a → made_with t (Then a ∷ log) ≡ made_with t log
   with_other (Answers who verdict) other = ap (λ b. cond b (made_as verdict.makes) (made_with t log)) (other who verdict refl)
   with_other a other = refl
 
-  other_row : (a : Act) → IsOther a → (row : Option Member) → v.consumers.rows t ≡ row → RowFrom o log a t
+  other_row : (a : Act) → IsOther t a → (row : Option Member) → v.consumers.rows t ≡ row → RowFrom o log a t
   other_row a other None e = IsNone e (none_after v t a other e)
   other_row a other (Some m) e =
       IsKept m e (row_after v t m e a other) (with_other a other) (ap (λ r. done_since v t a r (done_to o t log)) e ∙ some_since a)

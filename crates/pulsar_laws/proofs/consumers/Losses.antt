@@ -2,17 +2,17 @@
 use Rattle.std.proofs.Common.{◌≡◌, ◌⊎◌, inl, inr, ◌∙◌, sym, ap, subst, ℕ, ◌==◌, ◌&&◌, ◌||◌, List, [], ◌∷◌, refl, Bool, true, false, cond, eq-eqb, Option, Some, None}
 use Rattle.std.specs.Prelude.{not}
 use Rattle.std.specs.Option.{option_map}
-use Rattle.pulsar_laws.proofs.ActWords.{Act, Action, Arrival, Ask, Comes, Consumer, Does, FailConsumer, Notice, Reads, Rest, Revive, ticket_of, Told, ToLink, Who, Word}
+use Rattle.pulsar_laws.proofs.ActWords.{Act, Action, Arrival, Ask, Comes, Consumer, Does, FailConsumer, Notice, Reads, Rest, Revive, ticket_of, Told, ToLink, Who, Word, OfConsumer}
 use Rattle.pulsar_laws.proofs.RunWords.{agenda, Agenda, Arises, Begins, Cause, EndsOnce, Entry, IsRun, notice, Options, rules, Then, view}
-use Rattle.pulsar_laws.proofs.LinkWords.{answer_at, arrival_at, closed_consumer, closing, Fault, is_asked, is_body, Reply}
+use Rattle.pulsar_laws.proofs.LinkWords.{answer_at, arrival_at, closed_consumer, closing, Fault, is_asked, is_body, Reply, url_at}
 use Rattle.pulsar_consumer.specs.Frames.{frame_in}
-use Rattle.pulsar_consumer.specs.Topic.{Hears, Live, Loses, Seen, is_due, link_of, lives_on, loses, resubscribes}
+use Rattle.pulsar_consumer.specs.Topic.{Hears, Live, Loses, Seen, is_due, is_ended, link_of, lives_on, loses, resubscribes}
 use Rattle.pulsar_incoming.specs.declared.polled.Ending.TheVariants.{TopicEnded}
 use Rattle.pulsar_calls.specs.declared.act.Arrival.TheVariants as arrivals
 use Rattle.pulsar_calls.specs.declared.act.Outcome.TheVariants as outcome
 use Rattle.pulsar_calls.specs.declared.act.Word.TheVariants as word
 use Rattle.pulsar_consumer_table.specs.Consumers as consumer
-use Rattle.pulsar_consumer_table.specs.Consumers.{Member, ends_on, hears, hears_frame, is_closed_by, loses_by, member_after, word_if, word_of, word_of_frame, word_of_loss}
+use Rattle.pulsar_consumer_table.specs.Consumers.{Member, NotRevived, Revived, ends_on, hears, hears_frame, is_closed_by, loses_by, member_after, word_if, word_of, word_of_frame, word_of_loss}
 use Rattle.pulsar_laws.proofs.Cases.{none_some, some_is}
 use Rattle.pulsar_laws.proofs.calls.Caused.{is_caused}
 use Rattle.pulsar_laws.proofs.calls.Done.{IsLeftIn}
@@ -23,7 +23,7 @@ use Rattle.pulsar_laws.proofs.consumers.Lone.{IsKept, IsMade, IsNone, RowFrom, r
 use Rattle.pulsar_laws.proofs.consumers.Members.{lost_gone}
 use Rattle.pulsar_laws.proofs.consumers.Riding.{IsFresh, link_from}
 use Rattle.pulsar_laws.proofs.consumers.Rows.{actor_row, EndedRow, ended_next, ends_here, Numbered, stays_ended}
-use Rattle.pulsar_laws.specs.ConsumerLaws.{arrival_ends, frame_ends}
+use Rattle.pulsar_laws.specs.ConsumerLaws.{arrival_ends, deeds_end, frame_ends}
 use Rattle.pulsar_laws.specs.Laws.{ClosesSo, HearsSo}
 
 -- WHO IT IS
@@ -153,7 +153,7 @@ module _ (once : EndsOnce) (o : Options) (n t : ℕ) where
       subst (λ e. LostRow (e ∷ log)) (sym is) (loses_by l c m, ap (option_map (loses_by l c)) f, loss_lost l c m h)
 
   -- a reply is told, so no loss is left
-  not_revived : (log : List Entry) (w : Who) (l : ℕ) → IsRun o (Then (Does w (Revive l)) ∷ log) → IsLeftIn (Told lost) o log → ⊥
+  not_revived : (log : List Entry) (w : Who) (l : ℕ) → IsRun o (Then (Does w (OfConsumer (Revive l))) ∷ log) → IsLeftIn (Told lost) o log → ⊥
   not_revived log w l run left = by (came_from (Told lost) o k.older (Told reply) (subst (IsLeftIn (Told lost) o) k.is_there left))
     where
       k : IsRevived o log w l
@@ -236,13 +236,15 @@ module _ (once : EndsOnce) (o : Options) (n t : ℕ) where
       (not m.seen.is_raw) x h))
 
   over_here : (log : List Entry) (a : Act) → IsRun o (Then a ∷ log) → Cause o who (outcome.Word word.Over) (Then a) log → EndedRow once o t (Then a ∷ log)
-  over_here log a run (inl (Revive l, is, said)) =
-      ended_seen log a run (Revive l) is (λ e. absurd cc)
-      (λ m there r. ended_next once o log (Does who (Revive l)) t m r there
-      (ap (λ b. b || false) (sym (ap consumer.is_ended_at there) ∙ said)))
-  over_here log a run (inl (FailConsumer f, is, said)) =
-      ended_seen log a run (FailConsumer f) is (λ e. absurd cc)
-      (λ m there r. ends_here once o log (Does who (FailConsumer f)) t m r there (eq-eqb t t refl))
+  over_here log a run (inl (OfConsumer (Revive l), is, said)) =
+      ended_seen log a run (OfConsumer (Revive l)) is (λ e. absurd cc)
+      (λ m there r. ended_next once o log (Does who (OfConsumer (Revive l))) t m r there
+      (ap (λ b. is_ended m.seen || deeds_end (cond b (Revived l (url_at ((view o log).links.live l)) ∷ []) []) m) (eq-eqb t t refl)
+      ∙ ap (λ b. b || false) (sym (ap consumer.is_ended_at there) ∙ said)))
+  over_here log a run (inl (OfConsumer (FailConsumer f), is, said)) =
+      ended_seen log a run (OfConsumer (FailConsumer f)) is (λ e. absurd cc)
+      (λ m there r. ends_here once o log (Does who (OfConsumer (FailConsumer f))) t m r there
+      (ap (λ b. deeds_end (cond b (NotRevived f ∷ []) []) m) (eq-eqb t t refl)))
   over_here log a run (inl (action, is, said)) = absurd said
   over_here log a run (inr (inl k)) = heard_ended log a word.Over refl run k
   over_here log a run (inr (inr (inl (l, u, end, m, is, serves, h)))) = absurd (loss_over l _ m word.Over refl h)

@@ -1,11 +1,11 @@
 -- What acts leave of the consumers: which keep the rows as they are, and which keep one that no subscription of it is live.
 use Rattle.std.proofs.Common.{◌≡◌, ◌∙◌, sym, ap, subst, ℕ, List, [], ◌∷◌, refl, Bool, true, false, cond, ◌==◌, Option, Some, None, inl, inr, ◌+◌}
+use Rattle.std.proofs.lemmas.Bool.{cases_Bool, eqb-true}
 use Rattle.std.specs.List.{flat_map}
 use Rattle.std.specs.Option.{option_map, option_to_list, is_some}
-use Rattle.pulsar_laws.proofs.ActWords.{Arrival, Asked, Call, Consumer, Notice, Producer, Who}
-use Rattle.pulsar_laws.proofs.RunWords.{Each, each_append, each_flat, In}
-use Rattle.pulsar_laws.proofs.LinkWords.{Fault, is_body, Reply}
-use Rattle.pulsar_exchange.specs.Request.{named_consumer}
+use Rattle.pulsar_laws.proofs.ActWords.{Act, Answers, Arrival, Ask, Call, Comes, Consumer, ConsumerAsk, Does, End, Ends, FailConsumer, FindConsumer, Notice, OfConsumer, Polls, Producer, Reads, RecallConsumer, Revive, StopAll, TakeFlow, ticket_of, ToLink, Verdict, Who}
+use Rattle.pulsar_laws.proofs.RunWords.{begun_same, consumers_after, Each, each_append, each_flat, each_when, In, rules, View}
+use Rattle.pulsar_laws.proofs.LinkWords.{answer_at, arrival_at, closed_consumer, closing, Fault, is_asked, is_body, Reply, url_at, Words}
 use Rattle.pulsar_consumer.specs.Topic as reader
 use Rattle.pulsar_consumer.specs.Topic.{Hears, Loses, Live, Seen, first_of, gives, is_due, is_on, lives_on, first_due, counts_first, ends as reader_ends, loses as reader_loses, Ends as Over}
 use Rattle.pulsar_frame.specs.Items.{is_message, Item}
@@ -14,51 +14,109 @@ use Rattle.pulsar_incoming.specs.declared.polled.Ending.{Ending}
 use Rattle.pulsar_incoming.specs.declared.polled.Ending.TheVariants.{LinkLost, TopicEnded}
 use Rattle.pulsar_consumer.proofs.Histories.{counted_same}
 use Rattle.pulsar_consumer.proofs.Permits.{gives_dead}
-use Rattle.pulsar_calls.specs.Content as content
 use Rattle.pulsar_calls.specs.declared.act.Arrival.TheVariants as arrivals
 use Rattle.pulsar_calls.specs.declared.act.Word.TheVariants as word
 use Rattle.pulsar_consumer_table.specs.Consumers as consumer
-use Rattle.pulsar_consumer_table.specs.Consumers.{Consumers, Member, at_row, called_on, drew, ends_on, hears, hears_frame, holds, loses_by, member_after, names_in, next_free, numbered, numbering, opened_on, over_rows}
-use Rattle.pulsar_consumer_table.specs.declared.numbers.Numbering.{Numbering}
-use Rattle.pulsar_consumer_table.specs.declared.numbers.Numbering.TheVariants.{Has, InUse, Spent}
+use Rattle.pulsar_consumer_table.specs.Consumers.{Arrives, ClientStops, CloseAsked, Consumers, Deed, FlowTaken, IsPolled, IsSought, LinkEnds, Member, NotRevived, Revived, at_row, ends_on, hears, hears_frame, loses_by, member_after, member_by, over_rows}
 use Rattle.pulsar_consumer_table.specs.Notices.{due_at, due_to, lost_at, word_to}
-use Rattle.pulsar_acts.specs.View.{consumers_left}
+use Rattle.pulsar_consumer_table.specs.Asks.{ticket_asked}
+use Rattle.pulsar_acts.specs.Things.{members}
+use Rattle.pulsar_acts.specs.View.{consumer_asked, member_acts, member_born, member_made, member_of}
+use Rattle.pulsar_run.specs.Things.{Keeps, along, row_after, row_by}
 use Rattle.url.specs.Parts.{Parts}
 use Rattle.pulsar_wire.specs.Sink.{capped}
 use Rattle.pulsar_laws.proofs.Lists.{in_append}
 use Rattle.pulsar_laws.proofs.Cases.{cond_so}
 
--- WHAT KEEPS ALL ROWS
+-- what a verdict makes of a row
+abbrev pub row_made : Option Member → Who → (ticket : ℕ) → Option Member → Option Member
+row_made made who t row = row_after member_by (member_of made who t) false [] row
 
-names_rows : (number : Option ℕ) (cs : Consumers) → (names_in number cs).rows ≡ cs.rows
-names_rows None cs = refl
-names_rows (Some number) cs = refl
+-- WHAT BECOMES OF ONE: it is what is seen of the acts, as `Things` of pulsar_run says
 
-opened_rows : (asked : Asked) (cs : Consumers) → (opened_on asked cs).rows ≡ cs.rows
-opened_rows (content.Raw l words) cs = names_rows (named_consumer words) cs
-opened_rows _ cs = refl
+pub members_keep : Keeps rules members
+members_keep = record {
+  none = λ o t. refl;
+  begins = λ e v t. begun_same (λ w. w.consumers.rows t) e v refl;
+  then_so = λ a v t. refl;
+}
 
-pub called_rows : (lacks is_open : Bool) (asked : Asked) (cs : Consumers) → (cond lacks cs (called_on is_open asked cs)).rows ≡ cs.rows
-called_rows true is_open asked cs = refl
-called_rows false true asked cs = opened_rows asked cs
-called_rows false false asked cs = refl
+-- it joins with the verdict of its call
+pub record Joins (v : View) (a : Act) (t : ℕ) (m : Member) : Type 0 where
+  pub verdict : Verdict
+  pub is_act : a ≡ Answers (Call t) verdict
+  pub makes : member_made v.links.live verdict.makes ≡ Some m
 
-drew_rows : (free : ℕ) (wanted : Option ℕ) (cs : Consumers) → (drew free wanted cs).rows ≡ cs.rows
-drew_rows free None cs = refl
-drew_rows free (Some n) cs = refl
+pub born_joins : (v : View) (a : Act) (t : ℕ) (m : Member) → member_born v t a ≡ Some m → Joins v a t m
+born_joins v (Answers who verdict) t m h = by (member_made v.links.live verdict.makes) refl who h
+  where
+    by : (r : Option Member) → member_made v.links.live verdict.makes ≡ r → (who : Who) → member_of r who t ≡ Some m → Joins v (Answers who verdict) t m
+    by None e who k = absurd cc
+    by (Some n) e (Call u) k = elim (cases_Bool (t == u)) [
+      | inl q ↦
+          (let is : Some n ≡ Some m = rw q at k in
+          record { verdict = verdict; is_act = ap (λ x. Answers (Call x) verdict) (sym (eqb-true t u q)); makes = e ∙ is })
+      | inr q ↦ (let is : None ≡ Some m = rw q at k in absurd cc)
+    ]
+    by (Some n) e (Consumer j u) k = absurd cc
+    by (Some n) e (Producer j) k = absurd cc
+born_joins v a t m h = absurd cc
 
-holds_rows : (t : ℕ) (x : Numbering) (cs : Consumers) → (holds t x cs).rows ≡ cs.rows
-holds_rows t (Has n) cs = refl
-holds_rows t InUse cs = refl
-holds_rows t Spent cs = refl
+-- WHAT WAS DONE TO ONE, AND BY WHICH ACT
 
-pub numbered_rows : (t : ℕ) (wanted : Option ℕ) (cs : Consumers) → (numbered t wanted cs).rows ≡ cs.rows
-numbered_rows t wanted cs = drew_rows (next_free cs) wanted (holds t (numbering cs wanted) cs) ∙ holds_rows t (numbering cs wanted) cs
+abbrev pub CameFrom : View → (ticket : ℕ) → Act → Deed → Type 0
+CameFrom v t a (Arrives l x) = (a ≡ Comes (ToLink l Reads)) × (x ≡ arrival_at (v.links.live l))
+CameFrom v t a (LinkEnds l c) = (end : End) × (a ≡ Comes (ToLink l (Ends end))) × (c ≡ closing end v.now (v.links.live l))
+CameFrom v t a (CloseAsked closed l b) =
+    (who : Who) × (request : Words) × (a ≡ Does who (Ask l request)) × (closed ≡ closed_consumer request)
+    × (b ≡ is_asked (answer_at v.now request (v.links.live l)))
+CameFrom v t a (IsPolled clock) = (a ≡ Comes (Polls t)) × (clock ≡ v.now)
+CameFrom v t a (IsSought who) = a ≡ Does who (OfConsumer (FindConsumer t))
+CameFrom v t a FlowTaken = (who : Who) × (a ≡ Does who (OfConsumer TakeFlow)) × (t ≡ ticket_of who)
+CameFrom v t a (Revived l url) = (who : Who) × (a ≡ Does who (OfConsumer (Revive l))) × (t ≡ ticket_of who) × (url ≡ url_at (v.links.live l))
+CameFrom v t a (NotRevived f) = (who : Who) × (a ≡ Does who (OfConsumer (FailConsumer f))) × (t ≡ ticket_of who)
+CameFrom v t a ClientStops = (who : Who) × (a ≡ Does who StopAll)
 
-pub left_rows : (who : Who) (cs : Consumers) → (consumers_left who cs).rows ≡ cs.rows
-left_rows (Call t) cs = refl
-left_rows (Consumer n t) cs = refl
-left_rows (Producer n) cs = refl
+ask_came : (v : View) (who : Who) (t : ℕ) (ask : ConsumerAsk) → t ≡ ticket_asked who ask →
+    Each (CameFrom v t (Does who (OfConsumer ask))) (consumer_asked v who ask).acts
+ask_came v who t (FindConsumer u) e = (ap (λ x. Does who (OfConsumer (FindConsumer x))) (sym e), tt)
+ask_came v who t TakeFlow e = ((who, refl, e), tt)
+ask_came v who t RecallConsumer e = tt
+ask_came v who t (Revive l) e = ((who, refl, e, refl), tt)
+ask_came v who t (FailConsumer f) e = ((who, refl, e), tt)
+
+pub came_from : (v : View) (t : ℕ) (a : Act) → Each (CameFrom v t a) (member_acts v t a)
+came_from v t (Comes (ToLink l Reads)) = ((refl, refl), tt)
+came_from v t (Comes (ToLink l (Ends end))) = ((end, refl, refl), tt)
+came_from v t (Comes (Polls u)) =
+    each_when (CameFrom v t (Comes (Polls u))) (t == u) (IsPolled v.now ∷ []) []
+    (λ e. ((ap (λ x. Comes (Polls x)) (sym (eqb-true t u e)), refl), tt)) (λ e. tt)
+came_from v t (Does who (Ask l request)) = ((who, request, refl, refl, refl), tt)
+came_from v t (Does who (OfConsumer ask)) =
+    each_when (CameFrom v t (Does who (OfConsumer ask))) (t == ticket_asked who ask) (consumer_asked v who ask).acts []
+    (λ e. ask_came v who t ask (eqb-true t (ticket_asked who ask) e)) (λ e. tt)
+came_from v t (Does who StopAll) = ((who, refl), tt)
+came_from v t _ = tt
+
+-- so what is so of a row at its birth, and stays so by each act, is so after an act
+pub after_holds : (P : Option Member → Type 0) (v : View) (t : ℕ) (a : Act) → ((m : Member) → Joins v a t m → P (Some m)) →
+    ((d : Deed) → CameFrom v t a d → (m : Member) → P (Some m) → P (Some (member_by d m))) → P (v.consumers.rows t) →
+    P ((consumers_after v a).rows t)
+after_holds P v t a born more h = by (member_born v t a) (born_joins v a t)
+  where
+    along_holds : (es : List Deed) → Each (CameFrom v t a) es → (m : Member) → P (Some m) → P (Some (along member_by es m))
+    along_holds [] c m k = k
+    along_holds (d ∷ es) c m k = more d c.0 (along member_by es m) (along_holds es c.1 m k)
+
+    row_holds : (es : List Deed) → Each (CameFrom v t a) es → (row : Option Member) → P row → P (row_by member_by es row)
+    row_holds [] c row k = k
+    row_holds (d ∷ es) c None k = k
+    row_holds (d ∷ es) c (Some m) k = along_holds (d ∷ es) c m k
+
+    by : (b : Option Member) → ((m : Member) → b ≡ Some m → Joins v a t m) →
+        P (row_after member_by b false (member_acts v t a) (v.consumers.rows t))
+    by (Some m) j = born m (j m refl)
+    by None j = row_holds (member_acts v t a) (came_from v t a) (v.consumers.rows t) h
 
 -- WHAT A ROW GIVES
 

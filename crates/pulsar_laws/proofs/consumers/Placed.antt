@@ -5,8 +5,8 @@ use Rattle.std.proofs.lemmas.Bool.Decides.{nat_tests}
 use Rattle.std.specs.Prelude.{pos, ◌/◌, ◌%◌}
 use Rattle.std.specs.Int.{w64, cast_unsigned}
 use Rattle.std.specs.Option.{option_map}
-use Rattle.pulsar_laws.proofs.ActWords.{Act, Action, Ask, Consumer, Does, is_same, Notice, Outcome, Procedure, Starts, TakeFlow, Told, Verdict, Who}
-use Rattle.pulsar_laws.proofs.PlanWords.{begins, Gives, Plan, Serving, Stays, told, Turn, Ways}
+use Rattle.pulsar_laws.proofs.ActWords.{Act, Action, Ask, Consumer, Does, is_same, Notice, Outcome, Procedure, Starts, TakeFlow, Told, Who, OfConsumer}
+use Rattle.pulsar_laws.proofs.PlanWords.{begins, Gives, Plan, PlanTransition, Serving, Stays, told, Ways}
 use Rattle.pulsar_laws.proofs.RunWords.{agenda, Begins, begun_same, EndsOnce, Entry, first, follows, follows_some, IsRun, notice, Options, stays, stays_some, Then, told_some, view}
 use Rattle.pulsar_laws.proofs.LinkWords.{answer_at, Seat, Words}
 use Rattle.pulsar_wire.specs.declared.error.ConnectionError.TheVariants as error
@@ -29,8 +29,9 @@ use Rattle.pulsar_plans.specs.declared.service.Service.{Service}
 use Rattle.pulsar_plans.specs.declared.service.Service.TheVariants as service
 use Rattle.pulsar_plans.specs.Plan.{told_service}
 use Rattle.pulsar_consumer_table.specs.Consumers as consumer
-use Rattle.pulsar_consumer_table.specs.Consumers.{Member, flow_at, member_after}
-use Rattle.pulsar_acts.specs.Reading.{flow_said}
+use Rattle.pulsar_run.specs.Things.{row_by}
+use Rattle.pulsar_consumer_table.specs.Consumers.{FlowTaken, Member, flow_at, member_after, member_by}
+use Rattle.pulsar_consumer_table.specs.Asks.{flow_said}
 use Rattle.pulsar_plans.proofs.Arcs.{Arc, StaysSo, due_takes, flowed_takes, is_flow, serving_rests, stays_by}
 use Rattle.pulsar_laws.proofs.Cases.{none_some, some_is}
 use Rattle.pulsar_laws.specs.ConsumerLaws.{FlowsArePlaced, done_to, place_on}
@@ -100,7 +101,7 @@ is_taking _ = false
 
 -- it takes one right then, or waits as before
 abbrev TakesSo : Plan → Outcome → Plan → Action → Type 0
-TakesSo p u q a = is_taking q ≡ true → (a ≡ TakeFlow) ⊎ ((is_taking p ≡ true) × (is_flow u ≡ false))
+TakesSo p u q a = is_taking q ≡ true → (a ≡ (OfConsumer TakeFlow)) ⊎ ((is_taking p ≡ true) × (is_flow u ≡ false))
 
 arc_takes : {p q : Plan} {u : Outcome} {a : Action} → Arc p u q a → is_server p ≡ true → TakesSo p u q a
 arc_takes due_takes s h = inl refl
@@ -132,17 +133,19 @@ server_asks b l p q k r is h = absurd cc
 
 abbrev pub Takes : Options → List Entry → (n t : ℕ) → Type 0
 Takes o log n t =
-    (first (agenda o log) ≡ Some (Does (Consumer n t) TakeFlow)) ⊎ ((older : List Entry) × (log ≡ Then (Does (Consumer n t) TakeFlow) ∷ older))
+    (first (agenda o log) ≡ Some (Does (Consumer n t) (OfConsumer TakeFlow))) ⊎ ((older : List Entry)
+    × (log ≡ Then (Does (Consumer n t) (OfConsumer TakeFlow)) ∷ older))
 
 abbrev pub TakesAt : Options → List Entry → (n t : ℕ) → Type 0
 TakesAt o log n t = (p : Plan) → (view o log).stand (Consumer n t) ≡ Some p → is_taking p ≡ true → Takes o log n t
 
 -- behind that it is told what flow is due
 pub told_flow : (o : Options) (older : List Entry) (n t : ℕ) →
-    first (agenda o (Then (Does (Consumer n t) TakeFlow) ∷ older))
+    first (agenda o (Then (Does (Consumer n t) (OfConsumer TakeFlow)) ∷ older))
     ≡ Some (Told (notice (Consumer n t) (outcome.Word (flow_said (flow_at ((view o older).consumers.rows t))))))
 told_flow o older n t =
-    first_at o older (Does (Consumer n t) TakeFlow) (Told (notice (Consumer n t) (outcome.Word (flow_said (flow_at ((view o older).consumers.rows t)))))) refl
+    first_at o older (Does (Consumer n t) (OfConsumer TakeFlow)) (Told (notice (Consumer n t) (outcome.Word (flow_said (flow_at
+    ((view o older).consumers.rows t)))))) refl
 
 abbrev said : Act → Outcome
 said (Told n) = n.outcome
@@ -157,9 +160,9 @@ flow_is None = refl
 flow_is (Some f) = refl
 
 next_flow : (o : Options) (log : List Entry) (n t : ℕ) (a : Act) → first (agenda o log) ≡ Some a → (older : List Entry) →
-    log ≡ Then (Does (Consumer n t) TakeFlow) ∷ older → is_flow (said a) ≡ true
+    log ≡ Then (Does (Consumer n t) (OfConsumer TakeFlow)) ∷ older → is_flow (said a) ≡ true
 next_flow o log n t a fits older is =
-    let f : first (agenda o (Then (Does (Consumer n t) TakeFlow) ∷ older)) ≡ Some a = subst (λ x. first (agenda o x) ≡ Some a) is fits in
+    let f : first (agenda o (Then (Does (Consumer n t) (OfConsumer TakeFlow)) ∷ older)) ≡ Some a = subst (λ x. first (agenda o x) ≡ Some a) is fits in
     ap is_flow (ap said (some_is (sym f ∙ told_flow o older n t))) ∙ flow_is (flow_at ((view o older).consumers.rows t))
 
 module _ (o : Options) (log : List Entry) (n t : ℕ) (was : TakesAt o log n t) where
@@ -167,20 +170,21 @@ module _ (o : Options) (log : List Entry) (n t : ℕ) (was : TakesAt o log n t) 
   who = Consumer n t
 
   -- another act does not come while it waits
-  not_now : (a : Act) (p : Plan) → first (agenda o log) ≡ Some a → is_flow (said a) ≡ false → (a ≡ Does who TakeFlow → ⊥) → (view o log).stand who ≡ Some p →
+  not_now : (a : Act) (p : Plan) → first (agenda o log) ≡ Some a → is_flow (said a) ≡ false → (a ≡ Does who (OfConsumer TakeFlow) → ⊥) →
+      (view o log).stand who ≡ Some p →
       is_taking p ≡ true → ⊥
   not_now a p fits plain other stood h = elim (was p stood h) [
     | inl f ↦ other (some_is (sym fits ∙ f))
     | inr k ↦ (let g : true ≡ false = sym (next_flow o log n t a fits k.0 k.1) ∙ plain in cc)
   ]
 
-  turn_takes : (p : Plan) (u : Outcome) (x : Turn Plan Verdict) (q : Plan) → first (agenda o log) ≡ Some (Told (notice who u)) →
+  turn_takes : (p : Plan) (u : Outcome) (x : PlanTransition) (q : Plan) → first (agenda o log) ≡ Some (Told (notice who u)) →
       (view o log).stand who ≡ Some p →
       told p u ≡ x → StaysSo (TakesSo p u) x → stays x ≡ Some q → is_taking q ≡ true → Takes o (Then (Told (notice who u)) ∷ log) n t
   turn_takes p u (Gives v) q fits stood leads so is h = absurd (none_some is)
   turn_takes p u (Stays y action) q fits stood leads so is h = elim (so (ap is_taking (some_is is) ∙ h)) [
     | inl e ↦
-        inl (first_at o log (Told (notice who u)) (Does who TakeFlow)
+        inl (first_at o log (Told (notice who u)) (Does who (OfConsumer TakeFlow))
         (ap (λ row. follows_some who (told_some row u)) stood ∙ ap (λ x. follows who x) leads ∙ ap (λ a. follows who (Stays y a)) e))
     | inr k ↦ absurd (not_now (Told (notice who u)) p fits k.1 (λ e. absurd cc) stood k.0)
   ]
@@ -220,9 +224,10 @@ told_run o log n t m run was = λ p stood h. elim (cases_Bool (is_same (Consumer
     other : (p : Plan) → is_same (Consumer n t) m.who ≡ false → (view o log).stand (Consumer n t) ≡ Some p → is_taking p ≡ true →
         Takes o (Then (Told m) ∷ log) n t
     other p e stood h = elim (was p stood h) [
-      | inl f ↦ (let g : Told m ≡ Does (Consumer n t) TakeFlow = some_is (sym run.1 ∙ f) in absurd cc)
+      | inl f ↦ (let g : Told m ≡ Does (Consumer n t) (OfConsumer TakeFlow) = some_is (sym run.1 ∙ f) in absurd cc)
       | inr k ↦
-          (let f : first (agenda o (Then (Does (Consumer n t) TakeFlow) ∷ k.0)) ≡ Some (Told m) = subst (λ x. first (agenda o x) ≡ Some (Told m)) k.1 run.1 in
+          (let f : first (agenda o (Then (Does (Consumer n t) (OfConsumer TakeFlow)) ∷ k.0)) ≡ Some (Told m) = subst (λ x. first (agenda o x)
+          ≡ Some (Told m)) k.1 run.1 in
           let g : m.who ≡ Consumer n t = some_is (ap heard (some_is (sym f ∙ told_flow o k.0 n t))) in
           let d : true ≡ false = sym (ap (is_same (Consumer n t)) g ∙ same_self (Consumer n t)) ∙ e in
           absurd cc)
@@ -300,14 +305,14 @@ asked_on None = refl
 asked_on (Some l) = refl
 
 pub asked_there : (o : Options) (older : List Entry) (n t : ℕ) (x : Notice) (m : Member) → (view o older).consumers.rows t ≡ Some m →
-    (view o (Then (Told x) ∷ Then (Does (Consumer n t) TakeFlow) ∷ older)).consumers.rows t ≡ Some (member_after Asks m)
+    (view o (Then (Told x) ∷ Then (Does (Consumer n t) (OfConsumer TakeFlow)) ∷ older)).consumers.rows t ≡ Some (member_after Asks m)
 asked_there o older n t x m h =
     let row : Option Member = (view o older).consumers.rows t in
-    ap (λ b. cond b (option_map (member_after Asks) row) row) (eq-eqb t t refl) ∙ ap (option_map (member_after Asks)) h
+    ap (λ b. row_by member_by (cond b (FlowTaken ∷ []) []) row) (eq-eqb t t refl) ∙ ap (option_map (member_after Asks)) h
 
 pub record IsPlaced (o : Options) (log : List Entry) (n t l m p : ℕ) : Type 0 where
   pub older : List Entry
-  pub is_behind : log ≡ Then (Told (notice (Consumer n t) (outcome.Word (word.Flow l p)))) ∷ Then (Does (Consumer n t) TakeFlow) ∷ older
+  pub is_behind : log ≡ Then (Told (notice (Consumer n t) (outcome.Word (word.Flow l p)))) ∷ Then (Does (Consumer n t) (OfConsumer TakeFlow)) ∷ older
   pub was_due : WasDue o older t l p
   pub seat : Seat
   pub live : (view o log).links.live l ≡ Some seat
@@ -318,7 +323,7 @@ pub record IsPlaced (o : Options) (log : List Entry) (n t l m p : ℕ) : Type 0 
 
 -- where the flow was due that it took
 placed_there : EndsOnce → (o : Options) (log : List Entry) (n t l m p : ℕ) (older : List Entry) →
-    log ≡ Then (Told (notice (Consumer n t) (outcome.Word (word.Flow l p)))) ∷ Then (Does (Consumer n t) TakeFlow) ∷ older → IsRun o older →
+    log ≡ Then (Told (notice (Consumer n t) (outcome.Word (word.Flow l p)))) ∷ Then (Does (Consumer n t) (OfConsumer TakeFlow)) ∷ older → IsRun o older →
     WasDue o older t l p → IsPlaced o log n t l m p
 placed_there once o log n t l m p older is run k =
     let on : link_of k.member.seen ≡ Some l = ap (option_map (λ (y : Live). y.link)) k.is_live ∙ ap Some k.on in
@@ -339,8 +344,10 @@ pub is_placed : EndsOnce → (o : Options) (log : List Entry) (n t l m p : ℕ) 
     IsPlaced o log n t l m p
 is_placed once o log n t l m p run = led (led_by o n t log (Ask l (words.SendFlow m p)) run (λ e. absurd cc)).0
   where
-    due_here : (older : List Entry) → log ≡ Then (Told (notice (Consumer n t) (outcome.Word (word.Flow l p)))) ∷ Then (Does (Consumer n t) TakeFlow) ∷ older →
-        IsRun o (Then (Told (notice (Consumer n t) (outcome.Word (word.Flow l p)))) ∷ Then (Does (Consumer n t) TakeFlow) ∷ older) → IsPlaced o log n t l m p
+    due_here : (older : List Entry) →
+        log ≡ Then (Told (notice (Consumer n t) (outcome.Word (word.Flow l p)))) ∷ Then (Does (Consumer n t) (OfConsumer TakeFlow)) ∷ older →
+        IsRun o (Then (Told (notice (Consumer n t) (outcome.Word (word.Flow l p)))) ∷ Then (Does (Consumer n t) (OfConsumer TakeFlow)) ∷ older) →
+        IsPlaced o log n t l m p
     due_here older is r =
         let e : outcome.Word (flow_said (flow_at ((view o older).consumers.rows t))) ≡ outcome.Word (word.Flow l p) =
         ap said (some_is (sym (told_flow o older n t) ∙ r.1)) in
@@ -359,9 +366,10 @@ is_placed once o log n t l m p run = led (led_by o n t log (Ask l (words.SendFlo
         let taking : is_taking k.before ≡ true =
         server_asks k.before l p k.plan l (words.SendFlow m p) server (sym (ap (told k.before) u) ∙ k.leads) in
         elim (takes_run o k.older n t r.0 k.before k.stood taking) [
-          | inl f ↦ (let g : Told (notice (Consumer n t) k.outcome) ≡ Does (Consumer n t) TakeFlow = some_is (sym r.1 ∙ f) in absurd cc)
+          | inl f ↦ (let g : Told (notice (Consumer n t) k.outcome) ≡ Does (Consumer n t) (OfConsumer TakeFlow) = some_is (sym r.1 ∙ f) in absurd cc)
           | inr older ↦
-              (let there : log ≡ Then (Told (notice (Consumer n t) (outcome.Word (word.Flow l p)))) ∷ Then (Does (Consumer n t) TakeFlow) ∷ older.0 =
+              (let there : log ≡ Then (Told (notice (Consumer n t) (outcome.Word (word.Flow l p)))) ∷ Then (Does (Consumer n t)
+              (OfConsumer TakeFlow)) ∷ older.0 =
               k.is_there
               ∙ ap (λ y. Then (Told (notice (Consumer n t) y)) ∷ k.older) u
               ∙ ap (λ y. Then (Told (notice (Consumer n t) (outcome.Word (word.Flow l p)))) ∷ y) older.1 in

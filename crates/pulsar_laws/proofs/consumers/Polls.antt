@@ -5,9 +5,9 @@ use Rattle.std.proofs.lemmas.Bool.Decides.{nat_tests}
 use Rattle.std.proofs.lemmas.Grind.{common_steps}
 use Rattle.std.specs.List.{filter, flat_map}
 use Rattle.std.specs.Option.{is_some, option_map, option_to_list}
-use Rattle.pulsar_laws.proofs.ActWords.{Act, Arrival, Ask, Comes, Does, Ends, FailConsumer, LinkAct, Polls, Reads, Revive, Shown, StopAll, TakeFlow, ticket_of, ToLink}
+use Rattle.pulsar_laws.proofs.ActWords.{Act, Arrival, Ask, Comes, Does, LinkAct, Polls, Shown, ToLink}
 use Rattle.pulsar_laws.proofs.RunWords.{arranged, Begins, Each, each_append, each_either, each_map, EndsOnce, Entry, IsRun, Options, rules, Then, turned, view, View}
-use Rattle.pulsar_laws.proofs.LinkWords.{answer_at, arrival_at, closed_consumer, closing, Fault, is_asked, is_body, Reply, Seat, url_at, Words}
+use Rattle.pulsar_laws.proofs.LinkWords.{Fault, is_body, Reply, Seat, url_at, Words}
 use Rattle.pulsar_run.specs.Order.{InOrder, NoneBelow}
 use Rattle.pulsar_run.specs.Run.{in_order, steps_done, with_effects}
 use Rattle.pulsar_run.proofs.Orders.{kinds_in_order_lem}
@@ -30,12 +30,14 @@ use Rattle.url.specs.Parts.{Parts}
 use Rattle.pulsar_consumer.specs.Frames.{frame_in}
 use Rattle.pulsar_consumer.specs.Topic.{Act as Done, Lives, Hears, Loses, Fails, Ends as Over, Polls as Polled, Asks, Seen, Setup, first_of as first_item, lives_on, polled_from, seen}
 use Rattle.pulsar_consumer.specs.Laws.{given, given_by as given_in, item_in, left}
+use Rattle.pulsar_incoming.specs.declared.polled.Ending.{Ending}
 use Rattle.pulsar_incoming.specs.declared.polled.Ending.TheVariants.{Closed, TopicEnded}
 use Rattle.pulsar_incoming.specs.declared.polled.Polled.{Polled as Answer}
 use Rattle.pulsar_consumer.proofs.Histories.{polls_give_arrivals, polls_give_the_next}
-use Rattle.pulsar_consumer_table.specs.Consumers.{Member, is_closed_by, polled, polled_so}
-use Rattle.pulsar_laws.specs.ConsumerLaws.{PollsAreAnswered, PollsFollow, arrival_does, does_to, done_to, frame_does, given_by, items_given, loss_does, made_with, subscription_does}
-use Rattle.pulsar_laws.proofs.consumers.Lone.{IsKept, IsMade, IsNone, RowFrom, StandsSo, begun_rows, consumers_alone_lem, row_from}
+use Rattle.pulsar_consumer_table.specs.Consumers.{Arrives, ClientStops, CloseAsked, Deed, FlowTaken, IsPolled, IsSought, LinkEnds, Member, NotRevived, Revived, is_closed_by, polled, polled_so}
+use Rattle.pulsar_laws.specs.ConsumerLaws.{PollsAreAnswered, PollsFollow, arrival_does, deed_does, deeds_do, does_to, done_to, frame_does, given_by, items_given, loss_does, made_with, shows_next, subscription_does}
+use Rattle.pulsar_laws.proofs.consumers.Lone.{IsKept, IsMade, IsNone, RowFrom, StandsSo, begun_rows, consumers_alone_lem, did_so, row_from}
+use Rattle.pulsar_laws.proofs.consumers.Members.{CameFrom}
 use Rattle.pulsar_consumer.specs.Topic as reader
 use Rattle.pulsar_incoming.specs.declared.polled.Polled.TheVariants as poll
 
@@ -234,17 +236,18 @@ is_poll (Comes (Polls t)) = true
 is_poll _ = false
 
 does_mute : (v : View) (t : ℕ) (m : Member) (a : Act) → is_poll a ≡ false → Each IsMute (does_to v t m a)
-does_mute v t m (Comes (Polls u)) h = absurd cc
-does_mute v t m (Comes (ToLink l Reads)) h = arrival_mute l (arrival_at (v.links.live l)) m.seen
-does_mute v t m (Comes (ToLink l (Ends end))) h = loss_mute l (closing end v.now (v.links.live l))
-does_mute v t m (Does who (Ask l request)) h =
-    each_either IsMute (is_asked (answer_at v.now request (v.links.live l)) && is_closed_by (closed_consumer request) l m) (Over Closed ∷ []) [] (tt, tt) tt
-does_mute v t m (Does who TakeFlow) h = each_either IsMute (t == ticket_of who) (Asks ∷ []) [] (tt, tt) tt
-does_mute v t m (Does who (Revive l)) h =
-    each_either IsMute (t == ticket_of who) (subscription_does l (url_at (v.links.live l))) [] (subscription_mute l (url_at (v.links.live l))) tt
-does_mute v t m (Does who (FailConsumer f)) h = each_either IsMute (t == ticket_of who) (Fails f ∷ []) [] (tt, tt) tt
-does_mute v t m (Does who StopAll) h = (tt, tt)
-does_mute v t m a h = tt
+does_mute v t m a h = did_so (λ xs s. Each IsMute xs) (λ s. tt) (λ xs ys s q p. each_append IsMute xs ys p q) v t a one m
+  where
+    one : (d : Deed) → CameFrom v t a d → (n : Member) → Each IsMute (deed_does d n)
+    one (Arrives l x) c n = arrival_mute l x n.seen
+    one (LinkEnds l cause) c n = loss_mute l cause
+    one (CloseAsked closed l b) c n = each_either IsMute (b && is_closed_by closed l n) (Over Closed ∷ []) [] (tt, tt) tt
+    one (IsPolled clock) c n = let f : true ≡ false = sym (ap is_poll c.0) ∙ h in absurd cc
+    one (IsSought who) c n = tt
+    one FlowTaken c n = (tt, tt)
+    one (Revived l url) c n = subscription_mute l url
+    one (NotRevived f) c n = (tt, tt)
+    one ClientStops c n = (tt, tt)
 
 -- an effect of a poll gives what the poll gives
 poll_item : (t : ℕ) (topic : List ℕ) (x : Answer) → given_by t (polled_so t topic x) ≡ item_in x
@@ -312,13 +315,13 @@ module _ (once : EndsOnce) (o : Options) (t : ℕ) (un : is_spent t ≡ false) w
             w.2
             ∙ ap (λ x. items_given t (steps o log) ++ x) gave
             ∙ ap (λ x. x ++ item_in (reader.polled (seen s (done_to o t log)))) before
-            ∙ ap (λ b. given s (cond b (Polled (view o log).now ∷ []) [] ++ done_to o t log)) (sym same))
+            ∙ ap (λ b. given s (deeds_do (cond b (IsPolled (view o log).now ∷ []) []) m ++ done_to o t log)) (sym same))
         | inr other ↦
             (w.2
             ∙ ap (λ x. items_given t (steps o log) ++ x) (other_item t u w.0.seen.topic (reader.polled w.0.seen) other)
             ∙ append-nil (items_given t (steps o log))
             ∙ before
-            ∙ ap (λ b. given s (cond b (Polled (view o log).now ∷ []) [] ++ done_to o t log)) (sym other))
+            ∙ ap (λ b. given s (deeds_do (cond b (IsPolled (view o log).now ∷ []) []) m ++ done_to o t log)) (sym other))
       ]
   kept_given a log m e run s is before true h = absurd cc
 
@@ -373,15 +376,26 @@ module _ (once : EndsOnce) (o : Options) (t : ℕ) (un : is_spent t ≡ false) w
       gives_on a log (row_from o log t once a un run) run (gives log run.0)
       (λ m e. consumers_alone_lem once o log t m run.0 e)
 
+-- and its effect is that of what is left, or of its end
+shows_left : (t : ℕ) (topic : List ℕ) (items : List Item) (why : Option Ending) →
+    polled_so t topic (polled_from (first_item items) why) ≡ shows_next t topic items why
+shows_left t topic (Given id size metadata payload ∷ items) why = refl
+shows_left t topic (Faulty fault ∷ items) why = refl
+shows_left t topic [] (Some why) = refl
+shows_left t topic [] None = refl
+
 pub polls_follow_lem : EndsOnce → PollsFollow
 polls_follow_lem once o log t m run e =
     let k = consumers_alone_lem once o log t m run e in
     let h : List Done = done_to o t log in
     let g : (s : Setup) → made_with t log ≡ Some s → items_given t (steps o log) ≡ given s h =
-    subst (Given' o log t) e (gives once o t (consumer_ticket o log t m run e) log run) in (
+    subst (Given' o log t) e (gives once o t (consumer_ticket o log t m run e) log run) in
+    let next : reader.polled m.seen ≡ polled_from (first_item (left k.0 h)) m.seen.ended =
+    ap reader.polled k.2 ∙ polls_give_the_next k.0 h ∙ ap (λ x. polled_from (first_item (left k.0 h)) x.ended) (sym k.2) in (
       k.0,
       left k.0 h,
       k.1,
       ap (λ x. x ++ left k.0 h) (g k.0 k.1) ∙ polls_give_arrivals k.0 h,
-      ap reader.polled k.2 ∙ polls_give_the_next k.0 h ∙ ap (λ x. polled_from (first_item (left k.0 h)) x.ended) (sym k.2),
+      next,
+      ap (polled_so t m.seen.topic) next ∙ shows_left t m.seen.topic (left k.0 h) m.seen.ended,
     )

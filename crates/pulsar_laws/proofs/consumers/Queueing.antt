@@ -5,7 +5,7 @@ use Rattle.std.proofs.lemmas.Bool.Decides.{nat_tests}
 use Rattle.std.proofs.lemmas.List.Sums.{sum_by-cons}
 use Rattle.std.specs.List.{list_any}
 use Rattle.std.specs.Option.{is_some, option_map}
-use Rattle.pulsar_laws.proofs.ActWords.{Act, Ask, Consumer, Does, numbers_from, Revive, ticket_of, Who}
+use Rattle.pulsar_laws.proofs.ActWords.{Act, Ask, Consumer, Does, numbers_from, Revive, ticket_of, Who, OfConsumer}
 use Rattle.pulsar_laws.proofs.RunWords.{Begins, Each, each_map, EndsOnce, Entry, IsRun, Options, Then, view, View}
 use Rattle.pulsar_laws.proofs.LinkWords.{answer_at, is_numbered, place_of, Seat, seat_asked}
 use Rattle.pulsar_frame.specs.Frame.{front}
@@ -21,9 +21,10 @@ use Rattle.pulsar_laws.specs.ConsumerLaws.{Flow, FlowsAreQueued, flows_after, fl
 use Rattle.pulsar_laws.proofs.links.Claiming.{answer_adds, answer_grows, drains_grows, end_of_line, feeds_same, opens_grows, taken_grows}
 use Rattle.pulsar_laws.proofs.consumers.Lone.{begun_rows}
 use Rattle.pulsar_laws.proofs.consumers.Placed.{IsPlaced, is_placed}
-use Rattle.pulsar_laws.proofs.links.Ready.{IsAt, Keeps, in_line, more_at}
+use Rattle.pulsar_laws.proofs.links.Ready.{IsAt, Keeps, in_seat, more_at}
 use Rattle.pulsar_laws.proofs.consumers.Riding.{IsFresh, LinkFrom, link_from, none_from, rides_on}
 use Rattle.pulsar_laws.proofs.calls.Stopping.{is_started}
+use Rattle.pulsar_acts.proofs.Linking.{asked_is}
 
 -- THE END OF THE LINE moves on
 
@@ -167,7 +168,7 @@ module _ (once : EndsOnce) (o : Options) (log : List Entry) (t : ℕ) (was : Flo
     | inr d ↦
         ap (λ b. cond b (record { place = place_of (answer_at v.now (words.SendFlow m p) (v.links.live l)); permits = p } ∷ fs) fs) d ∙ was.none e
   ]
-  fresh_none (Does who (Revive l)) run e = by (t == ticket_of who && is_some (v.links.live l))
+  fresh_none (Does who (OfConsumer (Revive l))) run e = by (t == ticket_of who && is_some (v.links.live l))
     where
       by : (b : Bool) → cond b [] fs ≡ []
       by true = refl
@@ -210,18 +211,20 @@ module _ (once : EndsOnce) (o : Options) (log : List Entry) (t : ℕ) (was : Flo
           IsAt (AreBelow (record { place = place_of (answer_at v.now (words.SendFlow m' p) (v.links.live l)); permits = p } ∷ fs))
           ((view o (Then (Does (Consumer n u) (Ask l (words.SendFlow m' p))) ∷ log)).links.live l)
       new l m' p n u seat live answer h =
-          let r : IsInLine seat.seen = subst (IsAt IsInLine) live (in_line o log l) in
+          let r : IsInLine seat.seen = in_seat o log l seat live in
           let old : AreBelow fs seat.seen = subst (IsAt (AreBelow fs)) live h in
-          subst (λ row. IsAt (AreBelow (record { place = place_of (answer_at v.now (words.SendFlow m' p) row); permits = p } ∷ fs))
+          subst (IsAt (AreBelow (record { place = place_of (answer_at v.now (words.SendFlow m' p) (v.links.live l)); permits = p } ∷ fs)))
+          (sym (asked_is v (Consumer n u) l (words.SendFlow m' p) l))
+          (subst (λ row. IsAt (AreBelow (record { place = place_of (answer_at v.now (words.SendFlow m' p) row); permits = p } ∷ fs))
           (cond (l == l) (option_map (seat_asked (Consumer n u) v.now (words.SendFlow m' p)) row) row)) (sym live)
           (subst (λ b. IsAt (AreBelow (record { place = place_of (answer_at v.now (words.SendFlow m' p) (Some seat)); permits = p } ∷ fs))
           (cond b (Some (seat_asked (Consumer n u) v.now (words.SendFlow m' p) seat)) (Some seat))) (sym (eq-eqb l l refl))
-          (asked_below v.now m' p (Consumer n u) seat fs r answer old))
-  kept_below (Does who (Revive l)) run m k e on = by (t == ticket_of who && is_some (v.links.live l))
+          (asked_below v.now m' p (Consumer n u) seat fs r answer old)))
+  kept_below (Does who (OfConsumer (Revive l))) run m k e on = by (t == ticket_of who && is_some (v.links.live l))
     where
-      by : (b : Bool) → IsAt (AreBelow (cond b [] fs)) ((view o (Then (Does who (Revive l)) ∷ log)).links.live k)
-      by true = none_at ((view o (Then (Does who (Revive l)) ∷ log)).links.live k)
-      by false = same_below (Does who (Revive l)) run m k e on
+      by : (b : Bool) → IsAt (AreBelow (cond b [] fs)) ((view o (Then (Does who (OfConsumer (Revive l))) ∷ log)).links.live k)
+      by true = none_at ((view o (Then (Does who (OfConsumer (Revive l))) ∷ log)).links.live k)
+      by false = same_below (Does who (OfConsumer (Revive l))) run m k e on
   kept_below a run m k e on = same_below a run m k e on
 
   pub fresh_below : (a : Act) → IsRun o (Then a ∷ log) → IsFresh o log a t → flows_after v t a fs ≡ []

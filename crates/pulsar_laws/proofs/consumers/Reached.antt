@@ -1,8 +1,8 @@
 -- The link on which a consumer is subscribed was ready, since what was asked there was not refused.
 use Rattle.std.proofs.Common.{◌≡◌, ◌⊎◌, inl, inr, ◌∙◌, sym, ap, subst, ℕ, List, [], ◌∷◌, refl, Bool, true, false, Option, Some, None, Result, Ok, Err}
 use Rattle.std.specs.Prelude.{not}
-use Rattle.pulsar_laws.proofs.ActWords.{Act, Action, Answers, Ask, Does, is_same, Notice, Outcome, Revive, Told, Verdict, Who}
-use Rattle.pulsar_laws.proofs.PlanWords.{begins, fails, Gives, Plan, Stays, told, Turn}
+use Rattle.pulsar_laws.proofs.ActWords.{Act, Action, Answers, Ask, Does, is_same, Notice, Outcome, Revive, Told, Verdict, Who, OfConsumer}
+use Rattle.pulsar_laws.proofs.PlanWords.{begins, fails, Gives, Plan, PlanTransition, Stays, told}
 use Rattle.pulsar_laws.proofs.RunWords.{agenda, Answered, Begins, Entry, first, follows, follows_some, IsRun, notice, Options, tells, Then, told_some, view}
 use Rattle.pulsar_laws.proofs.LinkWords.{answer_at, ConnectionError, Exhausted, Fault, told_at, Words}
 use Rattle.pulsar_wire.specs.Failures.{fault}
@@ -168,17 +168,17 @@ told_ready o older w u p l run stood from =
     more_ready o (Then (Told (notice w u))) older l
     (from_ready o older w u p l run.1 from.1 ((reached_run o older run.0).reached w p l stood from.0))
 
-turn_acts : (p : Plan) (u : Outcome) (t : Turn Plan Verdict) (q : Plan) (l : ℕ) → TurnSo p u t → t ≡ Stays q (Revive l) → From p u l
+turn_acts : (p : Plan) (u : Outcome) (t : PlanTransition) (q : Plan) (l : ℕ) → TurnSo p u t → t ≡ Stays q (OfConsumer (Revive l)) → From p u l
 turn_acts p u t q l k e = (subst (TurnSo p u) e k).2.0
 
 -- again
-pub revives_ready : (o : Options) (log : List Entry) (w : Who) (l : ℕ) → IsRun o (Then (Does w (Revive l)) ∷ log) → WasReady (view o log) l
-revives_ready o log w l run = elim (does_from o log w (Revive l) run) [ inl k ↦ begun k | inr k ↦ led k ]
+pub revives_ready : (o : Options) (log : List Entry) (w : Who) (l : ℕ) → IsRun o (Then (Does w (OfConsumer (Revive l))) ∷ log) → WasReady (view o log) l
+revives_ready o log w l run = elim (does_from o log w (OfConsumer (Revive l)) run) [ inl k ↦ begun k | inr k ↦ led k ]
   where
-    begun : BeginsSo o log w (Revive l) → WasReady (view o log) l
+    begun : BeginsSo o log w (OfConsumer (Revive l)) → WasReady (view o log) l
     begun k = let f = (subst Plain k.leads (begins_plain k.procedure)).2 in absurd cc
 
-    led : IsLedSo o log w (Revive l) → WasReady (view o log) l
+    led : IsLedSo o log w (OfConsumer (Revive l)) → WasReady (view o log) l
     led k =
         let r : IsRun o (Then (Told (notice w k.outcome)) ∷ k.older) = subst (IsRun o) k.is_there run.0 in
         let so : TurnSo k.before k.outcome (told k.before k.outcome) = told_on k.before k.outcome ((reached_run o k.older r.0).waits w k.before k.stood) in
@@ -186,11 +186,11 @@ revives_ready o log w l run = elim (does_from o log w (Revive l) run) [ inl k �
         (told_ready o k.older w k.outcome k.before l r k.stood (turn_acts k.before k.outcome (told k.before k.outcome) k.plan l so k.leads))
 
 -- and for the first time
-pub makes_of : (p : Plan) (u : Outcome) (t : Turn Plan Verdict) (v : Verdict) (j : Joining) → TurnSo p u t → t ≡ Gives v → v.makes ≡ makes.Consumer j →
+pub makes_of : (p : Plan) (u : Outcome) (t : PlanTransition) (v : Verdict) (j : Joining) → TurnSo p u t → t ≡ Gives v → v.makes ≡ makes.Consumer j →
     From p u j.link
 makes_of p u t v j k e m = subst (MakesSo p u) m (subst (TurnSo p u) e k)
 
-pub plain_makes : (t : Turn Plan Verdict) (v : Verdict) (j : Joining) → Plain t → t ≡ Gives v → v.makes ≡ makes.Consumer j → ⊥
+pub plain_makes : (t : PlanTransition) (v : Verdict) (j : Joining) → Plain t → t ≡ Gives v → v.makes ≡ makes.Consumer j → ⊥
 plain_makes t v j k e m = let f : is_consumer v.makes ≡ false = subst Plain e k in let g : true ≡ false = sym (ap is_consumer m) ∙ f in cc
 
 pub makes_ready : (o : Options) (log : List Entry) (w : Who) (v : Verdict) (j : Joining) → IsRun o (Then (Answers w v) ∷ log) → v.makes ≡ makes.Consumer j →

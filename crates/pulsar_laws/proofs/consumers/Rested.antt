@@ -1,6 +1,6 @@
 -- How the plan of a consumer comes to rest: where it begins, where no flow is due any more, and where its subscription lives again.
 use Rattle.std.proofs.Common.{◌≡◌, ◌⊎◌, inl, inr, ◌∙◌, sym, ap, subst, ℕ, List, [], ◌∷◌, ◌++◌, refl, Bool, true, false, Option, Some, None}
-use Rattle.pulsar_laws.proofs.ActWords.{Act, Action, Answers, Ask, Call, Consumer, Does, Makes, Outcome, Procedure, Producer, Rest, Revive, Starts, Told, ticket_of, Verdict, Who}
+use Rattle.pulsar_laws.proofs.ActWords.{Act, Action, Answers, Ask, Call, Consumer, Does, Makes, Outcome, Procedure, Producer, Rest, Revive, Starts, Told, ticket_of, Verdict, Who, OfConsumer}
 use Rattle.pulsar_laws.proofs.PlanWords.{begins, fails, Plan, Serving, Stays, told, Ways}
 use Rattle.pulsar_laws.proofs.RunWords.{agenda, Agenda, at_once, Begins, Each, each_append, each_either, each_first, each_map, each_rest, Entry, first, follows, follows_some, is_served, IsRun, left_with, notice, Options, rest, rest_of, Then, told_some, view, View, ways_of}
 use Rattle.pulsar_laws.proofs.LinkWords.{Exhausted}
@@ -13,7 +13,8 @@ use Rattle.pulsar_client.proofs.Raising.{IsRaised, raises}
 use Rattle.pulsar_consumer_table.specs.Consumers.{is_ended_at}
 use Rattle.pulsar_outgoing.specs.Storage.{is_batching}
 use Rattle.pulsar_plans.specs.declared.service.Service.TheVariants as service
-use Rattle.pulsar_acts.specs.Reading.{revived_said, serves}
+use Rattle.pulsar_consumer_table.specs.Asks.{revived_said}
+use Rattle.pulsar_acts.specs.Reading.{serves}
 use Rattle.pulsar_acts.specs.Rules.{batches_from}
 use Rattle.pulsar_laws.proofs.Cases.{none_some, some_is}
 use Rattle.pulsar_laws.proofs.calls.Same.{same_self}
@@ -55,9 +56,9 @@ due_is_taken (Serving w n service.Resting) q a h e k =
 due_is_taken p q a h e k = absurd cc
 
 -- one that is subscribed again does just this, or was so before
-arc_revives : {p q : Plan} {u : Outcome} {a : Action} → Arc p u q a → (l : ℕ) → reviving q ≡ Some l → (a ≡ Revive l) ⊎ (p ≡ q)
-arc_revives recalled_revives l h = inl (ap Revive (some_is h))
-arc_revives resumed_revives l h = inl (ap Revive (some_is h))
+arc_revives : {p q : Plan} {u : Outcome} {a : Action} → Arc p u q a → (l : ℕ) → reviving q ≡ Some l → (a ≡ OfConsumer (Revive l)) ⊎ (p ≡ q)
+arc_revives recalled_revives l h = inl (ap (λ k. OfConsumer (Revive k)) (some_is h))
+arc_revives resumed_revives l h = inl (ap (λ k. OfConsumer (Revive k)) (some_is h))
 arc_revives (serving_rests i) l h = inr refl
 arc_revives _ l h = absurd cc
 
@@ -86,14 +87,14 @@ module _ (o : Options) (n t : ℕ) where
   who = Consumer n t
 
   abbrev pub Revived : List Entry → ℕ → Type 0
-  Revived log l = (first (agenda o log) ≡ Some (Does who (Revive l))) ⊎ ((older : List Entry) × (log ≡ Then (Does who (Revive l)) ∷ older))
+  Revived log l = (first (agenda o log) ≡ Some (Does who (OfConsumer (Revive l)))) ⊎ ((older : List Entry) × (log ≡ Then (Does who (OfConsumer (Revive l))) ∷ older))
 
   -- behind that it is told whether its consumer lives
   abbrev answer : List Entry → Act
   answer older = Told (notice who (outcome.Word (revived_said (is_ended_at ((view o older).consumers.rows t)))))
 
-  pub told_revived : (older : List Entry) (l : ℕ) → first (agenda o (Then (Does who (Revive l)) ∷ older)) ≡ Some (answer older)
-  told_revived older l = first_at o older (Does who (Revive l)) (answer older) refl
+  pub told_revived : (older : List Entry) (l : ℕ) → first (agenda o (Then (Does who (OfConsumer (Revive l))) ∷ older)) ≡ Some (answer older)
+  told_revived older l = first_at o older (Does who (OfConsumer (Revive l))) (answer older) refl
 
   abbrev RevivedAt : List Entry → Plan → Type 0
   RevivedAt log p = (l : ℕ) → reviving p ≡ Some l → Revived log l
@@ -124,13 +125,13 @@ module _ (o : Options) (n t : ℕ) where
       (view o log).stand who ≡ Some b → RevivedAt log b → told b u ≡ Stays q a → RevivedAt (Then (Told (notice who u)) ∷ log) q
   keeps log b u q a run s k e l h = elim (arc_revives (told_arc e) l h) [
     | inl r ↦
-        inl (first_at o log (Told (notice who u)) (Does who (Revive l))
+        inl (first_at o log (Told (notice who u)) (Does who (OfConsumer (Revive l)))
         (ap (λ row. follows_some who (told_some row u)) s ∙ ap (λ x. follows who x) e ∙ ap (λ x. follows who (Stays q x)) r))
     | inr same ↦ absurd (still (ap reviving same ∙ h) (k l (ap reviving same ∙ h)))
   ]
     where
       still : reviving b ≡ Some l → Revived log l → ⊥
-      still r (inl f) = let g : Told (notice who u) ≡ Does who (Revive l) = some_is (sym run.1 ∙ f) in cc
+      still r (inl f) = let g : Told (notice who u) ≡ Does who (OfConsumer (Revive l)) = some_is (sym run.1 ∙ f) in cc
       still r (inr (older, is)) =
           let f : Told (notice who u) ≡ answer older = some_is (sym run.1 ∙ ap (λ y. first (agenda o y)) is ∙ told_revived older l) in
           none_some (sym (revived_goes b q a l u (is_ended_at ((view o older).consumers.rows t)) r e (ap said f)) ∙ h)

@@ -1,10 +1,10 @@
 -- The link of a live subscription has not ended, and it is ready where the consumer was built.
-use Rattle.std.proofs.Common.{◌≡◌, ◌⊎◌, inl, inr, ◌∙◌, sym, ap, subst, ℕ, ◌+◌, ◌==◌, List, [], ◌∷◌, ◌++◌, refl, Bool, true, false, ◌&&◌, cond, Option, Some, None, eq-eqb, nat_lt}
-use Rattle.std.proofs.lemmas.Bool.{cases_Bool, eqb-true}
+use Rattle.std.proofs.Common.{◌≡◌, ◌⊎◌, inl, inr, ◌∙◌, sym, ap, subst, ℕ, ◌+◌, ◌==◌, List, [], ◌∷◌, ◌++◌, refl, Bool, true, false, ◌&&◌, cond, Option, Some, None, append-nil, eq-eqb, nat_lt}
+use Rattle.std.proofs.lemmas.Bool.{cases_Bool}
 use Rattle.std.specs.Option.{is_some, option_map}
-use Rattle.pulsar_laws.proofs.ActWords.{Act, Answers, Arrival, Ask, Bytes, Call, Comes, Dials, Does, Drains, End, Ends, FailConsumer, Get, Heard, is_same, LinkAct, Makes, Opens, Pings, Polls, Reads, Revive, StopAll, TakeFlow, ticket_of, ToLink, Who}
-use Rattle.pulsar_laws.proofs.RunWords.{after, Begins, begun, begun_live, EndsOnce, Entry, is_live, IsRun, link_got, live_begun, member_on, Options, Then, view, View}
-use Rattle.pulsar_laws.proofs.LinkWords.{answer_at, arrival_at, closed_by, closed_consumer, closing, Failure, Fault, got_at, is_asked, is_body, Reply, Seat, seat_asked, seat_fed, seat_got, took_end, took_some, url_at}
+use Rattle.pulsar_laws.proofs.ActWords.{Act, Answers, Arrival, Call, Comes, Does, End, Ends, Heard, is_same, Makes, Revive, ticket_of, ToLink, Who, OfConsumer}
+use Rattle.pulsar_laws.proofs.RunWords.{after, Begins, begun, EndsOnce, Entry, IsRun, member_on, Options, Then, view, View}
+use Rattle.pulsar_laws.proofs.LinkWords.{closing, Failure, Fault, is_body, Reply, Seat, url_at}
 use Rattle.url.specs.Parts.{Parts}
 use Rattle.pulsar_frame.specs.Items.{Item}
 use Rattle.pulsar_session.specs.Link.{is_ready}
@@ -19,14 +19,16 @@ use Rattle.pulsar_consumer.proofs.Histories.{counted_same}
 use Rattle.pulsar_calls.specs.declared.act.Arrival.TheVariants as arrivals
 use Rattle.pulsar_calls.specs.declared.act.Makes.TheVariants as makes
 use Rattle.pulsar_calls.specs.declared.content.Joining.{Joining}
-use Rattle.pulsar_consumer_table.specs.Consumers.{Member, is_closed_by, subscribed_on}
+use Rattle.pulsar_consumer_table.specs.Consumers.{Arrives, ClientStops, CloseAsked, Deed, FlowTaken, IsPolled, IsSought, LinkEnds, Member, NotRevived, Revived, is_closed_by, subscribed_on}
 use Rattle.pulsar_laws.proofs.Cases.{none_some, some_is}
 use Rattle.pulsar_laws.proofs.calls.Ticketed.{consumer_ticket}
-use Rattle.pulsar_laws.specs.ConsumerLaws.{arrival_does, does_to, done_since, done_to, frame_does, loss_does, made_as, made_with, making_does, subscription_does}
+use Rattle.pulsar_laws.specs.ConsumerLaws.{arrival_does, deed_does, deeds_do, does_to, done_since, done_to, frame_does, loss_does, made_as, made_with, making_does, subscription_does}
 use Rattle.pulsar_laws.proofs.consumers.Ended.{after_made}
-use Rattle.pulsar_laws.proofs.consumers.Lone.{IsKept, IsMade, IsNone, RowFrom, applied, begun_rows, none_after, row_from}
+use Rattle.pulsar_laws.proofs.consumers.Lone.{IsKept, IsMade, IsNone, RowFrom, applied, applied_append, begun_rows, did_so, is_revival, none_after, row_from}
+use Rattle.pulsar_laws.proofs.consumers.Members.{CameFrom}
 use Rattle.pulsar_laws.proofs.links.Ready.{IsAt, IsReady, WasReady, more_ready}
 use Rattle.pulsar_laws.proofs.consumers.Reached.{makes_ready, revives_ready}
+use Rattle.pulsar_laws.proofs.links.Rows.{after_holds as after_links, begun_holds as begun_links}
 
 -- WHAT ACTS MAKE OF THE LINK OF A CONSUMER
 
@@ -141,6 +143,24 @@ tame_loss : (l : ℕ) (cause : Option Fault) (s : Seen) → Tame (loss_does l ca
 tame_loss l None s = tame_none s
 tame_loss l (Some cause) s = tame_loses l s
 
+tame_append : (xs ys : List Done) (s : Seen) → Tame ys s → Tame xs (applied ys s) → Tame (xs ++ ys) s
+tame_append xs ys s q p k h = q k (p k (ap link_of (sym (applied_append xs ys s)) ∙ h))
+
+tame_other : (v : View) (t : ℕ) (a : Act) → is_revival a ≡ false → (m : Member) → Tame (does_to v t m a) m.seen
+tame_other v t a h = did_so Tame tame_none tame_append v t a one
+  where
+    one : (d : Deed) → CameFrom v t a d → (m : Member) → Tame (deed_does d m) m.seen
+    one (Arrives l x) c m = tame_arrival l x m.seen
+    one (LinkEnds l cause) c m = tame_loss l cause m.seen
+    one (CloseAsked closed l b) c m =
+        tame_either (b && is_closed_by closed l m) (Over Closed ∷ []) [] m.seen (tame_over Closed m.seen) (tame_none m.seen)
+    one (IsPolled clock) c m = tame_polled clock m.seen
+    one (IsSought who) c m = tame_none m.seen
+    one FlowTaken c m = tame_asks m.seen
+    one (Revived l url) c m = let f : true ≡ false = sym (ap is_revival c.1) ∙ h in absurd cc
+    one (NotRevived f) c m = tame_fails f m.seen
+    one ClientStops c m = tame_over Stopped m.seen
+
 -- a subscription is made on a link that has not ended
 lives_link : (l : ℕ) (url : Parts) (s : Seen) (k : ℕ) → link_of (applied (Lives l url ∷ []) s) ≡ Some k → (link_of s ≡ Some k) ⊎ (k ≡ l)
 lives_link l url s k h = by (is_ended s) h
@@ -164,51 +184,15 @@ subscription_link l (Some seat) s k h = elim (lives_link l seat.address.url s k 
 abbrev IsLive : View → ℕ → Type 0
 IsLive v k = is_some (v.links.live k) ≡ true
 
-either_some : (b : Bool) (x y : Option Seat) → (b ≡ true → is_some x ≡ true) → (b ≡ false → is_some y ≡ true) → is_some (cond b x y) ≡ true
-either_some true x y p q = p refl
-either_some false x y p q = q refl
-
-map_some : (f : Seat → Seat) (row : Option Seat) → is_some row ≡ true → is_some (option_map f row) ≡ true
-map_some f None h = h
-map_some f (Some seat) h = refl
-
-got_some : (got : Option ℕ) (now l : ℕ) (row : Option Seat) → is_some row ≡ true → is_some (got_at got now l row) ≡ true
-got_some None now l row h = h
-got_some (Some k) now l row h = either_some (l == k) (option_map (seat_got now) row) row (λ e. map_some (seat_got now) row h) (λ e. h)
-
-took_some_is : (x : LinkAct) (now : ℕ) (row : Option Seat) → ((end : End) → x ≡ Ends end → closing end now row ≡ None) → is_some row ≡ true →
-    is_some (took_some x now row) ≡ true
-took_some_is x now None lasts h = h
-took_some_is (Ends end) now (Some seat) lasts h = by (closed_by end now seat.seen) (lasts end refl)
-  where
-    by : (c : Option Fault) → c ≡ None → is_some (took_end c seat) ≡ true
-    by None e = refl
-    by (Some cause) e = absurd cc
-took_some_is Opens now (Some seat) lasts h = refl
-took_some_is Reads now (Some seat) lasts h = refl
-took_some_is (Drains most) now (Some seat) lasts h = refl
-took_some_is Pings now (Some seat) lasts h = refl
-
 -- but where it ends
 stays_live : (v : View) (a : Act) (k : ℕ) → ((end : End) → a ≡ Comes (ToLink k (Ends end)) → closing end v.now (v.links.live k) ≡ None) → IsLive v k →
     IsLive (after a v) k
-stays_live v (Comes (ToLink l x)) k lasts h =
-    either_some (k == l) (took_some x v.now (v.links.live k)) (v.links.live k)
-    (λ e. took_some_is x v.now (v.links.live k) (λ end is. lasts end (λ i. Comes (ToLink (sym (eqb-true k l e) i) (is i)))) h) (λ e. h)
-stays_live v (Does who (Get p)) k lasts h = got_some (link_got v.addresses (Does who (Get p))) v.now k (v.links.live k) h
-stays_live v (Does who (Ask l request)) k lasts h =
-    either_some (k == l) (option_map (seat_asked who v.now request) (v.links.live k)) (v.links.live k)
-    (λ e. map_some (seat_asked who v.now request) (v.links.live k) h) (λ e. h)
-stays_live v (Dials p starter n) k lasts h = either_some (k == v.links.started) _ (v.links.live k) (λ e. refl) (λ e. h)
-stays_live v a k lasts h = h
-
-heard_live : (e : Heard) (l : ℕ) (row : Option Seat) → is_some row ≡ true → is_some (live_begun e l row) ≡ true
-heard_live (Bytes k piece) l row h = either_some (l == k) (option_map (seat_fed piece) row) row (λ e. map_some (seat_fed piece) row h) (λ e. h)
-heard_live e l row h = h
+stays_live v a k lasts h =
+    after_links (λ row. is_some row ≡ true) v k a (λ seat d. refl)
+    (λ end. (let f : false ≡ true = sym (ap is_some (lasts end.end end.is_act)) ∙ end.closes in absurd cc)) (λ d c seat at s. refl) h
 
 begun_stays : (e : Heard) (v : View) (k : ℕ) → IsLive v k → IsLive (begun e v) k
-begun_stays e v k h =
-    elim (is_live v e) as (λ b. IsLive (cond b (begun_live e v) v) k) [ true ↦ heard_live e k (v.links.live k) h | false ↦ h ]
+begun_stays e v k h = begun_links (λ row. is_some row ≡ true) v k e (λ piece is seat at s. refl) h
 
 -- HOW IT WAS MADE stays
 
@@ -351,48 +335,44 @@ module _ (o : Options) (log : List Entry) (t : ℕ) where
 
   -- but where it is subscribed again it is on no other link than before
   abbrev Revives : Act → Type 0
-  Revives a = (who : Who) × (l : ℕ) × (a ≡ Does who (Revive l)) × ((t == ticket_of who && is_some ((view o log).links.live l)) ≡ true)
+  Revives a = (who : Who) × (l : ℕ) × (a ≡ Does who (OfConsumer (Revive l))) × ((t == ticket_of who && is_some ((view o log).links.live l)) ≡ true)
 
   tame_by : (a : Act) (m : Member) → Tame (does_to (view o log) t m a) m.seen ⊎ Revives a
-  tame_by (Comes (ToLink l Reads)) m = inl (tame_arrival l (arrival_at ((view o log).links.live l)) m.seen)
-  tame_by (Comes (ToLink l (Ends end))) m = inl (tame_loss l (closing end (view o log).now ((view o log).links.live l)) m.seen)
-  tame_by (Comes (Polls u)) m =
-      inl (tame_either (t == u) (Polled (view o log).now ∷ []) [] m.seen (tame_polled (view o log).now m.seen) (tame_none m.seen))
-  tame_by (Does who (Ask l request)) m =
-      inl
-      (tame_either (is_asked (answer_at (view o log).now request ((view o log).links.live l)) && is_closed_by (closed_consumer request) l m)
-      (Over Closed ∷ []) []
-      m.seen (tame_over Closed m.seen) (tame_none m.seen))
-  tame_by (Does who TakeFlow) m = inl (tame_either (t == ticket_of who) (Asks ∷ []) [] m.seen (tame_asks m.seen) (tame_none m.seen))
-  tame_by (Does who (Revive l)) m = elim (cases_Bool (t == ticket_of who)) [
+  tame_by (Does who (OfConsumer (Revive l))) m = elim (cases_Bool (t == ticket_of who)) [
     | inl e ↦ on_row ((view o log).links.live l) refl e
     | inr e ↦
-        inl (subst (λ b. Tame (cond b (subscription_does l (url_at ((view o log).links.live l))) []) m.seen) (sym e) (tame_none m.seen))
+        inl (subst (λ b. Tame (deeds_do (cond b (Revived l (url_at ((view o log).links.live l)) ∷ []) []) m) m.seen) (sym e) (tame_none m.seen))
   ]
     where
+      none : (b : Bool) → Tame (deeds_do (cond b (Revived l None ∷ []) []) m) m.seen
+      none true = tame_none m.seen
+      none false = tame_none m.seen
+
       on_row : (row : Option Seat) → (view o log).links.live l ≡ row → (t == ticket_of who) ≡ true →
-          Tame (cond (t == ticket_of who) (subscription_does l (url_at ((view o log).links.live l))) []) m.seen ⊎ Revives (Does who (Revive l))
+          Tame (deeds_do (cond (t == ticket_of who) (Revived l (url_at ((view o log).links.live l)) ∷ []) []) m) m.seen
+          ⊎ Revives (Does who (OfConsumer (Revive l)))
       on_row None f e =
-          inl (subst (λ r. Tame (cond (t == ticket_of who) (subscription_does l (url_at r)) []) m.seen) (sym f)
-          (tame_either (t == ticket_of who) [] [] m.seen (tame_none m.seen) (tame_none m.seen)))
+          inl (subst (λ r. Tame (deeds_do (cond (t == ticket_of who) (Revived l (url_at r) ∷ []) []) m) m.seen) (sym f) (none (t == ticket_of who)))
       on_row (Some seat) f e = inr (who, l, refl, (λ i. e i && is_some (f i)))
-  tame_by (Does who (FailConsumer f)) m = inl (tame_either (t == ticket_of who) (Fails f ∷ []) [] m.seen (tame_fails f m.seen) (tame_none m.seen))
-  tame_by (Does who StopAll) m = inl (tame_over Stopped m.seen)
-  tame_by a m = inl (tame_none m.seen)
+  tame_by a m = inl (tame_other (view o log) t a refl m)
 
   kept_by : (a : Act) (m n : Member) → IsRun o (Then a ∷ log) → Rides o log m → n.seen ≡ applied (does_to (view o log) t m a) m.seen → Rides o (Then a ∷ log) n
   kept_by (Comes (ToLink l (Ends end))) m n run was is =
-      ended_rides o log (Comes (ToLink l (Ends end))) t m n was is l end (closing end (view o log).now ((view o log).links.live l)) refl refl refl
-  kept_by (Does who (Revive l)) m n run was is =
-      again_rides o log (Does who (Revive l)) t m n was is l (revives_ready o log who l run) (λ end k at. absurd cc) (λ k h. by (t == ticket_of who) k h)
+      ended_rides o log (Comes (ToLink l (Ends end))) t m n was is l end (closing end (view o log).now ((view o log).links.live l)) refl refl
+      (append-nil (loss_does l (closing end (view o log).now ((view o log).links.live l))))
+  kept_by (Does who (OfConsumer (Revive l))) m n run was is =
+      again_rides o log (Does who (OfConsumer (Revive l))) t m n was is l (revives_ready o log who l run) (λ end k at. absurd cc) (λ k h. by
+      (t == ticket_of who) k h)
     where
-      by : (b : Bool) (k : ℕ) → link_of (applied (cond b (subscription_does l (url_at ((view o log).links.live l))) []) m.seen) ≡ Some k →
+      by : (b : Bool) (k : ℕ) → link_of (applied (deeds_do (cond b (Revived l (url_at ((view o log).links.live l)) ∷ []) []) m) m.seen) ≡ Some k →
           (link_of m.seen ≡ Some k) ⊎ ((k ≡ l) × IsLive (view o log) l)
-      by true k h = subscription_link l ((view o log).links.live l) m.seen k h
+      by true k h =
+          subscription_link l ((view o log).links.live l) m.seen k
+          (subst (λ xs. link_of (applied xs m.seen) ≡ Some k) (append-nil (subscription_does l (url_at ((view o log).links.live l)))) h)
       by false k h = inl h
   kept_by a m n run was is = elim (tame_by a m) [
     | inl tame ↦ tame_rides o log a t m n was is tame (λ k end at. absurd cc)
-    | inr k ↦ absurd (let e : a ≡ Does k.0 (Revive k.1) = k.2 in cc)
+    | inr k ↦ absurd (let e : a ≡ Does k.0 (OfConsumer (Revive k.1)) = k.2 in cc)
   ]
 
   row_rides : (a : Act) → IsRun o (Then a ∷ log) → RidesAt o log t → RowFrom o log a t → RidesAt o (Then a ∷ log) t
@@ -406,7 +386,7 @@ module _ (o : Options) (log : List Entry) (t : ℕ) where
 abbrev pub IsFresh : Options → List Entry → Act → (ticket : ℕ) → Type 0
 IsFresh o log a t =
     ((view o log).consumers.rows t ≡ None) ⊎
-    ((who : Who) × (l : ℕ) × (a ≡ Does who (Revive l)) × ((t == ticket_of who && is_some ((view o log).links.live l)) ≡ true))
+    ((who : Who) × (l : ℕ) × (a ≡ Does who (OfConsumer (Revive l))) × ((t == ticket_of who && is_some ((view o log).links.live l)) ≡ true))
 
 abbrev pub LinkFrom : Options → List Entry → Act → (ticket link : ℕ) → Type 0
 LinkFrom o log a t k = ((m : Member) × ((view o log).consumers.rows t ≡ Some m) × (link_of m.seen ≡ Some k)) ⊎ IsFresh o log a t

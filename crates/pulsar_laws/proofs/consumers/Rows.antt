@@ -3,7 +3,7 @@ use Rattle.std.proofs.Common.{◌≡◌, ◌∙◌, sym, ap, subst, ℕ, List, [
 use Rattle.std.specs.Option.{is_some}
 use Rattle.pulsar_laws.proofs.ActWords.{Act, Action, Answers, Call, Consumer, Does, Outcome, Procedure, Rest, Starts, Told}
 use Rattle.pulsar_laws.proofs.PlanWords.{begins, Plan, Stays, told}
-use Rattle.pulsar_laws.proofs.RunWords.{Begins, consumers_made, EndsOnce, Entry, IsRun, member_on, notice, Options, setup_of, Then, view, View}
+use Rattle.pulsar_laws.proofs.RunWords.{Begins, EndsOnce, Entry, IsRun, member_on, notice, Options, setup_of, Then, view, View}
 use Rattle.pulsar_laws.proofs.LinkWords.{url_at}
 use Rattle.pulsar_consumer.proofs.Histories.{end_is_final}
 use Rattle.pulsar_consumer.specs.Topic.{Seen, Setup, fresh, is_ended, link_of, seen}
@@ -18,7 +18,8 @@ use Rattle.pulsar_laws.proofs.consumers.Due.{applied_number}
 use Rattle.pulsar_laws.proofs.consumers.Ended.{does_end}
 use Rattle.pulsar_laws.proofs.consumers.Flows.{led_by}
 use Rattle.pulsar_laws.proofs.consumers.Lone.{IsKept, IsMade, IsNone, RowFrom, begun_rows, consumers_alone_lem, joins_here, row_from}
-use Rattle.pulsar_laws.proofs.consumers.Members.{left_rows, subscribed_number}
+use Rattle.pulsar_laws.proofs.consumers.Members.{row_made, subscribed_number}
+use Rattle.pulsar_acts.specs.View.{member_made}
 use Rattle.pulsar_laws.proofs.consumers.Rested.{begins_made, IsMadeBy}
 use Rattle.pulsar_laws.specs.ConsumerLaws.{does_to, done_to, ends_by}
 
@@ -46,9 +47,8 @@ module _ (once : EndsOnce) (o : Options) where
       let v : View = view o k.older in
       let it : Member = member_on v.links.live k.joining.link (setup_of k.joining) in
       let rows : (view o (Then (Answers (Call t) k.verdict) ∷ k.older)).consumers.rows t ≡ Some it =
-      ap (λ f. f t) (left_rows (Call t) (consumers_made v.links.live (Call t) k.verdict.makes v.consumers))
-      ∙ ap (λ x. (consumers_made v.links.live (Call t) x v.consumers).rows t) k.made
-      ∙ joins_here (Call t) it v.consumers t (same_self (Call t)) in (
+      ap (λ x. row_made (member_made v.links.live x) (Call t) t (v.consumers.rows t)) k.made
+      ∙ joins_here (Call t) it (v.consumers.rows t) t (same_self (Call t)) in (
         it,
         ap (λ y. (view o y).consumers.rows t) k.there ∙ rows,
         subscribed_number k.joining.link (url_at (v.links.live k.joining.link)) (record { seen = fresh (setup_of k.joining); seekers = [] }) ∙ k.number,

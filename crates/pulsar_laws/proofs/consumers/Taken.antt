@@ -8,22 +8,23 @@ use Rattle.pulsar_consumer.specs.Topic.{Act as Done, Lives, Hears, Loses, Fails,
 use Rattle.pulsar_calls.specs.declared.act.Arrival.TheVariants as arrivals
 use Rattle.pulsar_calls.specs.declared.act.Outcome.TheVariants as outcome
 use Rattle.pulsar_calls.specs.declared.act.Word.TheVariants as word
-use Rattle.pulsar_consumer_table.specs.Consumers.{Member, flow_at, flow_on, is_closed_by}
+use Rattle.pulsar_consumer_table.specs.Consumers.{Arrives, CloseAsked, Deed, FlowTaken, LinkEnds, Member, Revived, flow_at, flow_on, is_closed_by}
 use Rattle.pulsar_laws.proofs.Cases.{none_some, some_is}
 use Rattle.pulsar_laws.proofs.calls.Ticketed.{consumer_ticket}
-use Rattle.pulsar_laws.specs.ConsumerLaws.{Flow, FlowsAreCounted, arrival_does, does_to, done_to, flows_after, flows_since, frame_does, loss_does, made_with, permits_of, subscription_does}
+use Rattle.pulsar_laws.specs.ConsumerLaws.{Flow, FlowsAreCounted, arrival_does, deed_does, deeds_do, does_to, done_to, flows_after, flows_since, frame_does, loss_does, made_with, permits_of, subscription_does}
 use Rattle.pulsar_laws.proofs.producers.Drawing.{Every, here}
 use Rattle.pulsar_laws.proofs.consumers.Flows.{flows_are_asked_lem}
-use Rattle.pulsar_laws.proofs.consumers.Lone.{applied, IsKept, IsMade, IsNone, RowFrom, begun_rows, consumers_alone_lem, row_from}
+use Rattle.pulsar_laws.proofs.consumers.Lone.{applied, did_so, IsKept, IsMade, IsNone, RowFrom, begun_rows, consumers_alone_lem, row_from}
+use Rattle.pulsar_laws.proofs.consumers.Members.{CameFrom}
 use Rattle.pulsar_laws.proofs.consumers.Placed.{IsPlaced, is_placed}
 use Rattle.pulsar_laws.proofs.plans.Served.{flow_takers}
 use Rattle.pulsar_laws.proofs.consumers.Riding.{LinkFrom, link_from}
 use Rattle.url.specs.Parts.{Parts}
 use Rattle.pulsar_consumer.specs.Topic as reader
 use Rattle.std.proofs.lemmas.Bool.{and_parts, cases_Bool, eqb-true}
-use Rattle.pulsar_laws.proofs.ActWords.{Act, Arrival, Ask, Comes, Consumer, Does, Ends, FailConsumer, Notice, Polls, Reads, Revive, StopAll, TakeFlow, ticket_of, Told, ToLink, Who}
+use Rattle.pulsar_laws.proofs.ActWords.{Act, Arrival, Ask, Comes, Consumer, Does, Ends, FailConsumer, Notice, Polls, Reads, Revive, StopAll, TakeFlow, ticket_of, Told, ToLink, Who, OfConsumer}
 use Rattle.pulsar_laws.proofs.RunWords.{agenda, Begins, EndsOnce, Entry, first, IsRun, notice, Options, Then, view, View}
-use Rattle.pulsar_laws.proofs.LinkWords.{answer_at, arrival_at, closed_consumer, closing, Fault, is_asked, is_body, place_of, Reply, Seat, url_at}
+use Rattle.pulsar_laws.proofs.LinkWords.{answer_at, Fault, is_body, place_of, Reply, Seat, url_at}
 use Rattle.pulsar_incoming.specs.declared.polled.Ending.{Ending}
 use Rattle.pulsar_incoming.specs.declared.polled.Ending.TheVariants.{Closed, TopicEnded}
 use Rattle.pulsar_consumer.proofs.Histories.{end_is_final}
@@ -63,28 +64,57 @@ loss_takes : (l : ℕ) (cause : Option Fault) → takes_in (loss_does l cause) �
 loss_takes l None = refl
 loss_takes l (Some cause) = refl
 
+none_takes : (xs ys : List Done) → takes_in xs ≡ false → takes_in ys ≡ false → takes_in (xs ++ ys) ≡ false
+none_takes [] ys p q = q
+none_takes (Lives l url ∷ xs) ys p q = absurd cc
+none_takes (Asks ∷ xs) ys p q = absurd cc
+none_takes (Hears l f ∷ xs) ys p q = none_takes xs ys p q
+none_takes (Loses l ∷ xs) ys p q = none_takes xs ys p q
+none_takes (Fails f ∷ xs) ys p q = none_takes xs ys p q
+none_takes (Over why ∷ xs) ys p q = none_takes xs ys p q
+none_takes (Polled clock ∷ xs) ys p q = none_takes xs ys p q
+
+-- acts by which a flow is taken, or the first of a new subscription is due
+abbrev is_taker : Act → Bool
+is_taker (Does who (OfConsumer TakeFlow)) = true
+is_taker (Does who (OfConsumer (Revive l))) = true
+is_taker _ = false
+
+other_takes : (v : View) (t : ℕ) (a : Act) → is_taker a ≡ false → (m : Member) → takes_in (does_to v t m a) ≡ false
+other_takes v t a h = did_so (λ xs s. takes_in xs ≡ false) (λ s. refl) (λ xs ys s q p. none_takes xs ys p q) v t a one
+  where
+    one : (d : Deed) → CameFrom v t a d → (m : Member) → takes_in (deed_does d m) ≡ false
+    one (Arrives l x) c m = arrival_takes l x m.seen
+    one (LinkEnds l cause) c m = loss_takes l cause
+    one (CloseAsked closed l b) c m = either_takes (b && is_closed_by closed l m) (Over Closed ∷ []) [] refl refl
+    one FlowTaken c m = let f : true ≡ false = sym (ap is_taker c.1) ∙ h in absurd cc
+    one (Revived l url) c m = let f : true ≡ false = sym (ap is_taker c.1) ∙ h in absurd cc
+    one _ c m = refl
+
 -- it was taken last, or it is told of it last
 abbrev Pending : Options → List Entry → (ticket : ℕ) → Type 0
 Pending o log t =
     (n l p : ℕ) × (older : List Entry) × (flow_at ((view o older).consumers.rows t) ≡ Some (l, p))
-    × ((log ≡ Then (Does (Consumer n t) TakeFlow) ∷ older)
-    ⊎ (log ≡ Then (Told (notice (Consumer n t) (outcome.Word (word.Flow l p)))) ∷ Then (Does (Consumer n t) TakeFlow) ∷ older))
+    × ((log ≡ Then (Does (Consumer n t) (OfConsumer TakeFlow)) ∷ older)
+    ⊎ (log ≡ Then (Told (notice (Consumer n t) (outcome.Word (word.Flow l p)))) ∷ Then (Does (Consumer n t) (OfConsumer TakeFlow)) ∷ older))
 
 -- what comes next then
 abbrev Follows : Options → List Entry → (ticket : ℕ) → Act → Type 0
 Follows o log t a =
-    ((n l p : ℕ) × (older : List Entry) × (flow_at ((view o older).consumers.rows t) ≡ Some (l, p)) × (log ≡ Then (Does (Consumer n t) TakeFlow) ∷ older)
+    ((n l p : ℕ) × (older : List Entry) × (flow_at ((view o older).consumers.rows t) ≡ Some (l, p))
+    × (log ≡ Then (Does (Consumer n t) (OfConsumer TakeFlow)) ∷ older)
     × (a ≡ Told (notice (Consumer n t) (outcome.Word (word.Flow l p)))))
     ⊎ ((n l p : ℕ) × (a ≡ Does (Consumer n t) (Ask l (words.SendFlow n p))))
 
 follows_next : (o : Options) (log : List Entry) (t : ℕ) → IsRun o log → (a : Option Act) → first (agenda o log) ≡ a → Pending o log t →
     (b : Act) × (a ≡ Some b) × Follows o log t b
 follows_next o log t run a fits (n, l, p, older, flow, inl is) =
-    let r : IsRun o (Then (Does (Consumer n t) TakeFlow) ∷ older) = subst (IsRun o) is run in
+    let r : IsRun o (Then (Does (Consumer n t) (OfConsumer TakeFlow)) ∷ older) = subst (IsRun o) is run in
     let x = (flows_are_asked_lem o older n t l p r flow).0 in
     (Told (notice (Consumer n t) (outcome.Word (word.Flow l p))), sym fits ∙ ap (λ y. first (agenda o y)) is ∙ x, inl (n, l, p, older, flow, is, refl))
 follows_next o log t run a fits (n, l, p, older, flow, inr is) =
-    let r : IsRun o (Then (Told (notice (Consumer n t) (outcome.Word (word.Flow l p)))) ∷ Then (Does (Consumer n t) TakeFlow) ∷ older) = subst (IsRun o) is run
+    let r : IsRun o (Then (Told (notice (Consumer n t) (outcome.Word (word.Flow l p)))) ∷ Then (Does (Consumer n t) (OfConsumer TakeFlow)) ∷ older) = subst
+    (IsRun o) is run
     in
     let x = (flows_are_asked_lem o older n t l p r.0 flow).1 in
     (Does (Consumer n t) (Ask l (words.SendFlow n p)), sym fits ∙ ap (λ y. first (agenda o y)) is ∙ x, inr (n, l, p, refl))
@@ -105,26 +135,27 @@ module _ (once : EndsOnce) (o : Options) (log : List Entry) (n t l m p : ℕ) (r
     -- a flow that is asked for is the one that was taken
     asked_settled : Every (Settled o t) log → (s : Setup) → made_with t log ≡ Some s → asked_since s (done_to o t log) ≤ permits_of (flows_since o t log) + p
     asked_settled k s made =
-        let r : IsRun o (Then (Told (told_so once o log n t l m p run.0 x)) ∷ Then (Does (Consumer n t) TakeFlow) ∷ x.older) = subst (IsRun o) x.is_behind run.0
+        let r : IsRun o (Then (Told (told_so once o log n t l m p run.0 x)) ∷ Then (Does (Consumer n t) (OfConsumer TakeFlow)) ∷ x.older) = subst
+        (IsRun o) x.is_behind run.0
         in
-        let e : Every (Settled o t) (Then (Told (told_so once o log n t l m p run.0 x)) ∷ Then (Does (Consumer n t) TakeFlow) ∷ x.older) = subst
+        let e : Every (Settled o t) (Then (Told (told_so once o log n t l m p run.0 x)) ∷ Then (Does (Consumer n t) (OfConsumer TakeFlow)) ∷ x.older) = subst
         (Every (Settled o t)) x.is_behind k in
         let link : link_of x.was_due.member.seen ≡ Some l = ap (option_map (λ (y : Live). y.link)) x.was_due.is_live ∙ ap Some x.was_due.on in
         let flows : permits_of (flows_since o t log) ≡ permits_of (flows_since o t x.older) = ap (λ y. permits_of (flows_since o t y)) x.is_behind in
         let taken = taken_then once o log n t l m p run.0 x s made in
         elim (here (Settled o t) x.older e.1.1 x.was_due.member l s x.was_due.is_there link (sym (ap (made_with t) x.is_behind) ∙ made)) [
           | inl old ↦ omega (arith, old, flows, taken)
-          | inr pending ↦ absurd (no_flow (pending_next o x.older t (Does (Consumer n t) TakeFlow) r.0 pending))
+          | inr pending ↦ absurd (no_flow (pending_next o x.older t (Does (Consumer n t) (OfConsumer TakeFlow)) r.0 pending))
         ]
       where
-        no_flow : Follows o x.older t (Does (Consumer n t) TakeFlow) → ⊥
+        no_flow : Follows o x.older t (Does (Consumer n t) (OfConsumer TakeFlow)) → ⊥
         no_flow (inl k) = let e = k.6 in cc
         no_flow (inr k) = let e = k.3 in cc
 
 -- an act that is neither of these comes only where none is to be asked for
 abbrev is_step : Act → Bool
 is_step (Told n) = true
-is_step (Does who TakeFlow) = false
+is_step (Does who (OfConsumer TakeFlow)) = false
 is_step (Does (Consumer n t) (Ask l (words.SendFlow m p))) = true
 is_step _ = false
 
@@ -153,7 +184,7 @@ asker (Does (Consumer n t) action) = Some t
 asker _ = None
 
 abbrev revived_on : Act → Option ℕ
-revived_on (Does who (Revive l)) = Some l
+revived_on (Does who (OfConsumer (Revive l))) = Some l
 revived_on _ = None
 
 module _ (once : EndsOnce) (o : Options) (log : List Entry) (t : ℕ) (k : Every (Settled o t) log) where
@@ -168,7 +199,7 @@ module _ (once : EndsOnce) (o : Options) (log : List Entry) (t : ℕ) (k : Every
 
   -- none is taken by it, and none asked for
   quiet_settled : (a : Act) (l : ℕ) (s : Setup) (m : Member) → LinkFrom o log a t l → v.consumers.rows t ≡ Some m → made_with t log ≡ Some s →
-      ((who : Who) (j : ℕ) → a ≡ Does who (Revive j) → (t == ticket_of who && is_some (v.links.live j)) ≡ true → ⊥) →
+      ((who : Who) (j : ℕ) → a ≡ Does who (OfConsumer (Revive j)) → (t == ticket_of who && is_some (v.links.live j)) ≡ true → ⊥) →
       takes_in (does_to v t m a) ≡ false → flows_after v t a fs ≡ fs → (Pending o log t → Pending o (Then a ∷ log) t) → Goal a s m
   quiet_settled a l s m (inl (was, e, on)) is made old none same next = elim (here (Settled o t) log k was l s e on made) [
     | inl le ↦
@@ -184,36 +215,38 @@ module _ (once : EndsOnce) (o : Options) (log : List Entry) (t : ℕ) (k : Every
   never a run h pending = absurd (not_step o log t a h (pending_next o log t a run pending))
 
   -- one is taken
-  took_settled : (w : Who) (l : ℕ) (s : Setup) (m : Member) → IsRun o (Then (Does w TakeFlow) ∷ log) → LinkFrom o log (Does w TakeFlow) t l →
-      v.consumers.rows t ≡ Some m → made_with t log ≡ Some s → (t == ticket_of w) ≡ true → Goal (Does w TakeFlow) s m
+  took_settled : (w : Who) (l : ℕ) (s : Setup) (m : Member) → IsRun o (Then (Does w (OfConsumer TakeFlow)) ∷ log) →
+      LinkFrom o log (Does w (OfConsumer TakeFlow)) t l →
+      v.consumers.rows t ≡ Some m → made_with t log ≡ Some s → (t == ticket_of w) ≡ true → Goal (Does w (OfConsumer TakeFlow)) s m
   took_settled w l s m run from is made d =
       let x = flow_takers o log w run in
       by x.0 x.1 x.2 (eqb-true t x.1 (ap (λ y. t == ticket_of y) (sym x.2) ∙ d)) (flow_at (v.consumers.rows t)) refl
     where
       idle : flow_at (v.consumers.rows t) ≡ None → asked_since s (done_to o t log) ≤ permits_of fs →
-          asked_since s (does_to v t m (Does w TakeFlow) ++ done_to o t log) ≤ permits_of fs
+          asked_since s (does_to v t m (Does w (OfConsumer TakeFlow)) ++ done_to o t log) ≤ permits_of fs
       idle none le =
           let c = consumers_alone_lem once o log t m run.0 is in
           let same : c.0 ≡ s = some_is (sym c.1 ∙ made) in
           let due : first_due (seen s (done_to o t log)).engine.live ≡ None =
           ap (λ y. first_due (seen y (done_to o t log)).engine.live) (sym same) ∙ ap (λ y. first_due y.engine.live) (sym c.2)
           ∙ flow_none m (ap flow_at (sym is) ∙ none) in
-          let a : asked_since s (does_to v t m (Does w TakeFlow) ++ done_to o t log) ≡ asked_since s (done_to o t log) + 0 =
-          ap (λ b. asked_since s (cond b (Asks ∷ []) [] ++ done_to o t log)) d ∙ ap (λ y. asked_since s (done_to o t log) + unwrap_or y 0) due in
+          let a : asked_since s (does_to v t m (Does w (OfConsumer TakeFlow)) ++ done_to o t log) ≡ asked_since s (done_to o t log) + 0 =
+          ap (λ b. asked_since s (deeds_do (cond b (FlowTaken ∷ []) []) m ++ done_to o t log)) d
+          ∙ ap (λ y. asked_since s (done_to o t log) + unwrap_or y 0) due in
           omega (arith, le, a)
 
-      by : (n u : ℕ) → w ≡ Consumer n u → t ≡ u → (row : Option (ℕ × ℕ)) → flow_at (v.consumers.rows t) ≡ row → Goal (Does w TakeFlow) s m
+      by : (n u : ℕ) → w ≡ Consumer n u → t ≡ u → (row : Option (ℕ × ℕ)) → flow_at (v.consumers.rows t) ≡ row → Goal (Does w (OfConsumer TakeFlow)) s m
       by n u e f None none = at from
         where
-          at : LinkFrom o log (Does w TakeFlow) t l → Goal (Does w TakeFlow) s m
+          at : LinkFrom o log (Does w (OfConsumer TakeFlow)) t l → Goal (Does w (OfConsumer TakeFlow)) s m
           at (inl (was, g, on)) = elim (here (Settled o t) log k was l s g on made) [
             | inl le ↦ inl (idle none le)
-            | inr pending ↦ absurd (not_step o log t (Does w TakeFlow) refl (pending_next o log t (Does w TakeFlow) run pending))
+            | inr pending ↦ absurd (not_step o log t (Does w (OfConsumer TakeFlow)) refl (pending_next o log t (Does w (OfConsumer TakeFlow)) run pending))
           ]
           at (inr (inl g)) = absurd (none_some (sym g ∙ is))
           at (inr (inr (who, j, g, h))) = absurd cc
       by n u e f (Some flow) due =
-          inr (n, flow.0, flow.1, log, due, inl (ap (λ y. Then (Does y TakeFlow) ∷ log) (e ∙ ap (Consumer n) (sym f))))
+          inr (n, flow.0, flow.1, log, due, inl (ap (λ y. Then (Does y (OfConsumer TakeFlow)) ∷ log) (e ∙ ap (Consumer n) (sym f))))
 
   -- it is told of the one that it took
   told_next : (x : Notice) → IsRun o (Then (Told x) ∷ log) → Pending o log t → Pending o (Then (Told x) ∷ log) t
@@ -235,20 +268,20 @@ module _ (once : EndsOnce) (o : Options) (log : List Entry) (t : ℕ) (k : Every
           let f : true ≡ false = sym (eq-eqb t u (sym e)) ∙ d in cc
 
   -- it is subscribed again
-  revived_settled : (who : Who) (j l : ℕ) (s : Setup) (m n : Member) → IsRun o (Then (Does who (Revive j)) ∷ log) → v.consumers.rows t ≡ Some m →
-      made_with t log ≡ Some s → n.seen ≡ applied (does_to v t m (Does who (Revive j))) m.seen → link_of n.seen ≡ Some l → (row : Option Seat) →
+  revived_settled : (who : Who) (j l : ℕ) (s : Setup) (m n : Member) → IsRun o (Then (Does who (OfConsumer (Revive j))) ∷ log) → v.consumers.rows t ≡ Some m →
+      made_with t log ≡ Some s → n.seen ≡ applied (does_to v t m (Does who (OfConsumer (Revive j)))) m.seen → link_of n.seen ≡ Some l → (row : Option Seat) →
       v.links.live j ≡ row → (t == ticket_of who) ≡ true → is_some row ≡ true →
-      asked_since s (does_to v t m (Does who (Revive j)) ++ done_to o t log) ≡ 0
+      asked_since s (does_to v t m (Does who (OfConsumer (Revive j))) ++ done_to o t log) ≡ 0
   revived_settled who j l s m n run is made seen_so on None e d alive = absurd cc
   revived_settled who j l s m n run is made seen_so on (Some seat) e d alive = by (is_ended m.seen) refl
     where
       url : Parts
       url = seat.address.url
 
-      does : does_to v t m (Does who (Revive j)) ≡ Lives j url ∷ []
-      does = (λ i. cond (d i) (subscription_does j (url_at (e i))) [])
+      does : does_to v t m (Does who (OfConsumer (Revive j))) ≡ Lives j url ∷ []
+      does = (λ i. deeds_do (cond (d i) (Revived j (url_at (e i)) ∷ []) []) m)
 
-      by : (b : Bool) → is_ended m.seen ≡ b → asked_since s (does_to v t m (Does who (Revive j)) ++ done_to o t log) ≡ 0
+      by : (b : Bool) → is_ended m.seen ≡ b → asked_since s (does_to v t m (Does who (OfConsumer (Revive j))) ++ done_to o t log) ≡ 0
       by true ended =
           let c = consumers_alone_lem once o log t m run.0 is in
           let same : n.seen ≡ m.seen =
@@ -266,24 +299,25 @@ module _ (once : EndsOnce) (o : Options) (log : List Entry) (t : ℕ) (k : Every
           let e : is_ended (seen s (done_to o t log)) ≡ false = ap (λ y. is_ended (seen y (done_to o t log))) (sym same) ∙ ap is_ended (sym c.2) ∙ ended in
           ap (λ xs. asked_since s (xs ++ done_to o t log)) does ∙ ap (λ b. cond b (asked_since s (done_to o t log)) 0) e
 
-  revives_takes : (j : ℕ) (b : Bool) (row : Option Seat) → (b && is_some row) ≡ false → takes_in (cond b (subscription_does j (url_at row)) []) ≡ false
-  revives_takes j true None h = refl
-  revives_takes j true (Some seat) h = absurd cc
-  revives_takes j false row h = refl
+  revives_takes : (m : Member) (j : ℕ) (b : Bool) (row : Option Seat) → (b && is_some row) ≡ false →
+      takes_in (deeds_do (cond b (Revived j (url_at row) ∷ []) []) m) ≡ false
+  revives_takes m j true None h = refl
+  revives_takes m j true (Some seat) h = absurd cc
+  revives_takes m j false row h = refl
 
   kept_settled : (a : Act) (l : ℕ) (s : Setup) (m n : Member) → IsRun o (Then a ∷ log) → LinkFrom o log a t l → v.consumers.rows t ≡ Some m →
       made_with t log ≡ Some s → n.seen ≡ applied (does_to v t m a) m.seen → link_of n.seen ≡ Some l → Goal a s m
   kept_settled (Comes (ToLink j Reads)) l s m n run from is made seen_so on =
-      quiet_settled (Comes (ToLink j Reads)) l s m from is made (λ w i e f. absurd cc) (arrival_takes j (arrival_at (v.links.live j)) m.seen) refl
+      quiet_settled (Comes (ToLink j Reads)) l s m from is made (λ w i e f. absurd cc) (other_takes v t (Comes (ToLink j Reads)) refl m) refl
       (never (Comes (ToLink j Reads)) run refl)
   kept_settled (Comes (ToLink j (Ends end))) l s m n run from is made seen_so on =
-      quiet_settled (Comes (ToLink j (Ends end))) l s m from is made (λ w i e f. absurd cc) (loss_takes j (closing end v.now (v.links.live j))) refl
+      quiet_settled (Comes (ToLink j (Ends end))) l s m from is made (λ w i e f. absurd cc) (other_takes v t (Comes (ToLink j (Ends end))) refl m) refl
       (never (Comes (ToLink j (Ends end))) run refl)
   kept_settled (Comes (Polls u)) l s m n run from is made seen_so on =
-      quiet_settled (Comes (Polls u)) l s m from is made (λ w i e f. absurd cc) (either_takes (t == u) (Polled v.now ∷ []) [] refl refl) refl
+      quiet_settled (Comes (Polls u)) l s m from is made (λ w i e f. absurd cc) (other_takes v t (Comes (Polls u)) refl m) refl
       (never (Comes (Polls u)) run refl)
   kept_settled (Told x) l s m n run from is made seen_so on =
-      quiet_settled (Told x) l s m from is made (λ w i e f. absurd cc) refl refl (told_next x run)
+      quiet_settled (Told x) l s m from is made (λ w i e f. absurd cc) (other_takes v t (Told x) refl m) refl (told_next x run)
   kept_settled (Does (Consumer c u) (Ask j (words.SendFlow m' p))) l s m n run from is made seen_so on = elim (cases_Bool (t == u)) [
     | inl d ↦
         (let a : Act = Does (Consumer c u) (Ask j (words.SendFlow m' p)) in
@@ -302,42 +336,43 @@ module _ (once : EndsOnce) (o : Options) (log : List Entry) (t : ℕ) (k : Every
   ]
     where
       ask_takes : (m : Member) (c u j m' p : ℕ) → takes_in (does_to v t m (Does (Consumer c u) (Ask j (words.SendFlow m' p)))) ≡ false
-      ask_takes m c u j m' p =
-          either_takes (is_asked (answer_at v.now (words.SendFlow m' p) (v.links.live j)) && is_closed_by (closed_consumer (words.SendFlow m' p)) j m)
-          (Over Closed ∷ []) [] refl refl
+      ask_takes m c u j m' p = other_takes v t (Does (Consumer c u) (Ask j (words.SendFlow m' p))) refl m
   kept_settled (Does who (Ask j request)) l s m n run from is made seen_so on =
       quiet_settled (Does who (Ask j request)) l s m from is made (λ w i e f. absurd cc)
-      (either_takes (is_asked (answer_at v.now request (v.links.live j)) && is_closed_by (closed_consumer request) j m) (Over Closed ∷ []) [] refl refl) refl
+      (other_takes v t (Does who (Ask j request)) refl m) refl
       (never (Does who (Ask j request)) run refl)
-  kept_settled (Does who TakeFlow) l s m n run from is made seen_so on = elim (cases_Bool (t == ticket_of who)) [
+  kept_settled (Does who (OfConsumer TakeFlow)) l s m n run from is made seen_so on = elim (cases_Bool (t == ticket_of who)) [
     | inl d ↦ took_settled who l s m run from is made d
     | inr d ↦
-        quiet_settled (Does who TakeFlow) l s m from is made (λ w i e f. absurd cc) (ap (λ b. takes_in (cond b (Asks ∷ []) [])) d) refl
-        (never (Does who TakeFlow) run refl)
+        quiet_settled (Does who (OfConsumer TakeFlow)) l s m from is made (λ w i e f. absurd cc)
+        (ap (λ b. takes_in (deeds_do (cond b (FlowTaken ∷ []) []) m)) d) refl
+        (never (Does who (OfConsumer TakeFlow)) run refl)
   ]
-  kept_settled (Does who (Revive j)) l s m n run from is made seen_so on = elim (cases_Bool (t == ticket_of who && is_some (v.links.live j))) [
+  kept_settled (Does who (OfConsumer (Revive j))) l s m n run from is made seen_so on = elim (cases_Bool (t == ticket_of who && is_some (v.links.live j))) [
     | inl d ↦
         (let two = and_parts (t == ticket_of who) (is_some (v.links.live j)) d in
         let z = revived_settled who j l s m n run is made seen_so on (v.links.live j) refl two.0 two.1 in
         inl (omega (arith, z)))
     | inr d ↦
-        quiet_settled (Does who (Revive j)) l s m from is made
+        quiet_settled (Does who (OfConsumer (Revive j))) l s m from is made
         (λ w i e f.
         (let x : who ≡ w = revivers e in
         let y : j ≡ i = some_is (ap revived_on e) in
         let g : true ≡ false = sym f ∙ sym (λ q. t == ticket_of (x q) && is_some (v.links.live (y q))) ∙ d in absurd cc))
-        (revives_takes j (t == ticket_of who) (v.links.live j) d) (ap (λ b. cond b [] fs) d) (never (Does who (Revive j)) run refl)
+        (revives_takes m j (t == ticket_of who) (v.links.live j) d) (ap (λ b. cond b [] fs) d) (never (Does who (OfConsumer (Revive j))) run refl)
   ]
     where
-      revivers : {w : Who} {i : ℕ} → Does who (Revive j) ≡ Does w (Revive i) → who ≡ w
+      revivers : {w : Who} {i : ℕ} → Does who (OfConsumer (Revive j)) ≡ Does w (OfConsumer (Revive i)) → who ≡ w
       revivers {w} {i} e = cc
-  kept_settled (Does who (FailConsumer f)) l s m n run from is made seen_so on =
-      quiet_settled (Does who (FailConsumer f)) l s m from is made (λ w i e g. absurd cc) (either_takes (t == ticket_of who) (Fails f ∷ []) [] refl refl) refl
-      (never (Does who (FailConsumer f)) run refl)
+  kept_settled (Does who (OfConsumer (FailConsumer f))) l s m n run from is made seen_so on =
+      quiet_settled (Does who (OfConsumer (FailConsumer f))) l s m from is made (λ w i e g. absurd cc)
+      (other_takes v t (Does who (OfConsumer (FailConsumer f))) refl m) refl
+      (never (Does who (OfConsumer (FailConsumer f))) run refl)
   kept_settled (Does who StopAll) l s m n run from is made seen_so on =
-      quiet_settled (Does who StopAll) l s m from is made (λ w i e f. absurd cc) refl refl (never (Does who StopAll) run refl)
+      quiet_settled (Does who StopAll) l s m from is made (λ w i e f. absurd cc) (other_takes v t (Does who StopAll) refl m) refl
+      (never (Does who StopAll) run refl)
   kept_settled a l s m n run from is made seen_so on =
-      quiet_settled a l s m from is made (λ w i e f. absurd cc) refl refl (never a run refl)
+      quiet_settled a l s m from is made (λ w i e f. absurd cc) (other_takes v t a refl m) refl (never a run refl)
 
   row_settled : (a : Act) → IsRun o (Then a ∷ log) → (n : Member) (l : ℕ) (s : Setup) → (view o (Then a ∷ log)).consumers.rows t ≡ Some n →
       link_of n.seen ≡ Some l → made_with t (Then a ∷ log) ≡ Some s → LinkFrom o log a t l → RowFrom o log a t →

@@ -2,15 +2,16 @@
 use Rattle.std.proofs.Common.{◌≡◌, inl, inr, ◌∙◌, sym, ap, subst, ℕ, ◌==◌, List, [], ◌∷◌, refl, Bool, true, false, cond, eq-eqb, Option, Some, None}
 use Rattle.std.proofs.lemmas.Bool.{cases_Bool}
 use Rattle.std.specs.Option.{is_some, option_map}
-use Rattle.pulsar_laws.proofs.ActWords.{Act, Action, Answers, Call, Consumer, Does, is_same, Notice, Outcome, Procedure, Revive, Starts, TakeFlow, Told, Verdict, Who}
-use Rattle.pulsar_laws.proofs.PlanWords.{Gives, Plan, Stays, told, Turn}
+use Rattle.pulsar_laws.proofs.ActWords.{Act, Action, Answers, Call, Consumer, Does, is_same, Notice, Outcome, Procedure, Revive, Starts, TakeFlow, Told, Who, OfConsumer}
+use Rattle.pulsar_laws.proofs.PlanWords.{Gives, Plan, PlanTransition, Stays, told}
 use Rattle.pulsar_laws.proofs.RunWords.{agenda, Agenda, Begins, begun_same, EndsOnce, Entry, first, IsRun, notice, Options, stays, stays_some, Then, told_some, view, View}
 use Rattle.pulsar_laws.proofs.LinkWords.{url_at}
 use Rattle.pulsar_consumer.specs.Topic.{Live, Seen, Asks, asked, behind, first_due, first_in, is_due}
 use Rattle.pulsar_calls.specs.declared.act.Outcome.TheVariants as outcome
 use Rattle.pulsar_calls.specs.declared.act.Word.TheVariants as word
-use Rattle.pulsar_consumer_table.specs.Consumers.{Member, flow_at, member_after}
-use Rattle.pulsar_acts.specs.Reading.{flow_said}
+use Rattle.pulsar_run.specs.Things.{row_by}
+use Rattle.pulsar_consumer_table.specs.Consumers.{FlowTaken, Member, Revived, flow_at, member_after, member_by}
+use Rattle.pulsar_consumer_table.specs.Asks.{flow_said}
 use Rattle.pulsar_laws.proofs.Cases.{none_some, some_is}
 use Rattle.pulsar_laws.proofs.calls.Done.{IsLeftIn, arises, first_done, none_left, stays as stays_left}
 use Rattle.pulsar_laws.proofs.calls.Same.{same_self, same_who}
@@ -21,7 +22,7 @@ use Rattle.pulsar_laws.proofs.consumers.Placed.{Takes, takes_run, told_flow}
 use Rattle.pulsar_laws.proofs.consumers.Rested.{IsMadeBy, arc_rests, begins_made, due_is_taken, is_resting, revived_run}
 use Rattle.pulsar_laws.proofs.consumers.Taken.{flow_none}
 use Rattle.pulsar_plans.proofs.Arcs.{told_arc}
-use Rattle.pulsar_laws.specs.ConsumerLaws.{does_to, subscription_does}
+use Rattle.pulsar_laws.specs.ConsumerLaws.{deeds_do, does_to}
 
 abbrev said : Act → Outcome
 said (Told n) = n.outcome
@@ -40,7 +41,8 @@ Tended o log t = (m : Member) (p : Plan) → (view o log).consumers.rows t ≡ S
     (view o log).stand (Consumer m.seen.number t) ≡ Some p → is_resting p ≡ true → Tells o m.seen.number t log
 
 -- what is left is left behind another act
-left_behind : (o : Options) (log : List Entry) (n t : ℕ) (a : Act) → IsRun o (Then a ∷ log) → (due_to_plan n t ≡ a → ⊥) → Tells o n t log → Tells o n t (Then a ∷ log)
+left_behind : (o : Options) (log : List Entry) (n t : ℕ) (a : Act) → IsRun o (Then a ∷ log) → (due_to_plan n t ≡ a → ⊥) → Tells o n t log →
+    Tells o n t (Then a ∷ log)
 left_behind o log n t a run other k =
     let g : Agenda = agenda o log in
     elim (first_done (due_to_plan n t) g.now g.here g.behind g.parts a run.1 k) [
@@ -63,16 +65,17 @@ flow_is_none None h = refl
 flow_is_none (Some f) h = absurd cc
 
 took_none : (o : Options) (older : List Entry) (n t : ℕ) (m : Member) →
-    (view o (Then (Does (Consumer n t) TakeFlow) ∷ older)).consumers.rows t ≡ Some m → flow_at ((view o older).consumers.rows t) ≡ None → is_due m.seen ≡ true → ⊥
+    (view o (Then (Does (Consumer n t) (OfConsumer TakeFlow)) ∷ older)).consumers.rows t ≡ Some m →
+    flow_at ((view o older).consumers.rows t) ≡ None → is_due m.seen ≡ true → ⊥
 took_none o older n t m is none h = by ((view o older).consumers.rows t) refl none
   where
     by : (row : Option Member) → (view o older).consumers.rows t ≡ row → flow_at row ≡ None → ⊥
     by row e f = on row f (sym (now row e) ∙ is)
       where
         now : (row : Option Member) → (view o older).consumers.rows t ≡ row →
-            (view o (Then (Does (Consumer n t) TakeFlow) ∷ older)).consumers.rows t ≡ option_map (member_after Asks) row
+            (view o (Then (Does (Consumer n t) (OfConsumer TakeFlow)) ∷ older)).consumers.rows t ≡ option_map (member_after Asks) row
         now row e =
-            ap (λ b. cond b (option_map (member_after Asks) ((view o older).consumers.rows t)) ((view o older).consumers.rows t)) (eq-eqb t t refl)
+            ap (λ b. row_by member_by (cond b (FlowTaken ∷ []) []) ((view o older).consumers.rows t)) (eq-eqb t t refl)
             ∙ ap (option_map (member_after Asks)) e
 
         on : (row : Option Member) → flow_at row ≡ None → option_map (member_after Asks) row ≡ Some m → ⊥
@@ -90,35 +93,40 @@ module _ (once : EndsOnce) (o : Options) (log : List Entry) (t : ℕ) (was : Ten
     who = Consumer n.seen.number t
 
     -- it lives again: its flow fell due right then
-    lives_due : (l : ℕ) (older : List Entry) → IsRun o log → log ≡ Then (Does who (Revive l)) ∷ older → Tells o n.seen.number t log
+    lives_due : (l : ℕ) (older : List Entry) → IsRun o log → log ≡ Then (Does who (OfConsumer (Revive l))) ∷ older → Tells o n.seen.number t log
     lives_due l older run there =
-        let r : IsRun o (Then (Does who (Revive l)) ∷ older) = subst (IsRun o) there run in
-        let now : (view o (Then (Does who (Revive l)) ∷ older)).consumers.rows t ≡ Some n = subst (λ y. (view o y).consumers.rows t ≡ Some n) there is in
+        let r : IsRun o (Then (Does who (OfConsumer (Revive l))) ∷ older) = subst (IsRun o) there run in
+        let now : (view o (Then (Does who (OfConsumer (Revive l))) ∷ older)).consumers.rows t ≡ Some n = subst (λ y. (view o y).consumers.rows t
+        ≡ Some n) there is in
         subst (λ y. Tells o n.seen.number t y) (sym there)
-        (by r now (row_from o older t once (Does who (Revive l)) (consumer_ticket o (Then (Does who (Revive l)) ∷ older) t n r now) r))
+        (by r now (row_from o older t once (Does who (OfConsumer (Revive l))) (consumer_ticket o (Then (Does who (OfConsumer
+        (Revive l))) ∷ older) t n r now) r))
       where
-        by : IsRun o (Then (Does who (Revive l)) ∷ older) → (view o (Then (Does who (Revive l)) ∷ older)).consumers.rows t ≡ Some n →
-            RowFrom o older (Does who (Revive l)) t → Tells o n.seen.number t (Then (Does who (Revive l)) ∷ older)
+        by : IsRun o (Then (Does who (OfConsumer (Revive l))) ∷ older) → (view o (Then (Does who (OfConsumer (Revive l))) ∷ older)).consumers.rows t ≡ Some n →
+            RowFrom o older (Does who (OfConsumer (Revive l))) t → Tells o n.seen.number t (Then (Does who (OfConsumer (Revive l))) ∷ older)
         by r now (IsNone e f) = absurd (none_some (sym f ∙ now))
         by r now (IsMade s k e f how did) =
-            absurd (none_some (sym (none_after (view o older) t (Does who (Revive l)) (λ w x g. absurd cc) e) ∙ f))
+            absurd (none_some (sym (none_after (view o older) t (Does who (OfConsumer (Revive l))) (λ w x g. absurd cc) e) ∙ f))
         by r now (IsKept m e row how did) =
             let same : row.row ≡ n = some_is (sym row.is_it ∙ now) in
-            let seen : n.seen ≡ applied (does_to (view o older) t m (Does who (Revive l))) m.seen = sym (ap (λ (y : Member). y.seen) same) ∙ row.seen in
+            let seen : n.seen ≡ applied (does_to (view o older) t m (Does who (OfConsumer (Revive l)))) m.seen = sym (ap (λ (y : Member). y.seen) same)
+            ∙ row.seen in
             let number : m.seen.number ≡ n.seen.number =
-            sym (ap (λ (s : Seen). s.number) seen ∙ applied_number (does_to (view o older) t m (Does who (Revive l))) m.seen) in
+            sym (ap (λ (s : Seen). s.number) seen ∙ applied_number (does_to (view o older) t m (Does who (OfConsumer (Revive l)))) m.seen) in
             let own : (t == t) ≡ true = eq-eqb t t refl in
-            let d : is_due (applied (subscription_does l (url_at ((view o older).links.live l))) m.seen) ≡ true =
-            sym (ap (λ b. is_due (applied (cond b (subscription_does l (url_at ((view o older).links.live l))) []) m.seen)) own) ∙ sym (ap is_due seen) ∙ due in
-            subst (λ k. Tells o k t (Then (Does who (Revive l)) ∷ older)) number
-            (arises (due_to_plan m.seen.number t) o (Then (Does who (Revive l))) older (revived_due o older t m e who l own d))
+            let d : is_due (applied (deeds_do (Revived l (url_at ((view o older).links.live l)) ∷ []) m) m.seen) ≡ true =
+            sym (ap (λ b. is_due (applied (deeds_do (cond b (Revived l (url_at ((view o older).links.live l)) ∷ []) []) m) m.seen)) own)
+            ∙ sym (ap is_due seen) ∙ due in
+            subst (λ k. Tells o k t (Then (Does who (OfConsumer (Revive l))) ∷ older)) number
+            (arises (due_to_plan m.seen.number t) o (Then (Does who (OfConsumer (Revive l)))) older (revived_due o older t m e who l own d))
 
     told_own : (u : Outcome) (row : Option Plan) (p : Plan) → IsRun o (Then (Told (notice who u)) ∷ log) → v.stand who ≡ row →
         stays_some (told_some row u) ≡ Some p → is_resting p ≡ true → Tells o n.seen.number t (Then (Told (notice who u)) ∷ log)
     told_own u None p run stood h rests = absurd (none_some h)
     told_own u (Some q) p run stood h rests = by (told q u) refl h
       where
-        other : (due_to_plan n.seen.number t ≡ Told (notice who u) → ⊥) → Tells o n.seen.number t log → Tells o n.seen.number t (Then (Told (notice who u)) ∷ log)
+        other : (due_to_plan n.seen.number t ≡ Told (notice who u) → ⊥) → Tells o n.seen.number t log →
+            Tells o n.seen.number t (Then (Told (notice who u)) ∷ log)
         other differs k = left_behind o log n.seen.number t (Told (notice who u)) run differs k
 
         goes : (x : Plan) (action : Action) → told q u ≡ Stays x action → is_resting x ≡ true → Tells o n.seen.number t (Then (Told (notice who u)) ∷ log)
@@ -129,7 +137,7 @@ module _ (once : EndsOnce) (o : Options) (log : List Entry) (t : ℕ) (was : Ten
           | inr z ↦ elim z [
             | inl took ↦ absurd (none_due took.1 (takes_run o log n.seen.number t run.0 q stood took.0))
             | inr lives ↦ elim (revived_run o n.seen.number t log q run.0 stood lives.0 lives.1) [
-              | inl f ↦ (let e : Told (notice who u) ≡ Does who (Revive lives.0) = some_is (sym run.1 ∙ f) in absurd cc)
+              | inl f ↦ (let e : Told (notice who u) ≡ Does who (OfConsumer (Revive lives.0)) = some_is (sym run.1 ∙ f) in absurd cc)
               | inr k ↦
                   other (λ same. (let e : outcome.Word word.Due ≡ outcome.Word word.Lives = ap said same ∙ lives.2 in absurd cc))
                   (lives_due lives.0 k.0 run.0 k.1)
@@ -138,7 +146,7 @@ module _ (once : EndsOnce) (o : Options) (log : List Entry) (t : ℕ) (was : Ten
         ]
           where
             none_due : u ≡ outcome.Word word.NoFlow → Takes o log n.seen.number t → ⊥
-            none_due e (inl f) = let g : Told (notice who u) ≡ Does who TakeFlow = some_is (sym run.1 ∙ f) in cc
+            none_due e (inl f) = let g : Told (notice who u) ≡ Does who (OfConsumer TakeFlow) = some_is (sym run.1 ∙ f) in cc
             none_due e (inr (older, there)) =
                 let f : Some (Told (notice who u)) ≡ Some (Told (notice who (outcome.Word (flow_said (flow_at ((view o older).consumers.rows t)))))) =
                 sym run.1 ∙ ap (λ y. first (agenda o y)) there ∙ told_flow o older n.seen.number t in
@@ -148,7 +156,7 @@ module _ (once : EndsOnce) (o : Options) (log : List Entry) (t : ℕ) (was : Ten
                 took_none o older n.seen.number t n (subst (λ y. (view o y).consumers.rows t ≡ Some n) there is)
                 (flow_is_none (flow_at ((view o older).consumers.rows t)) i) due
 
-        by : (turn : Turn Plan Verdict) → told q u ≡ turn → stays turn ≡ Some p → Tells o n.seen.number t (Then (Told (notice who u)) ∷ log)
+        by : (turn : PlanTransition) → told q u ≡ turn → stays turn ≡ Some p → Tells o n.seen.number t (Then (Told (notice who u)) ∷ log)
         by (Gives verdict) leads k = absurd (none_some k)
         by (Stays x action) leads k = goes x action leads (ap is_resting (some_is k) ∙ rests)
 
@@ -156,10 +164,12 @@ module _ (once : EndsOnce) (o : Options) (log : List Entry) (t : ℕ) (was : Ten
     begins_due : (p : Procedure) → IsRun o (Then (Starts who p) ∷ log) → Tells o n.seen.number t (Then (Starts who p) ∷ log)
     begins_due p run =
         let k : IsMadeBy o log n.seen.number t = begins_made o log n.seen.number t p run in
-        let now : (view o (Then (Answers (Call t) k.verdict) ∷ k.older)).consumers.rows t ≡ Some n = subst (λ y. (view o y).consumers.rows t ≡ Some n) k.there is in
+        let now : (view o (Then (Answers (Call t) k.verdict) ∷ k.older)).consumers.rows t ≡ Some n = subst (λ y. (view o y).consumers.rows t
+        ≡ Some n) k.there is in
         let i = built_due (view o k.older) t k.verdict k.joining n k.made now due in
         left_behind o log n.seen.number t (Starts who p) run (λ same. absurd cc)
-        (subst (λ y. Tells o n.seen.number t y) (sym k.there) (arises (due_to_plan n.seen.number t) o (Then (Answers (Call t) k.verdict)) k.older (inr (inl i))))
+        (subst (λ y. Tells o n.seen.number t y) (sym k.there) (arises (due_to_plan n.seen.number t) o (Then (Answers (Call t) k.verdict)) k.older (inr
+        (inl i))))
 
     -- whatever is done, it is to be told so
     kept_on : (a : Act) (p : Plan) → IsRun o (Then a ∷ log) → (view o (Then a ∷ log)).stand who ≡ Some p → is_resting p ≡ true →

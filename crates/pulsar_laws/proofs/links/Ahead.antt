@@ -3,7 +3,7 @@ use Rattle.std.proofs.Common.{◌≡◌, ◌∙◌, sym, ap, ℕ, ◌-◌, ◌^�
 use Rattle.std.proofs.lemmas.Bool.Decides.{nat_tests}
 use Rattle.std.specs.List.{filter_map, flat_map}
 use Rattle.std.specs.Option.{option_map, option_to_list}
-use Rattle.pulsar_laws.proofs.ActWords.{Act, Action, Alarm, Answers, Ask, Asked, Call, Calls, CheckIdle, Comes, Dials, Does, Drains, Draw, End, Ends, Get, KeepAlive, LinkAct, Makes, Notice, OfTopic, Opens, Overdue, Part, Pings, Reads, CallRefusal, Revive, Rings, Shown, Starts, StopAll, ToLink, Who, lacks_tickets, numbers_from, opens, shares, ticket_of}
+use Rattle.pulsar_laws.proofs.ActWords.{Act, Action, Alarm, Answers, Ask, Asked, Call, Calls, CheckIdle, Comes, Dials, Does, Drains, Draw, End, Ends, Get, KeepAlive, LinkAct, Makes, Notice, OfTopic, Opens, Overdue, Part, Pings, Reads, CallRefusal, Revive, Rings, Shown, Starts, StopAll, ToLink, Who, lacks_tickets, numbers_from, opens, shares, ticket_of, OfConsumer}
 use Rattle.pulsar_laws.proofs.PlanWords.{fails}
 use Rattle.pulsar_laws.proofs.RunWords.{after, at_once, causes, dialed, further, joins, link_got, parts_of, procedure_for, room_of, setup_of, shares_unless, Turned, turned, turned_by, View, why_no_sends}
 use Rattle.pulsar_laws.proofs.LinkWords.{address_key, answer_at, arrival_at, closed_by, closed_consumer, closing, ConnectionError, Exhausted, Fault, got_at, is_asked, is_numbered, over_links, place_of, rings, Seat, seat_asked, seat_got, SendPing, stop_act, tells_asker, told_at, took, took_end, took_some, url_at, Words}
@@ -31,15 +31,16 @@ use Rattle.pulsar_links.specs.LinkRules.{answered_by, dropped, ended_by, lost_wi
 use Rattle.pulsar_links.specs.Seats.{asker_at, askers_left, got_since, ping_left, room_at, seat_read}
 use Rattle.pulsar_producer_table.specs.Asks.{draw_outcome, drawn_by}
 use Rattle.pulsar_producer_table.specs.Producers.{link_at, topic_after}
-use Rattle.pulsar_run.specs.Things.{row_by}
+use Rattle.pulsar_run.specs.Things.{row_after, row_by}
 use Rattle.pulsar_acts.specs.Effects.{effects, retries_on}
 use Rattle.pulsar_acts.specs.Reading.{made_due, tells}
 use Rattle.pulsar_acts.specs.Rules.{breaks_at, failed_on, idle_act, keeps_alive, reads_on, served_on, waiters_of}
-use Rattle.pulsar_acts.specs.View.{addresses_after, alarms_after, alarms_on, base_on, calls_after, consumers_after, consumers_left, consumers_made, joins_as, live_after, pause_for, pause_on, producers_after, room_on, stand_after, started_after}
+use Rattle.pulsar_acts.specs.View.{addresses_after, alarms_after, alarms_on, base_on, calls_after, consumers_after, consumers_left, consumers_listed, member_made, member_of, pause_for, pause_on, producers_after, room_on, stand_after, started_after}
 use Rattle.pulsar_consumer.specs.Topic.{of_raw}
 use Rattle.pulsar_consumer_table.specs.Consumers as consumer
-use Rattle.pulsar_consumer_table.specs.Consumers.{over_rows}
+use Rattle.pulsar_consumer_table.specs.Consumers.{Revived, member_by, over_rows}
 use Rattle.pulsar_consumer_table.specs.Notices.{due_to, heard_at, lost_at, revived_at, word_to}
+use Rattle.pulsar_acts.proofs.Linking.{asked_is, dialed_is, got_row, took_is}
 
 -- an act that reads a link
 abbrev pub is_read : LinkAct → Bool
@@ -128,7 +129,8 @@ module _ (bytes : List ℕ) where
 
   -- A LINK
 
-  link_same : (x : LinkAct) (now : ℕ) (v : Seen) → is_read x ≡ false → ((end : End) → x ≡ Ends end → ⊥) → links.after x now (with v) ≡ with (links.after x now v)
+  link_same : (x : LinkAct) (now : ℕ) (v : Seen) → is_read x ≡ false → ((end : End) → x ≡ Ends end → ⊥) →
+      links.after x now (with v) ≡ with (links.after x now v)
   link_same Opens now v h e = opens_same v.stage (ticked now v)
   link_same Reads now v h e = absurd cc
   link_same (Drains most) now v h e = drained_same most (is_open v.stage) (ticked now v)
@@ -339,9 +341,9 @@ module _ (l : ℕ) (bytes : List ℕ) (v : View) where
       }) k
   does_ruled who (OfTopic n Draw) =
       λ i. record { once = tells who (draw_outcome (room_same n i) (v.producers.topics n)); joined = []; caused = []; more = []; shown = [] }
-  does_ruled who (Revive k) =
+  does_ruled who (OfConsumer (Revive k)) =
       λ i. record {
-        once = at_once v (Does who (Revive k));
+        once = at_once v (Does who (OfConsumer (Revive k)));
         joined = revived_at k (url_same k i) (ticket_of who) (v.consumers.rows (ticket_of who));
         caused = [];
         more = [];
@@ -406,14 +408,8 @@ row_dialed held new true false r h = refl
 row_dialed held new false c r h = refl
 
 module _ (l : ℕ) (bytes later : List ℕ) (v : View) where
-  abbrev then : Act → ℕ → Option Seat → Option Seat
-  then a k r = live_after v.chosen v.addresses v.now v.links.started a k r
-
-  abbrev next : Act → ℕ → Option Seat
-  next a k = then a k (v.links.live k)
-
   pub after_by : (a : Act) →
-      ((k : ℕ) → then a k (row l bytes v k) ≡ cond (k == l) (option_map (holding later) (next a k)) (next a k)) →
+      ((k : ℕ) → (after a (other l bytes v)).links.live k ≡ (other l later (after a v)).links.live k) →
       addresses_after (other l bytes v) a ≡ addresses_after v a → alarms_after (other l bytes v) a ≡ alarms_after v a →
       consumers_after (other l bytes v) a ≡ consumers_after v a → producers_after (other l bytes v) a ≡ producers_after v a →
       after a (other l bytes v) ≡ other l later (after a v)
@@ -437,6 +433,9 @@ module _ (l : ℕ) (bytes : List ℕ) (v : View) where
   abbrev held' : Option Seat → Option Seat
   held' r = option_map (holding bytes) r
 
+  abbrev held_at : ℕ → Option Seat → Option Seat
+  held_at j r = cond (j == l) (held' r) r
+
   took_row : (x : LinkAct) (r : Option Seat) → is_read x ≡ false → took_some x v.now (held' r) ≡ held' (took_some x v.now r)
   took_row x None h = refl
   took_row x (Some seat) h = took_same bytes x v.now seat h
@@ -446,15 +445,15 @@ module _ (l : ℕ) (bytes : List ℕ) (v : View) where
   asked_row who request None = refl
   asked_row who request (Some seat) = ap Some (seat_same bytes who v.now request seat)
 
-  got_row : (r : Option Seat) → option_map (seat_got v.now) (held' r) ≡ held' (option_map (seat_got v.now) r)
-  got_row None = refl
-  got_row (Some seat) = refl
+  got_held : (r : Option Seat) → option_map (seat_got v.now) (held' r) ≡ held' (option_map (seat_got v.now) r)
+  got_held None = refl
+  got_held (Some seat) = refl
 
   got_rows : (link : Option ℕ) (k : ℕ) →
       got_at link v.now k (row l bytes v k)
       ≡ cond (k == l) (held' (got_at link v.now k (v.links.live k))) (got_at link v.now k (v.links.live k))
   got_rows None k = refl
-  got_rows (Some m) k = rows_move held' (option_map (seat_got v.now)) (k == m) (k == l) (v.links.live k) (λ p q. got_row (v.links.live k))
+  got_rows (Some m) k = rows_move held' (option_map (seat_got v.now)) (k == m) (k == l) (v.links.live k) (λ p q. got_held (v.links.live k))
 
   turned_same : (k : ℕ) (x : LinkAct) → apart l bytes v k x ≡ true → turned there (Comes (ToLink k x)) ≡ turned v (Comes (ToLink k x))
   turned_same k Reads h =
@@ -481,10 +480,10 @@ module _ (l : ℕ) (bytes : List ℕ) (v : View) where
       (λ seat. ap (λ c. consumer.all_changed (consumer.loses_by k c) v.consumers) (closed_same bytes end v.now seat.seen)) k
   heard_same k x h = refl
 
-  made_so : (who : Who) (m : Makes) → consumers_made there.links.live who m v.consumers ≡ consumers_made v.links.live who m v.consumers
-  made_so who (makes.Consumer j) = ap (λ url. joins_as who (consumer.member_of (setup_of j) j.link url) v.consumers) (url_same l bytes v j.link)
-  made_so who (makes.RawConsumer k made) = ap (λ url. joins_as who (consumer.member_of (of_raw made) k url) v.consumers) (url_same l bytes v k)
-  made_so who m = refl
+  made_so : (m : Makes) → member_made there.links.live m ≡ member_made v.links.live m
+  made_so (makes.Consumer j) = ap (λ url. Some (consumer.member_of (setup_of j) j.link url)) (url_same l bytes v j.link)
+  made_so (makes.RawConsumer k made) = ap (λ url. Some (consumer.member_of (of_raw made) k url)) (url_same l bytes v k)
+  made_so m = refl
 
   not_both : (k : ℕ) (x : LinkAct) → apart l bytes v k x ≡ true → (k == l) ≡ true → is_read x ≡ false
   not_both k x h e = by (is_read x) (k == l) h e
@@ -497,31 +496,46 @@ module _ (l : ℕ) (bytes : List ℕ) (v : View) where
   pub after_same : (a : Act) → fits l bytes v a ≡ true → after a there ≡ other l bytes (after a v)
   after_same (Comes (ToLink k x)) h =
       after_by l bytes bytes v (Comes (ToLink k x))
-      (λ j. rows_move held' (took_some x v.now) (j == k) (j == l) (v.links.live j)
-      (λ p q. took_row x (v.links.live j) (not_both k x h (both_here j k l p q))))
+      (λ j. took_is there k x j
+      ∙ rows_move held' (took_some x v.now) (j == k) (j == l) (v.links.live j)
+      (λ p q. took_row x (v.links.live j) (not_both k x h (both_here j k l p q)))
+      ∙ ap (held_at j) (sym (took_is v k x j)))
       (λ i. record {
         base = λ key. base_on (turned_same k x h i) key (v.addresses.base key);
         pause = λ m. pause_on (turned_same k x h i) m (v.addresses.pause m);
       }) (ap (λ t. alarms_on v.chosen v.now t v.alarms) (turned_same k x h)) (heard_same k x h) refl
   after_same (Does who (Ask k request)) h =
       after_by l bytes bytes v (Does who (Ask k request))
-      (λ j. rows_move held' (option_map (seat_asked who v.now request)) (j == k) (j == l) (v.links.live j) (λ p q. asked_row who request (v.links.live j)))
+      (λ j. asked_is there who k request j
+      ∙ rows_move held' (option_map (seat_asked who v.now request)) (j == k) (j == l) (v.links.live j) (λ p q. asked_row who request (v.links.live j))
+      ∙ ap (held_at j) (sym (asked_is v who k request j)))
       refl refl
       (ap (λ a. consumer.all_changed (consumer.closes (closed_consumer request) k (is_asked a)) v.consumers) (answer_same l bytes v k request)) refl
   after_same (Does who (Get p)) h =
-      after_by l bytes bytes v (Does who (Get p)) (got_rows (link_got v.addresses (Does who (Get p)))) refl refl refl refl
+      let link : Option ℕ = link_got v.addresses (Does who (Get p)) in
+      after_by l bytes bytes v (Does who (Get p))
+      (λ j. got_row link v.now j (row l bytes v j) ∙ got_rows link j ∙ ap (held_at j) (sym (got_row link v.now j (v.links.live j)))) refl refl refl refl
   after_same (Does who (OfTopic n Draw)) h =
       after_by l bytes bytes v (Does who (OfTopic n Draw)) (λ k. refl) refl refl refl
       (λ i. record v.producers { topics = λ m. row_by topic_after (cond (m == n) (drawn_by (room_same l bytes v n i)) []) (v.producers.topics m) })
-  after_same (Does who (Revive k)) h =
-      after_by l bytes bytes v (Does who (Revive k)) (λ j. refl) refl refl
-      (ap (λ url. consumer.changed (ticket_of who) (consumer.revived k url) v.consumers) (url_same l bytes v k)) refl
+  after_same (Does who (OfConsumer (Revive k))) h =
+      after_by l bytes bytes v (Does who (OfConsumer (Revive k))) (λ j. refl) refl refl
+      (ap
+      (λ url. record v.consumers { rows = λ t. row_by member_by (cond (t == ticket_of who) (Revived k url ∷ []) []) (v.consumers.rows t) })
+      (url_same l bytes v k)) refl
   after_same (Answers who verdict) h =
-      after_by l bytes bytes v (Answers who verdict) (λ k. refl) refl refl (ap (consumers_left who) (made_so who verdict.makes)) refl
+      after_by l bytes bytes v (Answers who verdict) (λ k. refl) refl refl
+      (ap
+      (λ m. record (consumers_left who (consumers_listed who verdict.makes v.consumers)) {
+        rows = λ t. row_after member_by (member_of m who t) false [] (v.consumers.rows t);
+      })
+      (made_so verdict.makes)) refl
   after_same (Dials p starter retries) h =
       after_by l bytes bytes v (Dials p starter retries)
-      (λ j. row_dialed held' (Some (dialed v.chosen v.links.started v.now p)) (j == v.links.started) (j == l) (v.links.live j)
-      (λ a b. never (both_here j l v.links.started b a) h)) refl refl refl refl
+      (λ j. dialed_is there p starter retries j (row l bytes v j)
+      ∙ row_dialed held' (Some (dialed v.chosen v.links.started v.now p)) (j == v.links.started) (j == l) (v.links.live j)
+      (λ a b. never (both_here j l v.links.started b a) h)
+      ∙ ap (held_at j) (sym (dialed_is v p starter retries j (v.links.live j)))) refl refl refl refl
     where
       never : (l == v.links.started) ≡ true → not (l == v.links.started) ≡ true → ⊥
       never e f = by (l == v.links.started) e f

@@ -24,6 +24,7 @@ use Rattle.pulsar_consumer_table.specs.Notices.{heard_at}
 use Rattle.pulsar_acts.specs.Rules.{breaks_at, reads_on, served_on, waiters_of}
 use Rattle.pulsar_acts.specs.View.{alarms_on, base_on, calls_after, pause_on, stand_after}
 use Rattle.pulsar_laws.proofs.links.Ahead.{Ruled, only, ruled}
+use Rattle.pulsar_acts.proofs.Linking.{took_is}
 
 -- it is told the time
 abbrev pub clocked : ℕ → Seat → Seat
@@ -136,8 +137,10 @@ module _ (l : ℕ) where
 
     rows_same : (k : ℕ) → (after R told).links.live k ≡ (after R v).links.live k
     rows_same k =
-        rows_with v.links.live (Some seat) (λ c r. read_on v.now c (on (clocked v.now) c r)) (read_on v.now) live (ap Some (read_clocked v.now seat))
+        took_is told l Reads k
+        ∙ rows_with v.links.live (Some seat) (λ c r. read_on v.now c (on (clocked v.now) c r)) (read_on v.now) live (ap Some (read_clocked v.now seat))
         (λ r. refl) k
+        ∙ sym (took_is v l Reads k)
 
     pub again_after : after R told ≡ after R v
     again_after = λ i. record {
@@ -199,7 +202,7 @@ module _ (l : ℕ) where
         links =
             record {
               started = v.links.started;
-              live = λ k. rows_with v.links.live (Some seat) (read_on v.now) (on (clocked v.now)) live read_same (λ r. refl) k i;
+              live = λ k. (took_is v l Reads k ∙ rows_with v.links.live (Some seat) (read_on v.now) (on (clocked v.now)) live read_same (λ r. refl) k) i;
             };
         addresses = record { base = λ key. base_same key i; pause = λ m. pause_same m i };
         alarms = ap (λ t. alarms_on v.chosen v.now t v.alarms) turned_none i;

@@ -3,9 +3,9 @@ use Rattle.std.proofs.Common.{◌≡◌, ◌⊎◌, inl, inr, ◌∙◌, sym, ap
 use Rattle.std.proofs.lemmas.Bool.{cases_Bool}
 use Rattle.std.proofs.lemmas.Bool.Decides.{nat_tests}
 use Rattle.std.specs.Option.{is_none, option_map}
-use Rattle.pulsar_laws.proofs.ActWords.{Act, Ask, below, Bytes, Comes, Dials, Does, Drains, Ends, Get, LinkAct, Notice, Opens, Part, Pings, Reads, Shown, Told, ToLink}
-use Rattle.pulsar_laws.proofs.RunWords.{after, agenda, arranged, at_once, Begins, begun_live, Chosen, Each, each_append, each_map, Entry, first, first_of, further, is_live, IsRun, live_begun, link_got, Options, put_all, rest, rest_of, rules, Then, turned, turned_by, view, View}
-use Rattle.pulsar_laws.proofs.LinkWords.{arrival_at, ConnectionError, Fault, got_at, is_numbered, Seat, seat_asked, seat_fed, seat_got, SendPing, took_end, took_some, Words}
+use Rattle.pulsar_laws.proofs.ActWords.{Act, below, Bytes, Comes, Dials, Ends, Notice, Part, Reads, Shown, Told, ToLink}
+use Rattle.pulsar_laws.proofs.RunWords.{after, agenda, arranged, at_once, Begins, begun_live, Each, each_append, each_map, Entry, first, first_of, further, is_live, IsRun, live_begun, Options, put_all, rest, rest_of, rules, Then, turned, turned_by, view, View}
+use Rattle.pulsar_laws.proofs.LinkWords.{arrival_at, ConnectionError, Fault, is_numbered, Seat, seat_fed, SendPing, took_some, Words}
 use Rattle.pulsar_frame.specs.Frame.{Front, Short, Refused, Whole, front}
 use Rattle.pulsar_session.specs.declared.states.Stage.{Stage}
 use Rattle.pulsar_session.specs.declared.states.Stage.TheVariants.{Dialing, Handshaking, Ready, Over}
@@ -19,24 +19,27 @@ use Rattle.pulsar_calls.specs.declared.act.End.TheVariants.{Broken}
 use Rattle.pulsar_calls.specs.Order.{effect_below}
 use Rattle.pulsar_calls.specs.Steps.{Step}
 use Rattle.pulsar_links.specs.Links.{arrives}
-use Rattle.pulsar_links.specs.Seats.{Addresses, seat_read}
+use Rattle.pulsar_links.specs.Seats.{seat_read}
 use Rattle.pulsar_consumer_table.specs.Consumers as consumer
 use Rattle.pulsar_acts.specs.Effects.{effects}
 use Rattle.pulsar_acts.specs.Rules.{breaks_at, reads_on}
 use Rattle.pulsar_acts.specs.Run.{Rests, steps}
-use Rattle.pulsar_acts.specs.View.{alarms_on, base_on, is_at, live_after, pause_on}
+use Rattle.pulsar_acts.specs.View.{alarms_on, base_on, is_at, pause_on, link_gone}
 use Rattle.pulsar_client.proofs.Raising.{IsRaised, raises}
 use Rattle.pulsar_run.specs.Run.{in_order, only}
 use Rattle.pulsar_laws.specs.Laws.{AreActs}
-use Rattle.pulsar_laws.specs.LinkLaws.{PiecesDontMatter, end_in, fed, is_end}
+use Rattle.pulsar_laws.specs.LinkLaws.{PiecesDontMatter, end_in, fed}
 use Rattle.pulsar_laws.proofs.Cases.{none_some, some_is}
 use Rattle.pulsar_laws.proofs.calls.Ticketed.{older_run}
 use Rattle.pulsar_laws.proofs.links.Ahead.{after_by, after_same, came_same, fits, holding, is_read, other, read_ruled, ruled, ruled_same, seat_read_same, taken_open}
 use Rattle.pulsar_laws.proofs.links.Ahead as ahead
 use Rattle.pulsar_laws.proofs.links.Clocked.{again_after, again_ruled, clocked, moved, none_after, none_ruled, on, own_row, read_on, rows_with, turned_as}
-use Rattle.pulsar_laws.proofs.links.Ending.{ended_so, started, up}
+use Rattle.pulsar_laws.proofs.links.Ending.{ended_so, started, up, end_of}
 use Rattle.pulsar_laws.proofs.links.Onward.{Follows, Upto, acts_done, done_on, follows, rests_below, rests_on, steps_on, upon, upto}
 use Rattle.pulsar_laws.proofs.links.Unread.{came_short, drawn_stage, moved_stage, none_parts, nothing_came, short_taken}
+use Rattle.pulsar_links.specs.Asks.{Deed, IsAsked, IsClosed, IsDrained, IsFed, IsGot, IsOpened, IsPinged, IsRead, seat_by}
+use Rattle.pulsar_acts.proofs.Linking.{fed_is as begun_is, took_is}
+use Rattle.pulsar_laws.proofs.links.Rows.{CameFrom, after_holds}
 
 -- READING COMES BY PARTS ALONE
 
@@ -104,15 +107,6 @@ module _ (l : ℕ) where
 abbrev Opened : Option Seat → Type 0
 Opened row = (seat : Seat) → row ≡ Some seat → is_open seat.seen.stage ≡ true
 
-open_map : (f : Seat → Seat) (row : Option Seat) → ((s : Seat) → is_open s.seen.stage ≡ true → is_open (f s).seen.stage ≡ true) → Opened row →
-    Opened (option_map f row)
-open_map f None k h seat e = absurd (none_some e)
-open_map f (Some r) k h seat e = ap (λ (s : Seat). is_open s.seen.stage) (sym (some_is e)) ∙ k r (h r refl)
-
-open_either : (b : Bool) (x y : Option Seat) → Opened x → Opened y → Opened (cond b x y)
-open_either true x y p q = p
-open_either false x y p q = q
-
 opens_open : (stage : Stage) (v : Seen) → v.stage ≡ stage → is_open stage ≡ true → is_open (opens_in stage v).stage ≡ true
 opens_open Dialing v e h = absurd cc
 opens_open Handshaking v e h = ap is_open e
@@ -131,42 +125,25 @@ drained_stage : (most : ℕ) (b : Bool) (v : Seen) → (cond b (moved_up v.line 
 drained_stage most true v = moved_stage v.line (record v { unwritten = drop most v.unwritten })
 drained_stage most false v = refl
 
-open_took : (y : LinkAct) (now : ℕ) (row : Option Seat) → is_read y ≡ false → Opened row → Opened (took_some y now row)
-open_took y now None n h seat e = absurd (none_some e)
-open_took Reads now (Some r) n h seat e = absurd cc
-open_took Opens now (Some r) n h seat e =
-    ap (λ (s : Seat). is_open s.seen.stage) (sym (some_is e)) ∙ opens_open r.seen.stage (ticked now r.seen) refl (h r refl)
-open_took (Drains most) now (Some r) n h seat e =
-    ap (λ (s : Seat). is_open s.seen.stage) (sym (some_is e)) ∙ ap is_open (drained_stage most (is_open r.seen.stage) (ticked now r.seen)) ∙ h r refl
-open_took Pings now (Some r) n h seat e =
-    ap (λ (s : Seat). is_open s.seen.stage) (sym (some_is e)) ∙ ap is_open (asked_stage now SendPing r.seen) ∙ h r refl
-open_took (Ends end) now (Some r) n h seat e = by _ e
-  where
-    by : (cause : Option Fault) → took_end cause r ≡ Some seat → is_open seat.seen.stage ≡ true
-    by None f = h seat f
-    by (Some cause) f = absurd (none_some f)
-
-open_got : (link : Option ℕ) (now l : ℕ) (row : Option Seat) → Opened row → Opened (got_at link now l row)
-open_got None now l row h = h
-open_got (Some k) now l row h = open_either (l == k) (option_map (seat_got now) row) row (open_map (seat_got now) row (λ s e. e) h) h
-
 below_next : (l n : ℕ) → nat_lt l n ≡ true → (l == n) ≡ false
 below_next l n h = grind (arith, nat_tests)
 
-open_after : (o : Chosen) (known : Addresses) (now n : ℕ) (x : Act) (l : ℕ) (row : Option Seat) → is_reading x ≡ false → nat_lt l n ≡ true → Opened row →
-    Opened (live_after o known now n x l row)
-open_after o known now n (Comes (ToLink k Reads)) l row r lt h = absurd cc
-open_after o known now n (Comes (ToLink k y)) l row r lt h = open_either (l == k) (took_some y now row) row (open_took y now row (plain y r) h) h
-  where
-    plain : (y : LinkAct) → is_reading (Comes (ToLink k y)) ≡ false → is_read y ≡ false
-    plain Reads e = absurd cc
-    plain _ e = refl
-open_after o known now n (Does who (Ask k words)) l row r lt h =
-    open_either (l == k) (option_map (seat_asked who now words) row) row
-    (open_map (seat_asked who now words) row (λ s e. ap is_open (asked_stage now words s.seen) ∙ e) h) h
-open_after o known now n (Does who (Get p)) l row r lt h = open_got (link_got known (Does who (Get p))) now l row h
-open_after o known now n (Dials p starter retries) l row r lt h = rw (below_next l n lt) h
-open_after o known now n x l row r lt h = h
+open_by : (v : View) (l : ℕ) (a : Act) (d : Deed) → CameFrom v l a d → is_reading a ≡ false → (seat : Seat) → is_open seat.seen.stage ≡ true →
+    is_open (seat_by d seat).seen.stage ≡ true
+open_by v l a (IsOpened now) c n seat h = opens_open seat.seen.stage (ticked now seat.seen) refl h
+open_by v l a (IsRead now) c n seat h = (let f : true ≡ false = sym (ap is_reading c.0) ∙ n in absurd cc)
+open_by v l a (IsDrained most now) c n seat h = ap is_open (drained_stage most (is_open seat.seen.stage) (ticked now seat.seen)) ∙ h
+open_by v l a (IsPinged now) c n seat h = ap is_open (asked_stage now SendPing seat.seen) ∙ h
+open_by v l a (IsAsked who now request) c n seat h = ap is_open (asked_stage now request seat.seen) ∙ h
+open_by v l a (IsGot now) c n seat h = h
+open_by v l a (IsFed piece) c n seat h = absurd c
+open_by v l a (IsClosed cause) c n seat h = absurd c
+
+open_after : (v : View) (a : Act) (l : ℕ) → is_reading a ≡ false → nat_lt l v.links.started ≡ true → Opened (v.links.live l) → Opened ((after a v).links.live l)
+open_after v a l n lt h =
+    after_holds Opened v l a (λ new d. (let f : true ≡ false = sym d.is_next ∙ below_next l v.links.started lt in absurd cc))
+    (λ end seat e. absurd (none_some e))
+    (λ d c old e k seat is. subst (λ (t : Seat). is_open t.seen.stage ≡ true) (some_is is) (open_by v l a d c n old (k old refl))) h
 
 pub fits_so : (l : ℕ) (bytes : List ℕ) (v : View) (x : Act) → is_reading x ≡ false → nat_lt l v.links.started ≡ true → fits l bytes v x ≡ true
 fits_so l bytes v (Comes (ToLink k Reads)) r lt = absurd cc
@@ -178,13 +155,11 @@ started_more (Dials p starter retries) l v h = up l v.links.started h
 started_more a l v h = h
 
 end_more : (o : Options) (l : ℕ) (x : Act) (log : List Entry) → end_in o l log ≡ true → end_in o l (Then x ∷ log) ≡ true
-end_more o l (Comes (ToLink k y)) log h = by (l == k) (is_end y (view o log).now ((view o log).links.live l))
+end_more o l x log h = end_of o l log x ∙ ap (λ b. link_gone (view o log) l x || b) h ∙ or_true (link_gone (view o log) l x)
   where
-    by : (b e : Bool) → cond b (e || end_in o l log) (end_in o l log) ≡ true
-    by true true = refl
-    by true false = h
-    by false e = h
-end_more o l x log h = h
+    or_true : (b : Bool) → (b || true) ≡ true
+    or_true true = refl
+    or_true false = refl
 
 -- WHERE OTHER BYTES ARE THE SAME
 
@@ -322,7 +297,7 @@ module _ (o : Options) (l : ℕ) (a b : List ℕ) (older : List Entry) where
       seat = seat;
       row = e;
       opened =
-          open_after v.chosen v.addresses v.now v.links.started x l (v.links.live l) n lt
+          open_after v x l n lt
           (λ s f. ap (λ (t : Seat). is_open t.seen.stage) (some_is (sym f ∙ r.row)) ∙ r.opened) seat e;
       sees = seen_then ∙ ap (λ u. other l (u ++ b) (after x v)) (sym (unread_same seat e));
       parts_left =
@@ -345,14 +320,15 @@ module _ (o : Options) (l : ℕ) (a b : List ℕ) (older : List Entry) where
 
     last : rest (agenda o (acts ++ two)) ≡ only []
     last =
-        last_read l (agenda o (acts ++ two)).now (agenda o (acts ++ two)).here (agenda o (acts ++ two)).behind (agenda o (acts ++ two)).parts r.quiet r.parts_left
+        last_read l (agenda o (acts ++ two)).now (agenda o (acts ++ two)).here (agenda o (acts ++ two)).behind (agenda o
+        (acts ++ two)).parts r.quiet r.parts_left
         (ap first (sym k.left) ∙ h)
 
     there_row : (other l all v').links.live l ≡ Some (holding all r.seat)
     there_row = own_row l (option_map (holding all) (v'.links.live l)) (v'.links.live l) ∙ ap (option_map (holding all)) r.row
 
     own_next : (after (R l) v').links.live l ≡ Some (seat_read v'.now r.seat)
-    own_next = own_row l (took_some Reads v'.now (v'.links.live l)) (v'.links.live l) ∙ ap (took_some Reads v'.now) r.row
+    own_next = took_is v' l Reads l ∙ own_row l (took_some Reads v'.now (v'.links.live l)) (v'.links.live l) ∙ ap (took_some Reads v'.now) r.row
 
     -- a frame is there
     module _ (is_here : is_there (front r.seat.seen.unread) ≡ true) where
@@ -378,8 +354,10 @@ module _ (o : Options) (l : ℕ) (a b : List ℕ) (older : List Entry) where
 
       row_read : (j : ℕ) → (after (R l) (other l all v')).links.live j ≡ (other l left_over (after (R l) v')).links.live j
       row_read j =
-          rows_with l v'.links.live (Some r.seat) (λ c row. read_on v'.now c (on (holding all) c row))
+          took_is (other l all v') l Reads j
+          ∙ rows_with l v'.links.live (Some r.seat) (λ c row. read_on v'.now c (on (holding all) c row))
           (λ c row. on (holding left_over) c (read_on v'.now c row)) r.row (ap Some (seat_read_same b v' l r.seat r.opened is_here)) (λ row. refl) j
+          ∙ ap (on (holding left_over) (j == l)) (sym (took_is v' l Reads j))
 
       seen_read : view o (Then (R l) ∷ acts ++ one) ≡ other l left_over (after (R l) v')
       seen_read =
@@ -476,7 +454,8 @@ module _ (o : Options) (l : ℕ) (a b : List ℕ) (older : List Entry) where
 
       fed_row : (j : ℕ) → live_begun (Bytes l b) j ((moved l (clocked v'.now) v').links.live j) ≡ (moved l (clocked v'.now) w).links.live j
       fed_row j =
-          rows_with l v'.links.live (Some r.seat) (λ c row. on (seat_fed b) c (on (clocked v'.now) c row))
+          begun_is l b j ((moved l (clocked v'.now) v').links.live j)
+          ∙ rows_with l v'.links.live (Some r.seat) (λ c row. on (seat_fed b) c (on (clocked v'.now) c row))
           (λ c row. on (clocked v'.now) c (on (holding all) c row)) r.row (ap Some fed_seat) (λ row. refl) j
 
       then_seen : view o then_log ≡ moved l (clocked v'.now) w
@@ -540,7 +519,8 @@ module _ (o : Options) (l : ℕ) (a b : List ℕ) (older : List Entry) where
       subst (λ z. Phase (Then z ∷ acts)) (sym same)
       (gone (both_on y acts k (h ∙ ap Some same) (ap (λ w. ruled w y) r.sees ∙ ruled_same l r.bytes v y refl))
       (gone_now (Then y ∷ acts) lt
-      (own_row l (took_some (Ends (Broken r.cause)) v.now (v.links.live l)) (v.links.live l)
+      (took_is v l (Ends (Broken r.cause)) l
+      ∙ own_row l (took_some (Ends (Broken r.cause)) v.now (v.links.live l)) (v.links.live l)
       ∙ ap (took_some (Ends (Broken r.cause)) v.now) r.row) r.bytes (ap (after y) r.sees ∙ after_same l r.bytes v y refl)))
 
   more_done : (acts before since : List Entry) (x : Act) (p : List Entry) → done_on o acts one ≡ done_on o before two ++ done_on o since p →
@@ -587,7 +567,9 @@ module _ (o : Options) (l : ℕ) (a b : List ℕ) (older : List Entry) where
     opens_so : (seat : Seat) → v0.links.live l ≡ Some seat → is_open seat.seen.stage ≡ true → Reading []
     opens_so seat e opened = record {
       seat = seat_fed a seat;
-      row = ap (λ (v : View). v.links.live l) began ∙ own_row l (option_map (seat_fed a) (v0.links.live l)) (v0.links.live l) ∙ ap (option_map (seat_fed a)) e;
+      row =
+          ap (λ (v : View). v.links.live l) began ∙ begun_is l a l (v0.links.live l)
+          ∙ own_row l (option_map (seat_fed a) (v0.links.live l)) (v0.links.live l) ∙ ap (option_map (seat_fed a)) e;
       opened = ap (λ (s : Seen). is_open s.stage) (fed_is a) ∙ opened;
       sees =
           ap (λ c. cond c (begun_live (Bytes l (a ++ b)) v0) v0) live ∙ (λ i. record v0 { links = record { started = v0.links.started; live = λ k. rows k i } })
@@ -616,8 +598,10 @@ module _ (o : Options) (l : ℕ) (a b : List ℕ) (older : List Entry) where
 
         rows : (k : ℕ) → live_begun (Bytes l (a ++ b)) k (v0.links.live k) ≡ (other l bytes' (begun_live (Bytes l a) v0)).links.live k
         rows k =
-            rows_with l v0.links.live (Some seat) (on (seat_fed (a ++ b))) (λ c row. on (holding bytes') c (on (seat_fed a) c row)) e (ap Some fed_both)
+            begun_is l (a ++ b) k (v0.links.live k)
+            ∙ rows_with l v0.links.live (Some seat) (on (seat_fed (a ++ b))) (λ c row. on (holding bytes') c (on (seat_fed a) c row)) e (ap Some fed_both)
             (λ row. refl) k
+            ∙ ap (on (holding bytes') (k == l)) (sym (begun_is l a k (v0.links.live k)))
 
     begin_at : (row : Option Seat) → v0.links.live l ≡ row → Phase []
     begin_at None e = shut both_begin (record { none = refl; shut = ap (is_at is_open) e })
@@ -734,5 +718,11 @@ pieces_dont_matter_lem o newer older l a b es whole =
       first,
       second,
       n.done ∙ ap (arranged effect_below) k.done,
-      record { log = n.xs ++ q; run = f.run; rests = rests_on o n.xs (n.acts ++ one) q f rests; same = ◌∙◌ {b = since ++ cut (steps o n.old)} whole_is (sym all) },
+      record {
+        log = n.xs ++ q;
+        run = f.run;
+        rests = rests_on o n.xs (n.acts ++ one) q f rests;
+        same = ◌∙◌ {b = since ++ cut (steps o n.old)} whole_is
+            (sym all);
+      },
     )

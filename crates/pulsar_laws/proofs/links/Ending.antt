@@ -1,16 +1,16 @@
 -- A link has ended exactly where an end of it stands in the log, and a tick ends each link that is due.
-use Rattle.std.proofs.Common.{◌≡◌, ◌∙◌, sym, ap, ℕ, ◌+◌, ◌≤◌, ◌==◌, ◌&&◌, ◌||◌, List, [], ◌∷◌, refl, arith, map, Bool, true, false, cond, nat_le, nat_lt, Option, Some, None, inl, inr}
+use Rattle.std.proofs.Common.{◌≡◌, ◌∙◌, sym, ap, ℕ, ◌+◌, ◌≤◌, ◌==◌, ◌&&◌, ◌||◌, List, [], ◌∷◌, refl, arith, map, Bool, true, false, cond, nat_le, nat_lt, Option, Some, None, inl, inr, ◌⊎◌}
 use Rattle.std.proofs.lemmas.Bool.{cases_Bool}
 use Rattle.std.proofs.lemmas.Bool.Decides.{nat_tests}
-use Rattle.std.specs.Option.{is_none, is_some, option_map}
-use Rattle.pulsar_laws.proofs.ActWords.{Ask, Bytes, Comes, Dials, Does, Ends, Get, Heard, LinkAct, numbers_from, Overdue, Part, Rings, ToLink}
-use Rattle.pulsar_laws.proofs.RunWords.{Begins, begun_same, dialed, Entry, In, is_live, link_got, live_begun, Options, parts, Then, View, view}
-use Rattle.pulsar_laws.proofs.LinkWords.{closed_by, Fault, got_at, over_links, Seat, seat_asked, seat_fed, seat_got, took_end, took_some}
+use Rattle.std.specs.Option.{is_none, is_some}
+use Rattle.pulsar_laws.proofs.ActWords.{Comes, Dials, Ends, LinkAct, numbers_from, Overdue, Part, Rings, ToLink, Act}
+use Rattle.pulsar_laws.proofs.RunWords.{Begins, begun_same, dialed, Entry, In, is_live, Options, parts, Then, View, view}
+use Rattle.pulsar_laws.proofs.LinkWords.{over_links, Seat}
 use Rattle.pulsar_session.specs.Link.{due}
 use Rattle.pulsar_calls.specs.Content.{Ticked}
 use Rattle.pulsar_links.specs.Alarms.{ringing}
 use Rattle.pulsar_links.specs.LinkRules.{due_part, on_link}
-use Rattle.pulsar_links.specs.Seats.{Links, has_ended}
+use Rattle.pulsar_links.specs.Seats.{Links, has_ended, closing}
 use Rattle.pulsar_laws.specs.Laws.{dialed_with}
 use Rattle.pulsar_laws.specs.LinkLaws.{DueLinksEnd, EndedIs, end_in, is_end}
 use Rattle.pulsar_laws.proofs.Cases.{none_some}
@@ -18,6 +18,12 @@ use Rattle.pulsar_laws.proofs.Lists.{in_left, into_flat}
 use Rattle.pulsar_laws.proofs.calls.Done.{all_is_done_lem}
 use Rattle.pulsar_laws.proofs.calls.Stopping.{in_numbers}
 use Rattle.pulsar_laws.proofs.links.Alone.{alone}
+use Rattle.pulsar_laws.proofs.links.Rows.{gone_by}
+use Rattle.pulsar_run.specs.Things.{row_after, row_by}
+use Rattle.pulsar_acts.specs.View.{link_acts, link_gone, link_heard}
+use Rattle.pulsar_links.specs.Asks as of_link
+use Rattle.pulsar_links.specs.Asks.{Deed, seat_by}
+use Rattle.pulsar_calls.specs.declared.act.LinkAct.TheVariants.{Opens, Reads, Drains, Pings}
 
 -- A LINK THAT WAS NOT STARTED
 
@@ -45,46 +51,19 @@ unborn o log l (Some seat) h e = absurd (none_some (sym (undialed o log l h) ∙
 
 -- WHAT LEAVES A LINK THERE
 
-none_map : (f : Seat → Seat) (row : Option Seat) → is_none (option_map f row) ≡ is_none row
-none_map f None = refl
-none_map f (Some r) = refl
+none_by : (es : List Deed) (row : Option Seat) → is_none (row_by seat_by es row) ≡ is_none row
+none_by [] row = refl
+none_by (e ∷ es) None = refl
+none_by (e ∷ es) (Some r) = refl
 
-none_either : (b : Bool) (f : Seat → Seat) (row : Option Seat) → is_none (cond b (option_map f row) row) ≡ is_none row
-none_either true f row = none_map f row
-none_either false f row = refl
-
-none_begun : (e : Heard) (l : ℕ) (row : Option Seat) → is_none (live_begun e l row) ≡ is_none row
-none_begun (Bytes k piece) l row = none_either (l == k) (seat_fed piece) row
-none_begun e l row = refl
-
-none_got : (link : Option ℕ) (now l : ℕ) (row : Option Seat) → is_none (got_at link now l row) ≡ is_none row
-none_got None now l row = refl
-none_got (Some k) now l row = none_either (l == k) (seat_got now) row
-
--- WHAT ENDS IT
-
-none_end : (cause : Option Fault) (seat : Seat) → is_none (took_end cause seat) ≡ is_some cause
-none_end None seat = refl
-none_end (Some cause) seat = refl
-
-none_took : (x : LinkAct) (now : ℕ) (row : Option Seat) → is_none (took_some x now row) ≡ (is_end x now row || is_none row)
-none_took (Ends end) now None = refl
-none_took (Ends end) now (Some seat) = none_end (closed_by end now seat.seen) seat ∙ sym (or_none (is_some (closed_by end now seat.seen)))
-  where
-    or_none : (b : Bool) → (b || false) ≡ b
-    or_none true = refl
-    or_none false = refl
-none_took x now None = refl
-none_took x now (Some seat) = refl
+none_gone : (g : Bool) (es : List Deed) (row : Option Seat) → is_none (row_after seat_by None g es row) ≡ (g || is_none row)
+none_gone true es row = refl
+none_gone false es row = none_by es row
 
 -- of a link that was started
 started_so : (b e n : Bool) → (b ≡ false → e ≡ false) → (b && (e || n)) ≡ (e || (b && n))
 started_so true e n h = refl
 started_so false e n h = sym (ap (λ x. x || false) (h refl))
-
-no_end : (x : LinkAct) (now : ℕ) → is_end x now None ≡ false
-no_end (Ends end) now = refl
-no_end x now = refl
 
 fresh_ended : (l n : ℕ) → (l == n) ≡ true → (nat_lt l (n + 1) && false) ≡ (nat_lt l n && false)
 fresh_ended l n e = either (nat_lt l (n + 1)) (nat_lt l n)
@@ -115,6 +94,25 @@ none_before l = grind (arith, nat_tests)
 
 -- ALONG A LOG
 
+same_end : (x : LinkAct) (now : ℕ) (row : Option Seat) → of_link.is_end x now row ≡ is_end x now row
+same_end Opens now row = refl
+same_end Reads now row = refl
+same_end (Drains most) now row = refl
+same_end Pings now row = refl
+same_end (Ends end) now row = refl
+
+either_end : (is_own e f r : Bool) → e ≡ f → cond is_own (f || r) r ≡ (cond is_own e false || r)
+either_end true e f r s = ap (λ b. b || r) (sym s)
+either_end false e f r s = refl
+
+-- an end stands in the log where the view lets the link go
+pub end_of : (o : Options) (l : ℕ) (log : List Entry) (a : Act) → end_in o l (Then a ∷ log) ≡ (link_gone (view o log) l a || end_in o l log)
+end_of o l log (Comes (ToLink k x)) =
+    let now : ℕ = (view o log).now in
+    let row : Option Seat = (view o log).links.live l in
+    either_end (l == k) (of_link.is_end x now row) (is_end x now row) (end_in o l log) (same_end x now row)
+end_of o l log a = refl
+
 module _ (o : Options) (l : ℕ) where
   abbrev n : List Entry → ℕ
   n log = (view o log).links.started
@@ -125,28 +123,34 @@ module _ (o : Options) (l : ℕ) where
   abbrev So : List Entry → Type 0
   So log = has_ended l (view o log).links ≡ end_in o l log
 
-  to_link : (log : List Entry) (k : ℕ) (x : LinkAct) → So log → So (Then (Comes (ToLink k x)) ∷ log)
-  to_link log k x so =
-      let now : ℕ = (view o log).now in
-      let end : Bool = is_end x now (row log) in
-      elim (cases_Bool (l == k)) [
-        | inl e ↦
-            rw e (ap (λ b. nat_lt l (n log) && b) (none_took x now (row log))
-            ∙ started_so (nat_lt l (n log)) end (is_none (row log)) (λ h. ap (is_end x now) (unborn o log l (row log) h refl) ∙ no_end x now)
-            ∙ ap (λ b. end || b) so)
-        | inr e ↦ rw e so
-      ]
+  stays : (log : List Entry) (a : Act) → So log →
+      (nat_lt l (n log) && is_none (row_after seat_by None (link_gone (view o log) l a) (link_acts (view o log) l a) (row log)))
+      ≡ (link_gone (view o log) l a || end_in o l log)
+  stays log a so =
+      let g : Bool = link_gone (view o log) l a in
+      ap (λ b. nat_lt l (n log) && b) (none_gone g (link_acts (view o log) l a) (row log))
+      ∙ started_so (nat_lt l (n log)) g (is_none (row log)) (not_gone (cases_Bool g)) ∙ ap (λ b. g || b) so
+    where
+      not_gone : ((link_gone (view o log) l a ≡ true) ⊎ (link_gone (view o log) l a ≡ false)) → nat_lt l (n log) ≡ false →
+          link_gone (view o log) l a ≡ false
+      not_gone (inr e) h = e
+      not_gone (inl e) h =
+          let k = gone_by (view o log) l a e in
+          let none : row log ≡ None = unborn o log l (row log) h refl in
+          let f : false ≡ true = ap (λ r. is_some (closing k.end (view o log).now r)) (sym none) ∙ k.closes in
+          absurd cc
 
-  dials : (log : List Entry) (new : Seat) → So log → (nat_lt l (n log + 1) && is_none (cond (l == n log) (Some new) (row log))) ≡ end_in o l log
+  dials : (log : List Entry) (new : Seat) → So log →
+      (nat_lt l (n log + 1) && is_none (row_after seat_by (cond (l == n log) (Some new) None) false [] (row log))) ≡ end_in o l log
   dials log new so = elim (cases_Bool (l == n log)) [
     | inl e ↦
-        ap (λ b. nat_lt l (n log + 1) && is_none (cond b (Some new) (row log))) e
+        ap (λ b. nat_lt l (n log + 1) && is_none (row_after seat_by (cond b (Some new) None) false [] (row log))) e
         ∙ fresh_ended l (n log) e
         ∙ unstarted l (n log) false e
         ∙ sym (unstarted l (n log) (is_none (row log)) e)
         ∙ so
     | inr e ↦
-        ap (λ b. nat_lt l (n log + 1) && is_none (cond b (Some new) (row log))) e
+        ap (λ b. nat_lt l (n log + 1) && is_none (row_after seat_by (cond b (Some new) None) false [] (row log))) e
         ∙ ap (λ b. b && is_none (row log)) (next_started l (n log) e)
         ∙ so
   ]
@@ -154,14 +158,9 @@ module _ (o : Options) (l : ℕ) where
   pub ended_so : (log : List Entry) → So log
   ended_so [] = ap (λ b. b && true) (none_before l)
   ended_so (Begins e ∷ log) =
-      begun_same (λ v. has_ended l v.links) e (view o log) (ap (λ b. nat_lt l (n log) && b) (none_begun e l (row log))) ∙ ended_so log
-  ended_so (Then (Comes (ToLink k x)) ∷ log) = to_link log k x (ended_so log)
-  ended_so (Then (Does who (Ask k request)) ∷ log) =
-      ap (λ b. nat_lt l (n log) && b) (none_either (l == k) (seat_asked who (view o log).now request) (row log)) ∙ ended_so log
-  ended_so (Then (Does who (Get p)) ∷ log) =
-      ap (λ b. nat_lt l (n log) && b) (none_got (link_got (view o log).addresses (Does who (Get p))) (view o log).now l (row log)) ∙ ended_so log
+      begun_same (λ v. has_ended l v.links) e (view o log) (ap (λ b. nat_lt l (n log) && b) (none_by (link_heard l e) (row log))) ∙ ended_so log
   ended_so (Then (Dials p starter retries) ∷ log) = dials log (dialed (view o log).chosen (view o log).links.started (view o log).now p) (ended_so log)
-  ended_so (Then a ∷ log) = ended_so log
+  ended_so (Then a ∷ log) = stays log a (ended_so log) ∙ sym (end_of o l log a)
 
 pub ended_is_lem : EndedIs
 ended_is_lem o log l = ended_so o l log

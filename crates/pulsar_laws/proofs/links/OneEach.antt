@@ -5,9 +5,9 @@ use Rattle.std.proofs.lemmas.Slice.Eq.{bytes_eq-Decides}
 use Rattle.std.specs.List.{list_any}
 use Rattle.std.specs.Option.{option_map}
 use Rattle.std.specs.Str.{bytes_eq}
-use Rattle.pulsar_laws.proofs.ActWords.{Act, Alarm, Arrival, Ask, Batch, Bytes, CheckIdle, Comes, Dials, Does, Drains, Ends, Get, Heard, KeepAlive, LinkAct, Opens, Pings, Reads, Retry, Rings, StopAll, ToLink, Wake, Who}
-use Rattle.pulsar_laws.proofs.RunWords.{after, Begins, begun, begun_live, Chosen, dialed, Entry, is_live, IsRun, link_got, live_begun, Options, Then, Turned, turned, turned_by, view, View}
-use Rattle.pulsar_laws.proofs.LinkWords.{address_key, Base, Becomes, Change, closed_by, Fault, got_at, is_reachable, IsOver, Nobody, Pause, Pauses, Place, Remains, rings, Runs, Seat, seat_asked, seat_fed, seat_got, Series, Serves, took, took_end, took_some, Words}
+use Rattle.pulsar_laws.proofs.ActWords.{Act, Alarm, Arrival, Ask, Batch, CheckIdle, Comes, Dials, Does, Drains, Ends, Get, Heard, KeepAlive, LinkAct, Opens, Pings, Reads, Retry, Rings, StopAll, ToLink, Wake, Who}
+use Rattle.pulsar_laws.proofs.RunWords.{after, Begins, begun, Chosen, dialed, Entry, IsRun, Options, Then, Turned, turned, turned_by, view, View, begun_same}
+use Rattle.pulsar_laws.proofs.LinkWords.{address_key, Base, Becomes, Change, closed_by, Fault, is_reachable, IsOver, Nobody, Pause, Pauses, Place, Remains, rings, Runs, Seat, Series, Serves, took, took_end, took_some, Words}
 use Rattle.pulsar_calls.specs.declared.act.Arrival.TheVariants.{Readied}
 use Rattle.pulsar_laws.proofs.Cases.{none_some, some_is}
 use Rattle.pulsar_laws.specs.Laws.{base_of}
@@ -15,6 +15,10 @@ use Rattle.pulsar_laws.specs.AddressLaws.{Attempted, AttemptsFollow, Begun, OneL
 use Rattle.pulsar_links.specs.Links.{arrival, change_at, change_by, change_in}
 use Rattle.pulsar_acts.specs.View.{base_on, is_to_follow, pause_for, pause_on, pause_rung, waits_for, waits_on}
 use Rattle.pulsar_links.specs.Seats.{base_turned, is_for, may_retry, nobody, pause_put, pause_with}
+use Rattle.pulsar_links.specs.Asks.{Deed, IsFed, seat_by}
+use Rattle.pulsar_acts.proofs.Linking.{took_is}
+use Rattle.pulsar_laws.proofs.links.Rows.{after_holds, begun_holds}
+use Rattle.pulsar_laws.proofs.links.Attempts.{is_dial}
 
 abbrev pub series_at : View → List ℕ → Series
 series_at v key = (v.addresses.base key).series
@@ -59,6 +63,24 @@ still v w s k = record {
       ∙ ap (λ p. names_link l (series_at v (address_key p))) (sym old.2)
       ∙ k.links l old.0 old.1;
 }
+
+-- A LINK THAT STAYS is for the same address
+
+abbrev Kept : Option Seat → Option Seat → Type 0
+Kept row later = (seat : Seat) → later ≡ Some seat → (old : Seat) × (row ≡ Some old) × (old.address ≡ seat.address)
+
+address_by : (d : Deed) (seat : Seat) → (seat_by d seat).address ≡ seat.address
+address_by (IsFed piece) seat = refl
+address_by _ seat = refl
+
+some_kept : (d : Deed) (row : Option Seat) (old : Seat) → Kept row (Some old) → Kept row (Some (seat_by d old))
+some_kept d row old k seat h =
+    let was = k old refl in (was.0, was.1, was.2 ∙ sym (address_by d old) ∙ ap (λ (s : Seat). s.address) (some_is h))
+
+after_kept : (v : View) (a : Act) (l : ℕ) → is_dial a ≡ false → Kept (v.links.live l) ((after a v).links.live l)
+after_kept v a l n =
+    after_holds (Kept (v.links.live l)) v l a (λ new d. (let f : true ≡ false = sym (ap is_dial d.is_act) ∙ n in absurd cc))
+    (λ end seat h. absurd (none_some h)) (λ d c old e k. some_kept d (v.links.live l) old k) (λ seat h. (seat, h, refl))
 
 -- AN ACT OF A LINK
 
@@ -154,12 +176,7 @@ module _ (v : View) (k : ℕ) (x : LinkAct) where
   none_turned e = record {
     series = λ key. ap (λ t. (base_on t key (v.addresses.base key)).series) no_turn;
     pause = λ l p h. sym (ap (λ t. pause_on t l (v.addresses.pause l)) no_turn) ∙ h;
-    live = λ l seat h. elim (cases_Bool (l == k)) [
-      | inl d ↦ (let none : v.links.live l ≡ None = ap v.links.live (eqb-true l k d) ∙ e in
-          let took : took_some x v.now (v.links.live l) ≡ Some seat = (rw d at h) in
-          absurd (none_some (sym (ap (took_some x v.now) none) ∙ took)))
-      | inr d ↦ (seat, (rw d at h), refl)
-    ];
+    live = λ l. after_kept v act l refl;
   }
     where
       no_turn : turned v act ≡ None
@@ -184,7 +201,7 @@ module _ (v : View) (k : ℕ) (x : LinkAct) where
     own_seat : (later : Seat) → w.links.live k ≡ Some later → took x v.now seat ≡ Some later
     own_seat later h =
         sym (ap (took_some x v.now) e)
-        ∙ sym (ap (λ b. cond b (took_some x v.now (v.links.live k)) (v.links.live k)) (own_link k))
+        ∙ sym (took_is v k x k ∙ ap (λ b. cond b (took_some x v.now (v.links.live k)) (v.links.live k)) (own_link k))
         ∙ h
 
     pause_at : (l : ℕ) (p : Pause) (row : Option Pause) (f : Option Pause) → f ≡ t.pause → pause_put f k l row ≡ Some p →
@@ -206,7 +223,7 @@ module _ (v : View) (k : ℕ) (x : LinkAct) where
     some_turned is = record {
       here = e;
       elsewhere = λ key d. series_is key ∙ ap (λ b. (cond b (base_turned k t.change t.pause (v.addresses.base key)) (v.addresses.base key)).series) d;
-      others = λ l d. ap (λ b. cond b (took_some x v.now (v.links.live l)) (v.links.live l)) d;
+      others = λ l d. took_is v k x l ∙ ap (λ b. cond b (took_some x v.now (v.links.live l)) (v.links.live l)) d;
       own = λ later h.
           let n = took_named k x v.now seat later t.pause (v.addresses.base t.key) (own_seat later h) (is.links k seat e) in
           (n.0, ap (names_link k) own_series ∙ n.1);
@@ -219,33 +236,12 @@ module _ (v : View) (k : ℕ) (x : LinkAct) where
 
 -- OTHER ACTS
 
-abbrev Kept : Option Seat → Option Seat → Type 0
-Kept row later = (seat : Seat) → later ≡ Some seat → (old : Seat) × (row ≡ Some old) × (old.address ≡ seat.address)
-
-same_kept : (row : Option Seat) → Kept row row
-same_kept row seat h = (seat, h, refl)
-
-map_kept : (f : Seat → Seat) (row : Option Seat) → ((s : Seat) → (f s).address ≡ s.address) → Kept row (option_map f row)
-map_kept f None same seat h = absurd (none_some h)
-map_kept f (Some r) same seat h = (r, refl, sym (same r) ∙ ap (λ (s : Seat). s.address) (some_is h))
-
-either_kept : (b : Bool) (row x y : Option Seat) → Kept row x → Kept row y → Kept row (cond b x y)
-either_kept true row x y p q = p
-either_kept false row x y p q = q
-
-got_kept : (link : Option ℕ) (now l : ℕ) (row : Option Seat) → Kept row (got_at link now l row)
-got_kept None now l row = same_kept row
-got_kept (Some k) now l row = either_kept (l == k) row (option_map (seat_got now) row) row (map_kept (seat_got now) row (λ s. refl)) (same_kept row)
-
-begun_kept : (e : Heard) (l : ℕ) (row : Option Seat) → Kept row (live_begun e l row)
-begun_kept (Bytes k piece) l row = either_kept (l == k) row (option_map (seat_fed piece) row) row (map_kept (seat_fed piece) row (λ s. refl)) (same_kept row)
-begun_kept e l row = same_kept row
-
 pub begins_same : (e : Heard) (v : View) → Same v (begun e v)
-begins_same e v = elim (is_live v e) as (λ b. Same v (cond b (begun_live e v) v)) [
-  | true ↦ record { series = λ key. refl; pause = λ l p h. h; live = λ l seat h. begun_kept e l (v.links.live l) seat h }
-  | false ↦ record { series = λ key. refl; pause = λ l p h. h; live = λ l seat h. same_kept (v.links.live l) seat h }
-]
+begins_same e v = record {
+  series = λ key. begun_same (λ w. series_at w key) e v refl;
+  pause = λ l p h. sym (begun_same (λ w. w.addresses.pause l) e v refl) ∙ h;
+  live = λ l. begun_holds (Kept (v.links.live l)) v l e (λ piece is old at k. some_kept (IsFed piece) (v.links.live l) old k) (λ seat h. (seat, h, refl));
+}
 
 got_series : (c : Bool) (b : Base) (ws : List Who) → (cond c (record { series = b.series; waiting = ws }) b).series ≡ b.series
 got_series true b ws = refl
@@ -257,15 +253,14 @@ gets_same v who p = record {
       let b : Base = v.addresses.base key in
       got_series (is_reachable p && bytes_eq (address_key p) key) b (waits_for b.series who b.waiting);
   pause = λ l q h. h;
-  live = λ l seat h. got_kept (link_got v.addresses (Does who (Get p))) v.now l (v.links.live l) seat h;
+  live = λ l. after_kept v (Does who (Get p)) l refl;
 }
 
 pub asks_same : (v : View) (who : Who) (k : ℕ) (request : Words) → Same v (after (Does who (Ask k request)) v)
 asks_same v who k request = record {
   series = λ key. refl;
   pause = λ l p h. h;
-  live = λ l seat h. either_kept (l == k) (v.links.live l) (option_map (seat_asked who v.now request) (v.links.live l)) (v.links.live l)
-      (map_kept (seat_asked who v.now request) (v.links.live l) (λ s. refl)) (same_kept (v.links.live l)) seat h;
+  live = λ l. after_kept v (Does who (Ask k request)) l refl;
 }
 
 unless_rung : (b : Bool) (row : Option Pause) (p : Pause) → cond b None row ≡ Some p → row ≡ Some p
@@ -283,7 +278,7 @@ pub rings_same : (v : View) (a : Alarm) → Same v (after (Comes (Rings a)) v)
 rings_same v a = record {
   series = λ key. refl;
   pause = λ l p h. rung_left (rings v.now a v.alarms) a l (v.addresses.pause l) p h;
-  live = λ l seat h. same_kept (v.links.live l) seat h;
+  live = λ l seat h. (seat, h, refl);
 }
 
 -- THE STOP

@@ -1,10 +1,9 @@
 -- What is kept of a link by all that is done to it; and that one which was ready is so until it ends.
-use Rattle.std.proofs.Common.{◌≡◌, ◌∙◌, sym, ap, subst, ℕ, ◌+◌, List, ◌∷◌, refl, drop, arith, nat_lt, Bool, true, false, ◌++◌, cond, ◌==◌, Option, Some, None, Result, Ok, Err}
+use Rattle.std.proofs.Common.{◌≡◌, ◌∙◌, sym, ap, subst, ℕ, ◌+◌, List, ◌∷◌, refl, drop, arith, nat_lt, Bool, true, false, ◌++◌, ◌==◌, Option, Some, None, Result, Ok, Err}
 use Rattle.std.proofs.lemmas.Bool.Decides.{nat_tests}
-use Rattle.std.specs.Option.{option_map}
-use Rattle.pulsar_laws.proofs.ActWords.{Act, Ask, Bytes, Comes, Dials, Does, Drains, Ends, Get, Heard, LinkAct, Opens, Pings, Reads, ToLink, Who}
-use Rattle.pulsar_laws.proofs.RunWords.{after, Begins, begun_live, begun_same, calls_of, Entry, is_live, link_got, live_begun, Options, Then, view, View}
-use Rattle.pulsar_laws.proofs.LinkWords.{answer_at, closed_by, ConnectionError, Fault, got_at, is_numbered, Seat, seat_asked, seat_fed, seat_got, SendPing, took, took_end, took_some, Words}
+use Rattle.pulsar_laws.proofs.ActWords.{Act, Dials}
+use Rattle.pulsar_laws.proofs.RunWords.{Begins, begun_same, calls_of, Entry, Options, Then, view, View}
+use Rattle.pulsar_laws.proofs.LinkWords.{answer_at, ConnectionError, is_numbered, Seat, SendPing, Words}
 use Rattle.pulsar_frame.specs.Frame.{Front, Short, Refused, Whole, front}
 use Rattle.pulsar_requests.specs.Waits.{places}
 use Rattle.pulsar_session.specs.declared.states.Asked.{Asked as Placed}
@@ -16,6 +15,8 @@ use Rattle.pulsar_session.proofs.Others.{none_stands_beside_room}
 use Rattle.pulsar_session.proofs.Pieces.{asks_for_apart, unless_stage}
 use Rattle.pulsar_laws.proofs.Cases.{cond_so}
 use Rattle.pulsar_laws.proofs.links.Alone.{is_close, links_alone_lem}
+use Rattle.pulsar_links.specs.Asks.{Deed, IsAsked, IsClosed, IsDrained, IsFed, IsGot, IsOpened, IsPinged, IsRead, seat_by}
+use Rattle.pulsar_laws.proofs.links.Rows.{CameFrom, after_holds, begun_holds}
 use Rattle.pulsar_laws.proofs.links.Early.{drawn_stage, moved_stage, ready_of}
 use Rattle.pulsar_laws.proofs.calls.Stopping.{is_started}
 
@@ -62,12 +63,8 @@ IsAt P None = Unit {0}
 IsAt P (Some seat) = P seat.seen
 
 -- the connection of a link has no frame in its line where there is room
-pub in_line : (o : Options) (log : List Entry) (l : ℕ) → IsAt IsInLine ((view o log).links.live l)
-in_line o log l = by ((view o log).links.live l) refl
-  where
-    by : (row : Option Seat) → (view o log).links.live l ≡ row → IsAt IsInLine row
-    by None e = tt
-    by (Some seat) e = let k = links_alone_lem o log l seat e in subst IsInLine (sym k.2) (none_stands_beside_room k.0 (calls_of o l log))
+pub in_seat : (o : Options) (log : List Entry) (l : ℕ) (seat : Seat) → (view o log).links.live l ≡ Some seat → IsInLine seat.seen
+in_seat o log l seat e = let k = links_alone_lem o log l seat e in subst IsInLine (sym k.2) (none_stands_beside_room k.0 (calls_of o l log))
 
 -- no link is started twice
 not_next : (l n : ℕ) → nat_lt l n ≡ true → (l == n) ≡ false
@@ -77,61 +74,24 @@ abbrev pub Keeps : (Seen → Type 0) → Type 0
 Keeps P = (act : Act') (v : Seen) → is_close act ≡ false → IsInLine v → P v → P (after' act v)
 
 module _ (P : Seen → Type 0) (keeps : Keeps P) where
-  map_at : (f : Seat → Seat) (row : Option Seat) → ((seat : Seat) → row ≡ Some seat → P seat.seen → P (f seat).seen) → IsAt P row → IsAt P (option_map f row)
-  map_at f None k h = tt
-  map_at f (Some seat) k h = k seat refl h
-
-  took_at : (x : LinkAct) (now : ℕ) (seat : Seat) → IsInLine seat.seen → P seat.seen → IsAt P (took x now seat)
-  took_at Opens now seat r h = keeps (Opens' now) seat.seen refl r h
-  took_at Reads now seat r h = keeps (Takes now) seat.seen refl r h
-  took_at (Drains most) now seat r h = keeps (Drains' most now) seat.seen refl r h
-  took_at Pings now seat r h = keeps (Asks now SendPing) seat.seen refl r h
-  took_at (Ends end) now seat r h = by (closed_by end now seat.seen)
-    where
-      by : (cause : Option Fault) → IsAt P (took_end cause seat)
-      by None = h
-      by (Some cause) = tt
-
-  took_some_at : (x : LinkAct) (now : ℕ) (row : Option Seat) → IsAt IsInLine row → IsAt P row → IsAt P (took_some x now row)
-  took_some_at x now None r h = tt
-  took_some_at x now (Some seat) r h = took_at x now seat r h
-
-  asked_at : (who : Who) (now : ℕ) (request : Words) (row : Option Seat) → IsAt IsInLine row → IsAt P row → IsAt P (option_map (seat_asked who now request) row)
-  asked_at who now request None r h = tt
-  asked_at who now request (Some seat) r h = keeps (Asks now request) seat.seen refl r h
-
-  got_so : (got : Option ℕ) (now l : ℕ) (row : Option Seat) → IsAt P row → IsAt P (got_at got now l row)
-  got_so None now l row h = h
-  got_so (Some k) now l row h = cond_so (IsAt P) (l == k) (option_map (seat_got now) row) row (map_at (seat_got now) row (λ seat e k. k) h) h
-
-  fed_at : (piece : List ℕ) (row : Option Seat) → IsAt IsInLine row → IsAt P row → IsAt P (option_map (seat_fed piece) row)
-  fed_at piece None r h = tt
-  fed_at piece (Some seat) r h = keeps (Feeds piece) seat.seen refl r h
-
-  heard_at : (e : Heard) (l : ℕ) (row : Option Seat) → IsAt IsInLine row → IsAt P row → IsAt P (live_begun e l row)
-  heard_at (Bytes k piece) l row r h = cond_so (IsAt P) (l == k) (option_map (seat_fed piece) row) row (fed_at piece row r h) h
-  heard_at e l row r h = h
-
-  then_at : (v : View) (a : Act) (l : ℕ) → nat_lt l v.links.started ≡ true → IsAt IsInLine (v.links.live l) → IsAt P (v.links.live l) →
-      IsAt P ((after a v).links.live l)
-  then_at v (Comes (ToLink k x)) l s r h =
-      cond_so (IsAt P) (l == k) (took_some x v.now (v.links.live l)) (v.links.live l) (took_some_at x v.now (v.links.live l) r h) h
-  then_at v (Does who (Get p)) l s r h = got_so (link_got v.addresses (Does who (Get p))) v.now l (v.links.live l) h
-  then_at v (Does who (Ask k request)) l s r h =
-      cond_so (IsAt P) (l == k) (option_map (seat_asked who v.now request) (v.links.live l)) (v.links.live l) (asked_at who v.now request (v.links.live l) r h)
-      h
-  then_at v (Dials p starter n) l s r h = let e : (l == v.links.started) ≡ false = not_next l v.links.started s in rw e h
-  then_at v a l s r h = h
+  did_at : (v : View) (l : ℕ) (a : Act) (d : Deed) → CameFrom v l a d → (seat : Seat) → IsInLine seat.seen → P seat.seen → P (seat_by d seat).seen
+  did_at v l a (IsOpened now) c seat r h = keeps (Opens' now) seat.seen refl r h
+  did_at v l a (IsRead now) c seat r h = keeps (Takes now) seat.seen refl r h
+  did_at v l a (IsDrained most now) c seat r h = keeps (Drains' most now) seat.seen refl r h
+  did_at v l a (IsPinged now) c seat r h = keeps (Asks now SendPing) seat.seen refl r h
+  did_at v l a (IsAsked who now request) c seat r h = keeps (Asks now request) seat.seen refl r h
+  did_at v l a (IsGot now) c seat r h = h
+  did_at v l a (IsFed piece) c seat r h = absurd c
+  did_at v l a (IsClosed cause) c seat r h = absurd c
 
   -- so what is so of a link that was started stays so
   pub more_at : (o : Options) (e : Entry) (log : List Entry) (l : ℕ) → nat_lt l (view o log).links.started ≡ true → IsAt P ((view o log).links.live l) →
       IsAt P ((view o (e ∷ log)).links.live l)
   more_at o (Begins e) log l s h =
-      elim (is_live (view o log) e) as (λ b. IsAt P ((cond b (begun_live e (view o log)) (view o log)).links.live l)) [
-        | true ↦ heard_at e l ((view o log).links.live l) (in_line o log l) h
-        | false ↦ h
-      ]
-  more_at o (Then a) log l s h = then_at (view o log) a l s (in_line o log l) h
+      begun_holds (IsAt P) (view o log) l e (λ piece is seat at k. keeps (Feeds piece) seat.seen refl (in_seat o log l seat at) k) h
+  more_at o (Then a) log l s h =
+      after_holds (IsAt P) (view o log) l a (λ seat d. (let f : true ≡ false = sym d.is_next ∙ not_next l (view o log).links.started s in absurd cc))
+      (λ end. tt) (λ d c seat at k. did_at (view o log) l a d c seat (in_seat o log l seat at) k) h
 
 -- it was ready once: it is so still, or has ended
 pub record WasReady (v : View) (l : ℕ) : Type 0 where

@@ -2,11 +2,10 @@
 use Rattle.std.proofs.Common.{◌≡◌, inl, inr, ◌∙◌, sym, ap, subst, ℕ, ◌+◌, ◌≤◌, ◌==◌, arith, List, [], ◌∷◌, ◌++◌, refl, filter, length, Bool, true, false, ◌&&◌, cond, Option, Some, None}
 use Rattle.std.proofs.lemmas.Bool.{cases_Bool, eqb-true}
 use Rattle.std.specs.List.{list_any}
-use Rattle.std.specs.Option.{option_map}
-use Rattle.pulsar_laws.proofs.ActWords.{Act, Action, Ask, Bytes, Call, Comes, Dials, Does, Drains, Ends, Get, Heard, is_same, LinkAct, Opens, Pings, Procedure, Reads, Share, Starts, ToLink, Who}
+use Rattle.pulsar_laws.proofs.ActWords.{Act, Action, Ask, Call, Does, Heard, is_same, Procedure, Share, Starts, Who}
 use Rattle.pulsar_laws.proofs.PlanWords.{Errand, Ways}
-use Rattle.pulsar_laws.proofs.RunWords.{Begins, begun_live, calls_of, Cause, counted, Each, Entry, In, InThisStep, is_live, IsRun, link_got, live_begun, Options, start_of, started, Then, view, View}
-use Rattle.pulsar_laws.proofs.LinkWords.{closed_by, got_at, is_body, Reply, Seat, seat_asked, seat_fed, seat_got, SendPing, took, took_end, took_some, Words}
+use Rattle.pulsar_laws.proofs.RunWords.{Begins, calls_of, Cause, counted, Each, Entry, In, InThisStep, IsRun, Options, start_of, started, Then, view, View}
+use Rattle.pulsar_laws.proofs.LinkWords.{is_body, Reply, Seat, SendPing, Words}
 use Rattle.pulsar_wire.specs.At.{flag_at, uint64_at}
 use Rattle.pulsar_wire.specs.Command.{BodyValues}
 use Rattle.pulsar_wire.specs.Field.{◌>>=◌}
@@ -46,6 +45,8 @@ use Rattle.pulsar_laws.proofs.producers.Frames.{frames_are_of_their_sends_lem}
 use Rattle.pulsar_laws.proofs.plans.Granted.{does_from}
 use Rattle.pulsar_laws.proofs.producers.InTurn.{self_same, stood_begun}
 use Rattle.pulsar_laws.proofs.calls.Once.{ends_once_lem}
+use Rattle.pulsar_links.specs.Asks.{Deed, IsAsked, IsClosed, IsDrained, IsFed, IsGot, IsOpened, IsPinged, IsRead, seat_by}
+use Rattle.pulsar_laws.proofs.links.Rows.{CameFrom, after_holds, begun_holds}
 
 -- ONE ASKED FOR WHAT WAITS FOR THIS: `B` is what is known of its request
 
@@ -85,75 +86,32 @@ left_before settled f p w h = elim (cases_Bool (list_any (λ q. q == p) settled)
   | inr e ↦ rw e at h
 ]
 
-module _ (B : Who → Words → Type 0) (now : ℕ) where
-  took_sits : (x : LinkAct) (seat : Seat) → Lives seat → SitsAt B (Some seat) → SitsAt B (took x now seat)
-  took_sits Opens seat h k = opened (Awaiting B) now seat.seen seat.askers h.soon k
-  took_sits Reads seat h k =
+module _ (B : Who → Words → Type 0) where
+  did_sits : (v : View) (l : ℕ) (a : Act) → ((who : Who) (request : Words) → a ≡ Does who (Ask l request) → B who request) → (d : Deed) → CameFrom v l a d →
+      (seat : Seat) → Lives seat → SitsAt B (Some seat) → SitsAt B (Some (seat_by d seat))
+  did_sits v l a new (IsOpened now) c seat h k = opened (Awaiting B) now seat.seen seat.askers h.soon k
+  did_sits v l a new (IsRead now) c seat h k =
       fewer (Awaiting B) (session.after (session.Takes now) seat.seen) seat.askers (askers_left (settled_in (came seat.seen)) seat.askers) _
       (left_before (settled_in (came seat.seen)) seat.askers) (taken (Awaiting B) now seat.seen seat.askers h.room k)
-  took_sits (Drains most) seat h k = drained_so (Awaiting B) most now seat.seen seat.askers k
-  took_sits Pings seat h k = pinged (Awaiting B) now seat.seen seat.askers h.room k
-  took_sits (Ends end) seat h k = elim (closed_by end now seat.seen) as (λ c. SitsAt B (took_end c seat)) [ None ↦ k | Some cause ↦ tt ]
-
-  some_sits : (x : LinkAct) (row : Option Seat) → ((seat : Seat) → row ≡ Some seat → Lives seat) → SitsAt B row → SitsAt B (took_some x now row)
-  some_sits x None h k = tt
-  some_sits x (Some seat) h k = took_sits x seat (h seat refl) k
-
-  got_sits : (row : Option Seat) → SitsAt B row → SitsAt B (option_map (seat_got now) row)
-  got_sits None k = tt
-  got_sits (Some seat) k = k
-
-either_sits : (B : Who → Words → Type 0) (b : Bool) (x y : Option Seat) → (b ≡ true → SitsAt B x) → (b ≡ false → SitsAt B y) → SitsAt B (cond b x y)
-either_sits B true x y p q = p refl
-either_sits B false x y p q = q refl
-
-asks_sits : (B : Who → Words → Type 0) (now : ℕ) (who : Who) (request : Words) (row : Option Seat) → ((seat : Seat) → row ≡ Some seat → Lives seat) →
-    B who request → SitsAt B row → SitsAt B (option_map (seat_asked who now request) row)
-asks_sits B now who request None h new k = tt
-asks_sits B now who request (Some seat) h new k =
-    asked_so (Awaiting B) request who seat.askers now seat.seen (λ id c e. (request, id, c, e, refl, new)) (h seat refl).room k
-
-got_at_sits : (B : Who → Words → Type 0) (now l : ℕ) (got : Option ℕ) (row : Option Seat) → SitsAt B row → SitsAt B (got_at got now l row)
-got_at_sits B now l None row k = k
-got_at_sits B now l (Some j) row k = either_sits B (l == j) (option_map (seat_got now) row) row (λ e. got_sits B now row k) (λ e. k)
+  did_sits v l a new (IsDrained most now) c seat h k = drained_so (Awaiting B) most now seat.seen seat.askers k
+  did_sits v l a new (IsPinged now) c seat h k = pinged (Awaiting B) now seat.seen seat.askers h.room k
+  did_sits v l a new (IsAsked who now request) c seat h k =
+      asked_so (Awaiting B) request who seat.askers now seat.seen (λ id cl e. (request, id, cl, e, refl, new who request c.0)) h.room k
+  did_sits v l a new (IsGot now) c seat h k = k
+  did_sits v l a new (IsFed piece) c seat h k = absurd c
+  did_sits v l a new (IsClosed cause) c seat h k = absurd c
 
 after_sits : (o : Options) (log : List Entry) (a : Act) (l : ℕ) (B : Who → Words → Type 0) →
     ((who : Who) (request : Words) → a ≡ Does who (Ask l request) → B who request) → SitsAt B ((view o log).links.live l) →
     SitsAt B ((view o (Then a ∷ log)).links.live l)
-after_sits o log (Comes (ToLink j x)) l B new k =
-    let row : Option Seat = (view o log).links.live l in
-    let now : ℕ = (view o log).now in
-    either_sits B (l == j) (took_some x now row) row (λ e. some_sits B now x row (λ seat h. lives o log l seat h) k) (λ e. k)
-after_sits o log (Does who (Get p)) l B new k =
-    let v : View = view o log in got_at_sits B v.now l (link_got v.addresses (Does who (Get p))) (v.links.live l) k
-after_sits o log (Does who (Ask j request)) l B new k =
-    let row : Option Seat = (view o log).links.live l in
-    let now : ℕ = (view o log).now in
-    either_sits B (l == j) (option_map (seat_asked who now request) row) row
-    (λ e. asks_sits B now who request row (λ seat h. lives o log l seat h)
-    (new who request (ap (λ i. Does who (Ask i request)) (sym (eqb-true l j e)))) k)
-    (λ e. k)
-after_sits o log (Dials p starter retries) l B new k =
-    let v : View = view o log in
-    either_sits B (l == v.links.started) _ (v.links.live l) (λ e. record { waiting = tt; low = tt; line = tt; few = λ q w h. absurd (none_some h) })
-    (λ e. k)
-after_sits o log a l B new k = k
-
-fed_sits : (B : Who → Words → Type 0) (piece : List ℕ) (row : Option Seat) → SitsAt B row → SitsAt B (option_map (seat_fed piece) row)
-fed_sits B piece None k = tt
-fed_sits B piece (Some seat) k = fed (Awaiting B) piece seat.seen seat.askers k
-
-heard_sits : (B : Who → Words → Type 0) (l : ℕ) (e : Heard) (row : Option Seat) → SitsAt B row → SitsAt B (live_begun e l row)
-heard_sits B l (Bytes j piece) row k = either_sits B (l == j) (option_map (seat_fed piece) row) row (λ q. fed_sits B piece row k) (λ q. k)
-heard_sits B l _ row k = k
+after_sits o log a l B new k =
+    after_holds (SitsAt B) (view o log) l a
+    (λ seat d. subst (λ (t : Seat). SitsAt B (Some t)) d.is_it (record { waiting = tt; low = tt; line = tt; few = λ q w h. absurd (none_some h) })) (λ end. tt)
+    (λ d c seat e s. did_sits B (view o log) l a new d c seat (lives o log l seat e) s) k
 
 begun_sits : (o : Options) (log : List Entry) (e : Heard) (l : ℕ) (B : Who → Words → Type 0) → SitsAt B ((view o log).links.live l) →
     SitsAt B ((view o (Begins e ∷ log)).links.live l)
-begun_sits o log e l B k =
-    elim (is_live (view o log) e) as (λ b. SitsAt B ((cond b (begun_live e (view o log)) (view o log)).links.live l)) [
-      | true ↦ heard_sits B l e ((view o log).links.live l) k
-      | false ↦ k
-    ]
+begun_sits o log e l B k = begun_holds (SitsAt B) (view o log) l e (λ piece is seat at s. fed (Awaiting B) piece seat.seen seat.askers s) k
 
 -- WHAT A FRAME SETTLES
 

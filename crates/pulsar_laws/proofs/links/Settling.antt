@@ -5,8 +5,8 @@ use Rattle.std.proofs.lemmas.Bool.Decides.{nat_tests}
 use Rattle.std.proofs.lemmas.Grind.{common_steps, flat_map-append}
 use Rattle.std.specs.List.{cons_option, filter_map, flat_map}
 use Rattle.std.specs.Option.{is_some, option_map, option_to_list}
-use Rattle.pulsar_laws.proofs.ActWords.{Answers, Ask, Bytes, Call, Comes, Consumer, Dials, Does, Drains, End, Ends, LinkAct, Opens, Pings, Polls, Producer, Queued, Reads, Said, Shown, ToLink, Who}
-use Rattle.pulsar_laws.proofs.RunWords.{Begins, calls_of, Chosen, Each, Entry, Options, rules, Then, turned, Turned, view}
+use Rattle.pulsar_laws.proofs.ActWords.{Answers, Ask, Call, Comes, Consumer, Dials, Does, Drains, End, Ends, LinkAct, Opens, Pings, Polls, Producer, Queued, Reads, Said, Shown, ToLink, Who}
+use Rattle.pulsar_laws.proofs.RunWords.{Begins, calls_of, Chosen, Each, Entry, Options, rules, Then, turned, Turned, view, View, dialed}
 use Rattle.pulsar_laws.proofs.LinkWords.{closed_by, Fault, Pause, Seat, Words}
 use Rattle.pulsar_frame.specs.Frame.{Front, Short, Refused, Whole, front}
 use Rattle.pulsar_frame.specs.Items.{Given, Faulty}
@@ -38,9 +38,12 @@ use Rattle.pulsar_consumer_table.specs.Consumers.{Member, polled, polled_so}
 use Rattle.pulsar_incoming.specs.declared.polled.Polled.{Polled}
 use Rattle.pulsar_incoming.specs.declared.polled.Polled.TheVariants as poll
 use Rattle.pulsar_acts.specs.Effects.{ends as ends_said, retries, retries_on}
-use Rattle.pulsar_acts.specs.View.{setup}
+use Rattle.pulsar_acts.specs.View.{link_acts, link_heard}
 use Rattle.pulsar_run.specs.Run.{in_order, steps_done, with_effects}
-use Rattle.pulsar_laws.specs.Laws.{call_at, dialed_with}
+use Rattle.pulsar_laws.specs.Laws.{call_at, dialed_last, dialed_with}
+use Rattle.pulsar_run.specs.Things.{since, since_act}
+use Rattle.pulsar_acts.specs.Things.{links}
+use Rattle.pulsar_links.specs.Asks.{Deed, IsClosed, call_by, comes_by}
 use Rattle.pulsar_laws.specs.LinkLaws.{SettledAsTold, SettledOnce, and_then, settled_at, settled_so, settles_at, told_at, told_of}
 use Rattle.pulsar_laws.proofs.Cases.{cond_so, none_some, some_is}
 use Rattle.pulsar_laws.proofs.links.Alone.{Made, alone}
@@ -369,34 +372,67 @@ module _ (l place : ℕ) where
       ≤ length (told_ever s place calls [] ++ option_to_list (told_in a u place))) same
       (one_few how (told_in a v place) (told_ever s place calls []))
 
+  abbrev past : Options → List Entry → List Deed
+  past o log = since rules links o log l
+
   abbrev Few : Options → List Entry → Type 0
   Few o log =
       ((s : Setup) → dialed_with o l log ≡ Some s → length (all o log) ≤ length (told_ever s place (calls_of o l log) []))
       × (dialed_with o l log ≡ None → length (all o log) ≤ 0)
 
-  -- a call that tells nothing
-  mute_few : (o : Options) (log : List Entry) (act : Act') (b : Bool) → ((v : Seen) → told_in act v place ≡ None) → Few o log → (s : Setup) →
-      dialed_with o l log ≡ Some s →
-      length (all o log) ≤ length (told_ever s place (cond b (act ∷ calls_of o l log) (calls_of o l log)) [])
-  mute_few o log act true mute k s d =
-      let calls : List Act' = calls_of o l log in
-      let same : told_ever s place (act ∷ calls) [] ≡ told_ever s place calls [] =
-      ap (λ r. told_ever s place calls [] ++ option_to_list r) (mute (session.seen s (calls ++ []))) ∙ append-nil (told_ever s place calls []) in
-      subst (λ xs. length (all o log) ≤ length xs) (sym same) (k.0 s d)
-  mute_few o log act false mute k s d = k.0 s d
+  -- more calls tell no less
+  ever_more : (s : Setup) (es past : List Deed) →
+      length (told_ever s place (filter_map call_by past) []) ≤ length (told_ever s place (filter_map call_by (es ++ past)) [])
+  ever_more s [] past = omega arith
+  ever_more s (e ∷ es) past = by (call_by e) (ever_more s es past)
+    where
+      calls : List Act'
+      calls = filter_map call_by (es ++ past)
+
+      by : (c : Option Act') → length (told_ever s place (filter_map call_by past) []) ≤ length (told_ever s place calls []) →
+          length (told_ever s place (filter_map call_by past) []) ≤ length (told_ever s place (cons_option c calls) [])
+      by None h = h
+      by (Some act) h =
+          let told : List Fate = option_to_list (told_in act (session.seen s (calls ++ [])) place) in
+          let l = length-append (told_ever s place calls []) told in
+          let all_told : length (told_ever s place (filter_map call_by past) []) ≤ length (told_ever s place calls [] ++ told) = omega (arith, h, l) in
+          all_told
+
+  -- what is done to it tells nothing else
+  others_few : (o : Options) (log : List Entry) (es : List Deed) → Few o log →
+      ((s : Setup) → dialed_with o l log ≡ Some s → length (all o log) ≤ length (told_ever s place (filter_map call_by (es ++ past o log)) []))
+      × (dialed_with o l log ≡ None → length (all o log) ≤ 0)
+  others_few o log es k = (
+    λ s d.
+        let f : length (all o log) ≤ length (told_ever s place (filter_map call_by (past o log)) []) = k.0 s d in
+        let g = ever_more s es (past o log) in
+        omega (arith, f, g),
+    k.1,
+  )
 
   -- what a link is told, and the calls of its connection
-  abbrev Told : Options → List Entry → List Settlement → List Act' → Type 0
-  Told o log told calls =
-      ((s : Setup) → dialed_with o l log ≡ Some s → length told + length (all o log) ≤ length (told_ever s place (calls ++ calls_of o l log) []))
+  abbrev Told : Options → List Entry → List Settlement → List Deed → Type 0
+  Told o log told es =
+      ((s : Setup) → dialed_with o l log ≡ Some s →
+      length told + length (all o log) ≤ length (told_ever s place (filter_map call_by (es ++ past o log)) []))
       × (dialed_with o l log ≡ None → length told + length (all o log) ≤ 0)
 
+  called_so : (x : LinkAct) (now : ℕ) (seat : Seat) (past : List Deed) →
+      filter_map call_by (comes_by x now (Some seat) ++ past) ≡ call_at x now (Some seat) ++ filter_map call_by past
+  called_so Opens now seat past = refl
+  called_so Reads now seat past = refl
+  called_so (Drains most) now seat past = refl
+  called_so Pings now seat past = refl
+  called_so (Ends end) now seat past =
+      elim (closed_by end now seat.seen) as
+      (λ c. filter_map call_by (map IsClosed (option_to_list c) ++ past) ≡ option_to_list (option_map Closes c) ++ filter_map call_by past)
+      [ None ↦ refl | Some cause ↦ refl ]
+
   link_few : (o : Options) (log : List Entry) (x : LinkAct) (row : Option Seat) → (view o log).links.live l ≡ row → Few o log →
-      Told o log (told_at x (view o log).now place row) (call_at x (view o log).now row)
-  link_few o log x None h k = (
-    λ s d. let f : length (all o log) ≤ length (told_ever s place (calls_of o l log) []) = k.0 s d in omega (arith, f),
-    λ d. let f : length (all o log) ≤ 0 = k.1 d in omega (arith, f),
-  )
+      Told o log (told_at x (view o log).now place row) (comes_by x (view o log).now row)
+  link_few o log x None h k =
+      let z = others_few o log (comes_by x (view o log).now None) k in
+      (λ s d. let f = z.0 s d in omega (arith, f), λ d. let f = z.1 d in omega (arith, f))
   link_few o log x (Some seat) h k = (
     λ s d.
         let now : ℕ = (view o log).now in
@@ -407,7 +443,11 @@ module _ (l place : ℕ) where
         ≤ length (told_ever s place (call_at x now (Some seat) ++ calls_of o l log) []) =
         call_few s (calls_of o l log) seat.seen (settled_so x now seat.seen place) (call_of x now seat.seen)
         (m.same ∙ ap (λ t. session.seen t (calls_of o l log)) same) in
-        omega (arith, f, g),
+        let most : length (told_at x now place (Some seat)) + length (all o log) ≤ length (told_ever s place (call_at x now
+        (Some seat) ++ calls_of o l log) []) =
+        omega (arith, f, g) in
+        subst (λ calls. length (told_at x now place (Some seat)) + length (all o log) ≤ length (told_ever s place calls []))
+        (sym (called_so x now seat (past o log))) most,
     λ d. absurd (none_some (sym d ∙ (alone o log l seat h).dialed)),
   )
 
@@ -416,7 +456,7 @@ module _ (l place : ℕ) where
       elim (l == k) as
       (λ b. ((s : Setup) → dialed_with o l log ≡ Some s →
       length (flat_map (λ xs. xs) (cond b (and_then told (told_of o l place log)) (told_of o l place log)))
-      ≤ length (told_ever s place (cond b (calls ++ calls_of o l log) (calls_of o l log)) []))
+      ≤ length (told_ever s place (filter_map call_by (cond b es [] ++ past o log)) []))
       × (dialed_with o l log ≡ None →
       length (flat_map (λ xs. xs) (cond b (and_then told (told_of o l place log)) (told_of o l place log))) ≤ 0)) [
         | true ↦ (λ s d. let f = g.0 s d in omega (arith, f, t), λ d. let f = g.1 d in omega (arith, f, t))
@@ -426,10 +466,10 @@ module _ (l place : ℕ) where
       told : List Settlement
       told = told_at x (view o log).now place ((view o log).links.live l)
 
-      calls : List Act'
-      calls = call_at x (view o log).now ((view o log).links.live l)
+      es : List Deed
+      es = comes_by x (view o log).now ((view o log).links.live l)
 
-      g : Told o log told calls
+      g : Told o log told es
       g = link_few o log x ((view o log).links.live l) refl few
 
       t : length (flat_map (λ xs. xs) (and_then told (told_of o l place log))) ≤ length told + length (all o log)
@@ -438,29 +478,21 @@ module _ (l place : ℕ) where
   late : (l n : ℕ) → (l == n) ≡ true → nat_lt l n ≡ false
   late l n e = grind (arith, nat_tests)
 
-  dials_few : (o : Options) (log : List Entry) (new : Setup) → Few o log →
-      ((s : Setup) → cond (l == (view o log).links.started) (Some new) (dialed_with o l log) ≡ Some s →
-      length (all o log) ≤ length (told_ever s place (cond (l == (view o log).links.started) [] (calls_of o l log)) []))
-      × (cond (l == (view o log).links.started) (Some new) (dialed_with o l log) ≡ None → length (all o log) ≤ 0)
-  dials_few o log new few = by (l == (view o log).links.started) (λ e. few.1 (undialed o log l (late l (view o log).links.started e)))
-    where
-      by : (b : Bool) → (b ≡ true → length (all o log) ≤ 0) →
-          ((s : Setup) → cond b (Some new) (dialed_with o l log) ≡ Some s →
-          length (all o log) ≤ length (told_ever s place (cond b [] (calls_of o l log)) []))
-          × (cond b (Some new) (dialed_with o l log) ≡ None → length (all o log) ≤ 0)
-      by true none = (λ s d. none refl, λ d. none refl)
-      by false none = few
+  dials_few : (o : Options) (log : List Entry) (new : Seat) → Few o log → (b : Bool) → (l == (view o log).links.started) ≡ b →
+      ((s : Setup) → dialed_last (cond b (Some new) None) (dialed_with o l log) ≡ Some s →
+      length (all o log) ≤ length (told_ever s place (filter_map call_by (since_act (cond b (Some new) None) [] (past o log))) []))
+      × (dialed_last (cond b (Some new) None) (dialed_with o l log) ≡ None → length (all o log) ≤ 0)
+  dials_few o log new few true e =
+      let none : length (all o log) ≤ 0 = few.1 (undialed o log l (late l (view o log).links.started e)) in (λ s d. none, λ d. none)
+  dials_few o log new few false e = few
 
   few_run : (o : Options) (log : List Entry) → Few o log
   few_run o [] = (λ s d. absurd (none_some d), λ d. omega arith)
-  few_run o (Begins (Bytes k piece) ∷ log) =
-      let few : Few o log = few_run o log in (mute_few o log (Feeds piece) (l == k) (λ v. refl) few, few.1)
-  few_run o (Begins e ∷ log) = few_run o log
+  few_run o (Begins e ∷ log) = others_few o log (link_heard l e) (few_run o log)
   few_run o (Then (Comes (ToLink k x)) ∷ log) = to_link_few o log k x (few_run o log)
-  few_run o (Then (Does who (Ask k request)) ∷ log) =
-      let few : Few o log = few_run o log in (mute_few o log (Asks (view o log).now request) (l == k) (λ v. refl) few, few.1)
-  few_run o (Then (Dials p starter retries) ∷ log) = dials_few o log (setup o.chosen l (view o log).now p) (few_run o log)
-  few_run o (Then a ∷ log) = few_run o log
+  few_run o (Then (Dials p starter retries) ∷ log) =
+      let v : View = view o log in dials_few o log (dialed v.chosen v.links.started v.now p) (few_run o log) (l == v.links.started) refl
+  few_run o (Then a ∷ log) = others_few o log (link_acts (view o log) l a) (few_run o log)
 
   once : (o : Options) (log : List Entry) (d : Option Setup) → dialed_with o l log ≡ d → length (all o log) ≤ 1
   once o log None e = let f = (few_run o log).1 e in omega (arith, f)

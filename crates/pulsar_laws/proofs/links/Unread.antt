@@ -1,10 +1,9 @@
 -- At the end of a step no whole frame of a link is left unread: what came is read on, until less than a frame is in front, or the link ends.
 use Rattle.std.proofs.Common.{◌≡◌, ◌⊎◌, inl, inr, ◌∙◌, sym, ap, subst, ℕ, List, ◌∷◌, ◌++◌, refl, drop, Bool, true, false, cond, ◌==◌, Option, Some, None, Result, Ok, Err, append-nil, []}
 use Rattle.std.proofs.lemmas.Bool.{cases_Bool, eqb-true, eq-eqb}
-use Rattle.std.specs.Option.{option_map}
-use Rattle.pulsar_laws.proofs.ActWords.{Act, Arrival, Ask, Bytes, Comes, Dials, Does, Drains, End, Ends, Get, Heard, LinkAct, Notice, Opens, Part, Pings, Reads, ToLink, Who}
-use Rattle.pulsar_laws.proofs.RunWords.{agenda, at_once, Begins, begun_live, calls_of, dialed, Entry, first, first_of, further, In, is_live, IsRun, link_got, live_begun, none_now, Options, rest, rest_of, rules, Then, view}
-use Rattle.pulsar_laws.proofs.LinkWords.{arrival_at, closed_by, ConnectionError, Fault, got_at, is_numbered, Place, Seat, seat_asked, seat_got, SendPing, took_end, took_some, Words}
+use Rattle.pulsar_laws.proofs.ActWords.{Act, Arrival, Bytes, Comes, Dials, Ends, Heard, LinkAct, Notice, Part, Reads, ToLink, Who}
+use Rattle.pulsar_laws.proofs.RunWords.{agenda, at_once, Begins, begun_live, calls_of, dialed, Entry, first, first_of, further, In, is_live, IsRun, live_begun, none_now, Options, rest, rest_of, rules, Then, view, View, after}
+use Rattle.pulsar_laws.proofs.LinkWords.{arrival_at, ConnectionError, Fault, is_numbered, Place, Seat, SendPing, took_some, Words}
 use Rattle.pulsar_wire.specs.declared.key.RequestKey.{RequestKey}
 use Rattle.pulsar_frame.specs.Frame.{Front, Short, Refused, Whole, cut, front}
 use Rattle.pulsar_frame.specs.Key.{key}
@@ -25,11 +24,14 @@ use Rattle.pulsar_laws.proofs.Cases.{none_some, some_is}
 use Rattle.pulsar_laws.specs.Laws.{FramesAreCut, dialed_with}
 use Rattle.pulsar_links.specs.Links.{arrives}
 use Rattle.pulsar_acts.specs.Rules.{breaks_at, brings, reads_on}
-use Rattle.pulsar_acts.specs.View.{is_dialing}
+use Rattle.pulsar_acts.specs.View.{is_dialing, link_born}
 use Rattle.pulsar_wire.specs.declared.key.RequestKey.TheVariants as keys
 use Rattle.pulsar_session.specs.Link as session
 use Rattle.pulsar_calls.specs.declared.act.Arrival.TheVariants as arrivals
 use Rattle.pulsar_laws.proofs.links.Alone.{Made, alone}
+use Rattle.pulsar_links.specs.Asks.{Deed, IsAsked, IsClosed, IsDrained, IsFed, IsGot, IsOpened, IsPinged, IsRead as ReadsIt, seat_by}
+use Rattle.pulsar_acts.proofs.Linking.{took_is}
+use Rattle.pulsar_laws.proofs.links.Rows.{CameFrom, IsDialed, after_holds}
 
 -- A CONNECTION THAT IS DIALED HAS NOTHING UNREAD
 
@@ -248,21 +250,6 @@ Reading o l log = (seat : Seat) → (view o log).links.live l ≡ Some seat → 
 abbrev Holds : Option Seat → Option Seat → Type 0
 Holds row later = (seat : Seat) → later ≡ Some seat → (old : Seat) × (row ≡ Some old) × (seat.seen.unread ≡ old.seen.unread)
 
-same_holds : (row : Option Seat) → Holds row row
-same_holds row seat h = (seat, h, refl)
-
-map_holds : (f : Seat → Seat) (row : Option Seat) → ((s : Seat) → (f s).seen.unread ≡ s.seen.unread) → Holds row (option_map f row)
-map_holds f None same seat h = absurd (none_some h)
-map_holds f (Some r) same seat h = (r, refl, ap (λ (s : Seat). s.seen.unread) (sym (some_is h)) ∙ same r)
-
-either_holds : (b : Bool) (row x y : Option Seat) → Holds row x → Holds row y → Holds row (cond b x y)
-either_holds true row x y p q = p
-either_holds false row x y p q = q
-
-got_holds : (link : Option ℕ) (now l : ℕ) (row : Option Seat) → Holds row (got_at link now l row)
-got_holds None now l row = same_holds row
-got_holds (Some k) now l row = either_holds (l == k) row (option_map (seat_got now) row) row (map_holds (seat_got now) row (λ s. refl)) (same_holds row)
-
 asked_unread : (now : ℕ) (words : Words) (v : Seen) → (session.after (Asks now words) v).unread ≡ v.unread
 asked_unread now words v = (asked_of (number_for (is_numbered words) v) now words (ticked now v)).unread
 
@@ -276,27 +263,38 @@ drained_unread most now v = by (is_open v.stage)
     by true = (moving v.line left).unread
     by false = refl
 
--- an act of a link that neither reads nor ends it
-abbrev is_plain : LinkAct → Bool
-is_plain Reads = false
-is_plain (Ends end) = false
-is_plain _ = true
+unread_by : (v : View) (l : ℕ) (a : Act) (d : Deed) → CameFrom v l a d → is_done_by l a ≡ false → (seat : Seat) →
+    (seat_by d seat).seen.unread ≡ seat.seen.unread
+unread_by v l a (IsOpened now) c n seat = (opening seat.seen.stage (ticked now seat.seen) refl).unread
+unread_by v l a (ReadsIt now) c n seat = (let f : true ≡ false = sym (own_link l) ∙ sym (ap (is_done_by l) c.0) ∙ n in absurd cc)
+unread_by v l a (IsDrained most now) c n seat = drained_unread most now seat.seen
+unread_by v l a (IsPinged now) c n seat = asked_unread now SendPing seat.seen
+unread_by v l a (IsAsked who now request) c n seat = asked_unread now request seat.seen
+unread_by v l a (IsGot now) c n seat = refl
+unread_by v l a (IsFed piece) c n seat = absurd c
+unread_by v l a (IsClosed cause) c n seat = absurd c
 
-took_holds : (x : LinkAct) (now : ℕ) (row : Option Seat) → is_plain x ≡ true → Holds row (took_some x now row)
-took_holds x now None p seat h = absurd (none_some h)
-took_holds Reads now (Some r) p seat h = absurd cc
-took_holds (Ends end) now (Some r) p seat h = absurd cc
-took_holds Opens now (Some r) p seat h =
-    (r, refl, ap (λ (s : Seat). s.seen.unread) (sym (some_is h)) ∙ (opening r.seen.stage (ticked now r.seen) refl).unread)
-took_holds (Drains most) now (Some r) p seat h = (r, refl, ap (λ (s : Seat). s.seen.unread) (sym (some_is h)) ∙ drained_unread most now r.seen)
-took_holds Pings now (Some r) p seat h = (r, refl, ap (λ (s : Seat). s.seen.unread) (sym (some_is h)) ∙ asked_unread now SendPing r.seen)
+-- an act leaves its bytes, unless it reads it, or makes it
+left_holds : (v : View) (l : ℕ) (a : Act) → is_done_by l a ≡ false → link_born v l a ≡ None → Holds (v.links.live l) ((after a v).links.live l)
+left_holds v l a n none =
+    after_holds (Holds (v.links.live l)) v l a (λ new d. absurd (not_born new d)) (λ end seat h. absurd (none_some h))
+    (λ d c old e k seat h. (old, e, ap (λ (s : Seat). s.seen.unread) (sym (some_is h)) ∙ unread_by v l a d c n old)) (λ seat h. (seat, h, refl))
+  where
+    not_born : (new : Seat) → IsDialed v l a new → ⊥
+    not_born new d =
+        let born : link_born v l a ≡ Some (dialed v.chosen v.links.started v.now d.place) =
+        ap (link_born v l) d.is_act ∙ ap (λ b. cond b (Some (dialed v.chosen v.links.started v.now d.place)) None) d.is_next in
+        none_some (sym none ∙ born)
+
+took_broken : (c : Fault) (now : ℕ) (row : Option Seat) → took_some (Ends (Broken c)) now row ≡ None
+took_broken c now None = refl
+took_broken c now (Some r) = refl
 
 module _ (o : Options) (l : ℕ) (log : List Entry) (k : Reading o l log) where
   -- where its bytes stay, and it is not read
-  carried : (a : Act) → first (agenda o log) ≡ Some a → is_done_by l a ≡ false → Holds ((view o log).links.live l) ((view o (Then a ∷ log)).links.live l) →
-      Reading o l (Then a ∷ log)
-  carried a h other holds seat live =
-      let old = holds seat live in
+  carried : (a : Act) → first (agenda o log) ≡ Some a → is_done_by l a ≡ false → link_born (view o log) l a ≡ None → Reading o l (Then a ∷ log)
+  carried a h other none seat live =
+      let old = left_holds (view o log) l a other none seat live in
       elim (k old.0 old.1) [
         | inl short ↦ inl (ap front old.2 ∙ short)
         | inr left ↦ inr (stays o l log a h other left)
@@ -319,68 +317,38 @@ module _ (o : Options) (l : ℕ) (log : List Entry) (k : Reading o l log) where
     | inr left ↦ inr left
   ]
 
-  -- A LINK ENDS, OR NOT
-
-  ended_holds : (end : End) (cause : Option Fault) (r seat : Seat) → took_end cause r ≡ Some seat → (cause ≡ None) × (r ≡ seat)
-  ended_holds end None r seat h = (refl, some_is h)
-  ended_holds end (Some cause) r seat h = absurd (none_some h)
-
-  not_broken : (end : End) (r : Seat) → closed_by end (view o log).now r.seen ≡ None → is_done_by l (Comes (ToLink l (Ends end))) ≡ false
-  not_broken (Broken cause) r h = absurd (none_some (sym h))
-  not_broken _ r h = refl
-
-  end_here : (end : End) → first (agenda o log) ≡ Some (Comes (ToLink l (Ends end))) → (row : Option Seat) → (view o log).links.live l ≡ row → (seat : Seat) →
-      took_some (Ends end) (view o log).now row ≡ Some seat →
-      IsRead seat.seen ⊎ IsLeft l (agenda o (Then (Comes (ToLink l (Ends end))) ∷ log)).now (agenda o (Then (Comes (ToLink l (Ends end))) ∷ log)).parts
-  end_here end f None e seat h = absurd (none_some h)
-  end_here end f (Some r) e seat h =
-      let same = ended_holds end (closed_by end (view o log).now r.seen) r seat h in
-      elim (k r e) [
-        | inl short ↦ inl (ap (λ (s : Seat). front s.seen.unread) (sym same.1) ∙ short)
-        | inr left ↦ inr (stays o l log (Comes (ToLink l (Ends end))) f (not_broken end r same.0) left)
-      ]
-
-  other_act : (m : ℕ) (x : LinkAct) → (l == m) ≡ false → is_done_by l (Comes (ToLink m x)) ≡ false
-  other_act m Reads d = d
-  other_act m (Ends (Broken c)) d = d
-  other_act m _ d = refl
-
-  plain_act : (m : ℕ) (x : LinkAct) → is_plain x ≡ true → is_done_by l (Comes (ToLink m x)) ≡ false
-  plain_act m Reads p = absurd cc
-  plain_act m (Ends end) p = absurd cc
-  plain_act m _ p = refl
-
-  own_act : (x : LinkAct) → first (agenda o log) ≡ Some (Comes (ToLink l x)) → Reading o l (Then (Comes (ToLink l x)) ∷ log)
-  own_act x f seat live =
-      by x f (sym (ap (λ b. cond b (took_some x (view o log).now ((view o log).links.live l)) ((view o log).links.live l)) (own_link l)) ∙ live)
-    where
-      by : (y : LinkAct) → first (agenda o log) ≡ Some (Comes (ToLink l y)) → took_some y (view o log).now ((view o log).links.live l) ≡ Some seat →
-          IsRead seat.seen ⊎ IsLeft l (agenda o (Then (Comes (ToLink l y)) ∷ log)).now (agenda o (Then (Comes (ToLink l y)) ∷ log)).parts
-      by Reads g h = read_here ((view o log).links.live l) refl seat h
-      by (Ends end) g h = end_here end g ((view o log).links.live l) refl seat h
-      by y g h =
-          let old = took_holds y (view o log).now ((view o log).links.live l) refl seat h in
-          elim (k old.0 old.1) [
-            | inl short ↦ inl (ap front old.2 ∙ short)
-            | inr left ↦ inr (stays o l log (Comes (ToLink l y)) g (plain_act l y refl) left)
-          ]
+  own_act : (x : LinkAct) → is_done_by l (Comes (ToLink l x)) ≡ true → Reading o l (Then (Comes (ToLink l x)) ∷ log)
+  own_act Reads y seat live =
+      let v : View = view o log in
+      read_here (v.links.live l) refl seat
+      (sym (took_is v l Reads l ∙ ap (λ b. cond b (took_some Reads v.now (v.links.live l)) (v.links.live l)) (own_link l)) ∙ live)
+  own_act (Ends (Broken c)) y seat live =
+      let v : View = view o log in
+      let x : LinkAct = Ends (Broken c) in
+      absurd
+      (none_some (sym (took_broken c v.now (v.links.live l))
+      ∙ sym (took_is v l x l ∙ ap (λ b. cond b (took_some x v.now (v.links.live l)) (v.links.live l)) (own_link l)) ∙ live))
+  own_act x y seat live = absurd cc
 
   to_link : (m : ℕ) (x : LinkAct) → first (agenda o log) ≡ Some (Comes (ToLink m x)) → Reading o l (Then (Comes (ToLink m x)) ∷ log)
-  to_link m x f = elim (cases_Bool (l == m)) [
-    | inl e ↦ (let same : l ≡ m = eqb-true l m e in
-        subst (λ j. Reading o l (Then (Comes (ToLink j x)) ∷ log)) same
-        (own_act x (subst (λ j. first (agenda o log) ≡ Some (Comes (ToLink j x))) (sym same) f)))
-    | inr e ↦ carried (Comes (ToLink m x)) f (other_act m x e)
-        (λ seat h. (seat, sym (ap (λ b. cond b (took_some x (view o log).now ((view o log).links.live l)) ((view o log).links.live l)) e) ∙ h, refl))
+  to_link m x f = elim (cases_Bool (is_done_by l (Comes (ToLink m x)))) [
+    | inl y ↦
+        (let same : l ≡ m = own_done x y in
+        subst (λ j. Reading o l (Then (Comes (ToLink j x)) ∷ log)) same (own_act x (subst (λ j. is_done_by l (Comes (ToLink j x)) ≡ true) (sym same) y)))
+    | inr n ↦ carried (Comes (ToLink m x)) f n refl
   ]
+    where
+      own_done : (x : LinkAct) → is_done_by l (Comes (ToLink m x)) ≡ true → l ≡ m
+      own_done Reads y = eqb-true l m y
+      own_done (Ends (Broken c)) y = eqb-true l m y
+      own_done x y = absurd cc
 
   dials : (p : Place) (starter : Who) (retries : ℕ) → first (agenda o log) ≡ Some (Dials p starter retries) → Reading o l (Then (Dials p starter retries) ∷ log)
   dials p starter retries f = elim (cases_Bool (l == (view o log).links.started)) [
     | inl e ↦ (λ seat h.
         let fresh : dialed (view o log).chosen (view o log).links.started (view o log).now p ≡ seat = some_is (rw e at h) in
         inl (ap (λ (s : Seat). front s.seen.unread) (sym fresh) ∙ front-nil))
-    | inr e ↦ carried (Dials p starter retries) f refl
-        (λ seat h. (seat, (rw e at h), refl))
+    | inr e ↦ carried (Dials p starter retries) f refl (rw e refl)
   ]
 
   -- AN EVENT BEGINS
@@ -407,16 +375,8 @@ reading : (o : Options) (l : ℕ) (log : List Entry) → IsRun o log → Reading
 reading o l [] run = λ seat h. absurd (none_some h)
 reading o l (Begins e ∷ log) run = begins o l log (reading o l log run.0) e run.1
 reading o l (Then (Comes (ToLink m x)) ∷ log) run = to_link o l log (reading o l log run.0) m x run.1
-reading o l (Then (Does who (Get p)) ∷ log) run =
-    carried o l log (reading o l log run.0) (Does who (Get p)) run.1 refl
-    (got_holds (link_got (view o log).addresses (Does who (Get p))) (view o log).now l ((view o log).links.live l))
-reading o l (Then (Does who (Ask m words)) ∷ log) run =
-    let row : Option Seat = (view o log).links.live l in
-    carried o l log (reading o l log run.0) (Does who (Ask m words)) run.1 refl
-    (either_holds (l == m) row (option_map (seat_asked who (view o log).now words) row) row
-    (map_holds (seat_asked who (view o log).now words) row (λ s. asked_unread (view o log).now words s.seen)) (same_holds row))
 reading o l (Then (Dials p starter retries) ∷ log) run = dials o l log (reading o l log run.0) p starter retries run.1
-reading o l (Then a ∷ log) run = carried o l log (reading o l log run.0) a run.1 refl (same_holds ((view o log).links.live l))
+reading o l (Then a ∷ log) run = carried o l log (reading o l log run.0) a run.1 refl refl
 
 pub frames_are_cut_lem : FramesAreCut
 frames_are_cut_lem o log l seat run rests live =

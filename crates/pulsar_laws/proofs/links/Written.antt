@@ -36,6 +36,7 @@ use Rattle.pulsar_laws.proofs.links.Writing.{Turns, numbered, turns}
 use Rattle.pulsar_incoming.specs.declared.polled.Polled.{Polled}
 use Rattle.pulsar_incoming.specs.declared.polled.Polled.TheVariants as poll
 use Rattle.pulsar_consumer.specs.Topic as reader
+use Rattle.pulsar_acts.proofs.Linking.{asked_is, dialed_is, fed_is, got_row, took_is}
 
 abbrev flat : List (List ℕ) → List ℕ
 flat xs = flat_map (λ bytes. bytes) xs
@@ -358,9 +359,9 @@ fresh_link l n o now p row ss e k = record {
 }
 
 -- one who gets it changes nothing of its connection
-got_row : (l n now : ℕ) (row : Option Seat) (ss : List Step) → Wrote l n row ss → Wrote l n (option_map (seat_got now) row) ss
-got_row l n now None ss k = k
-got_row l n now (Some r) ss k = record {
+got_same : (l n now : ℕ) (row : Option Seat) (ss : List Step) → Wrote l n row ss → Wrote l n (option_map (seat_got now) row) ss
+got_same l n now None ss k = k
+got_same l n now (Some r) ss k = record {
   places = k.places;
   left = k.left;
   whole = k.whole;
@@ -377,7 +378,7 @@ got_on l n now None row ss k = k
 got_on l n now (Some m) row ss k = either (l == m)
   where
     either : (b : Bool) → Wrote l n (cond b (option_map (seat_got now) row) row) ss
-    either true = got_row l n now row ss k
+    either true = got_same l n now row ss k
     either false = k
 
 -- and effects behind others that neither write nor queue a frame show nothing
@@ -552,7 +553,8 @@ module _ (o : Options) (log : List Entry) (w : Writes o log) (k : InAStep o log)
       let now : ℕ = (view o log).now in
       let more : List Shown = retries_on (view o log).chosen (turned (view o log) (Comes (ToLink m x))) in
       let plain : ArePlain more = turned_plain (view o log).chosen (turned (view o log) (Comes (ToLink m x))) in
-      elim (cases_Bool (l == m)) [
+      subst (λ r. Wrote l n r (with_effects (given_at m x now (row m) ++ more) (steps_done rules o log))) (sym (took_is (view o log) m x l))
+      (elim (cases_Bool (l == m)) [
         | inl e ↦ subst (λ b. Wrote l n (cond b (took_some x now (row l)) (row l)) (with_effects (given_at m x now (row m) ++ more) (steps_done rules o log)))
             (sym e)
             (subst (λ j. Wrote l n (took_some x now (row l)) (with_effects (given_at j x now (row j) ++ more) (steps_done rules o log))) (eqb-true l m e)
@@ -564,12 +566,13 @@ module _ (o : Options) (log : List Entry) (w : Writes o log) (k : InAStep o log)
             (mute_on l (given_at m x now (row m) ++ more)
             (each_append (IsMute l) (given_at m x now (row m)) more (mute_of l m (given_at m x now (row m)) e (given_of m x now (row m)))
             (mute_plain l more plain)))
-      ]
+      ])
 
   asks_on : (who : Who) (m : ℕ) (request : Words) → Writes o (Then (Does who (Ask m request)) ∷ log)
   asks_on who m request l =
       let now : ℕ = (view o log).now in
-      elim (cases_Bool (l == m)) [
+      subst (λ r. Wrote l n r (with_effects (asked_at m now request (row m)) (steps_done rules o log))) (sym (asked_is (view o log) who m request l))
+      (elim (cases_Bool (l == m)) [
         | inl e ↦ subst
             (λ b. Wrote l n (cond b (option_map (seat_asked who now request) (row l)) (row l))
             (with_effects (asked_at m now request (row m)) (steps_done rules o log))) (sym e)
@@ -581,11 +584,14 @@ module _ (o : Options) (log : List Entry) (w : Writes o log) (k : InAStep o log)
             (λ b. Wrote l n (cond b (option_map (seat_asked who now request) (row l)) (row l))
             (with_effects (asked_at m now request (row m)) (steps_done rules o log))) (sym e)
             (mute_on l (asked_at m now request (row m)) (mute_of l m (asked_at m now request (row m)) e (asked_of m now request (row m))))
-      ]
+      ])
 
   gets_on : (who : Who) (p : Place) → Writes o (Then (Does who (Get p)) ∷ log)
   gets_on who p l =
-      got_on l n (view o log).now (link_got (view o log).addresses (Does who (Get p))) (row l) (with_effects [] (steps_done rules o log)) (mute_on l [] tt)
+      let v : View = view o log in
+      let link : Option ℕ = link_got v.addresses (Does who (Get p)) in
+      subst (λ r. Wrote l n r (with_effects [] (steps_done rules o log))) (sym (got_row link v.now l (row l)))
+      (got_on l n v.now link (row l) (with_effects [] (steps_done rules o log)) (mute_on l [] tt))
 
   dials_on : (p : Place) (starter : Who) (retries : ℕ) → Writes o (Then (Dials p starter retries) ∷ log)
   dials_on p starter retries l =
@@ -594,12 +600,13 @@ module _ (o : Options) (log : List Entry) (w : Writes o log) (k : InAStep o log)
       let new : Option Seat = Some (dialed v.chosen n v.now p) in
       let done : Wrote l n (row l) (with_effects zs (steps_done rules o log)) = mute_on l zs (mute_plain l zs (effects_plain v (Dials p starter retries) refl))
       in
-      elim (cases_Bool (l == n)) [
+      subst (λ r. Wrote l (n + 1) r (with_effects zs (steps_done rules o log))) (sym (dialed_is v p starter retries l (row l)))
+      (elim (cases_Bool (l == n)) [
         | inl e ↦ subst (λ b. Wrote l (n + 1) (cond b new (row l)) (with_effects zs (steps_done rules o log))) (sym e)
             (fresh_link l n v.chosen v.now p (row l) (with_effects zs (steps_done rules o log)) e done)
         | inr e ↦ subst (λ b. Wrote l (n + 1) (cond b new (row l)) (with_effects zs (steps_done rules o log))) (sym e)
             (more_links l n (row l) (with_effects zs (steps_done rules o log)) done)
-      ]
+      ])
 
 -- an event begins a step, and feeds a piece
 begun_on : (l n : ℕ) (row later : Option Seat) (e : Heard) (ss : List Step) →
@@ -644,8 +651,9 @@ fed_begun l n piece (Some r) e ss k = begun_on l n (Some r) (Some (seat_fed piec
 live_on : (l n : ℕ) (row : Option Seat) (e : Heard) (ss : List Step) → Wrote l n row ss →
     Wrote l n (live_begun e l row) (record { event = e; effects = [] } ∷ ss)
 live_on l n row (Bytes m piece) ss k =
-    elim (l == m) as (λ b. Wrote l n (cond b (option_map (seat_fed piece) row) row) (record { event = Bytes m piece; effects = [] } ∷ ss))
-    [ true ↦ fed_begun l n piece row (Bytes m piece) ss k | false ↦ same_begun l n row (Bytes m piece) ss k ]
+    subst (λ r. Wrote l n r (record { event = Bytes m piece; effects = [] } ∷ ss)) (sym (fed_is m piece l row))
+    (elim (l == m) as (λ b. Wrote l n (cond b (option_map (seat_fed piece) row) row) (record { event = Bytes m piece; effects = [] } ∷ ss))
+    [ true ↦ fed_begun l n piece row (Bytes m piece) ss k | false ↦ same_begun l n row (Bytes m piece) ss k ])
 live_on l n row e ss k = same_begun l n row e ss k
 
 begins_on : (o : Options) (log : List Entry) (e : Heard) → Writes o log → Writes o (Begins e ∷ log)

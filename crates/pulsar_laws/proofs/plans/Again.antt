@@ -4,7 +4,7 @@ use Rattle.std.specs.Prelude.{pos}
 use Rattle.std.proofs.lemmas.Bool.{and_parts, cases_Bool}
 use Rattle.std.proofs.lemmas.Bool.Decides.{nat_tests}
 use Rattle.pulsar_laws.proofs.ActWords.{Outcome, Procedure, Rest}
-use Rattle.pulsar_laws.proofs.PlanWords.{begins, Command, Denies, Heard as News, Later, Looking, Making, news_in, Says, SearchTurn, Served, Ways, Wish}
+use Rattle.pulsar_laws.proofs.PlanWords.{begins, Command, Denies, Heard as News, Later, Looking, Making, news_in, Says, SearchTransition, Served, Ways, Wish}
 use Rattle.pulsar_laws.proofs.RunWords.{started}
 use Rattle.pulsar_laws.proofs.LinkWords.{Failure, Fault, OfConnection, Place}
 use Rattle.pulsar_frame.specs.Reply.{Reply as Content, is_body}
@@ -29,22 +29,21 @@ use Rattle.pulsar_searches.specs.declared.retry.Retrying.{Retrying}
 use Rattle.pulsar_searches.specs.declared.retry.Retrying.TheVariants as retry
 use Rattle.pulsar_searches.specs.declared.turn.Action.TheVariants.{Ask, Get, Wait}
 use Rattle.pulsar_searches.specs.declared.turn.SearchOutcome.TheVariants as news
-use Rattle.pulsar_searches.specs.declared.turn.Turn.TheVariants.{Stays, Gives}
 use Rattle.pulsar_calls.specs.declared.act.Outcome.TheVariants as outcome
 use Rattle.pulsar_calls.specs.declared.act.Procedure.TheVariants as procedure
 use Rattle.pulsar_plans.specs.Plan.{goes}
 use Rattle.pulsar_plans.specs.declared.plan.Plan.TheVariants.{Searching}
-use Rattle.pulsar_plans.specs.declared.plan.Turn.TheVariants as plan_turn
 use Rattle.pulsar_laws.proofs.Cases.{cond_so, cond_when}
 use Rattle.pulsar_laws.proofs.plans.Follow.{plans_follow_lem}
 use Rattle.pulsar_laws.proofs.plans.Waiting.{ways_are_chosen_lem}
 use Rattle.pulsar_laws.specs.Laws.{Deed, course, deeds, outcomes, ways_in}
-use Rattle.pulsar_laws.specs.RetryLaws.{AgainOrNot, CountsAgain, HasRetried, IsAllowed, LooksAgain, MakesAgain, MayRetry, QuestionsAreBounded, is_wait, one_if, rests_along, rests_making, to_32, turn_along, waits_in}
+use Rattle.pulsar_laws.specs.RetryLaws.{AgainOrNot, CountsAgain, HasRetried, IsAllowed, IsNotReady, LooksAgain, MakesAgain, MayRetry, QuestionsAreBounded, is_wait, one_if, rests_along, rests_making, to_32, turn_along, waits_in}
+use Rattle.pulsar_searches.specs.declared.transition.Transition.TheVariants.{Stays, Gives}
 
 -- ALONG WHAT A MACHINE IS TOLD
 
 -- what its states keep, by how often it rested
-abbrev Keeps : {S A : Type 0} → (S → Wish → Bool) → (S → ℕ → Type 0) → ℕ → SearchTurn S A → Type 0
+abbrev Keeps : {S A : Type 0} → (S → Wish → Bool) → (S → ℕ → Type 0) → ℕ → SearchTransition S A → Type 0
 Keeps test I k (Stays s a) = I s (cond (test s a) (k + 1) k)
 Keeps test I k (Gives a) = Unit {0}
 
@@ -52,8 +51,8 @@ rests_on : (b : Bool) (k left : ℕ) → k + (one_if b + left) ≡ cond b (k + 1
 rests_on true k left = omega arith
 rests_on false k left = omega arith
 
-kept : {S A : Type 0} (test : S → Wish → Bool) (told : S → News → SearchTurn S A) (I : S → ℕ → Type 0) →
-    ((s : S) (o : News) (k : ℕ) → I s k → Keeps test I k (told s o)) → (t : SearchTurn S A) (os : List News) (k m : ℕ) → Keeps test I k t →
+kept : {S A : Type 0} (test : S → Wish → Bool) (told : S → News → SearchTransition S A) (I : S → ℕ → Type 0) →
+    ((s : S) (o : News) (k : ℕ) → I s k → Keeps test I k (told s o)) → (t : SearchTransition S A) (os : List News) (k m : ℕ) → Keeps test I k t →
     m ≡ k + rests_along test told t os → (s : S) (a : Wish) → turn_along told t os ≡ Stays s a → I s m
 kept test told I step (Gives x) os k m i e s a h = absurd cc
 kept test told I step (Stays r b) [] k m i e s a h =
@@ -67,11 +66,11 @@ kept test told I step (Stays r b) (o ∷ os) k m i e s a h =
     kept test told I step (told r o) os n m (step r o n i) (e ∙ rests_on (test r b) k left) s a h
 
 -- so many retries, counted to the end of 32 bits
-abbrev IsNow : (n k : ℕ) → Type 0
+abbrev pub IsNow : (n k : ℕ) → Type 0
 IsNow n k = n ≡ to_32 k
 
 -- it rests, so often so far, and had counted one less
-abbrev IsBefore : (n k : ℕ) → Type 0
+abbrev pub IsBefore : (n k : ℕ) → Type 0
 IsBefore n k = (j : ℕ) × (k ≡ j + 1) × (n ≡ to_32 j)
 
 rested : (n k : ℕ) → IsNow n k → IsBefore n (k + 1)
@@ -81,12 +80,12 @@ rested n k h = (k, refl, h)
 more_to : (most n j k : ℕ) → k ≡ j + 1 → n ≡ min j most → min (n + 1) most ≡ min k most
 more_to most n j k e h = omega (arith, e, h)
 
-now_on : (n k : ℕ) → IsBefore n k → IsNow (one_more n) k
+pub now_on : (n k : ℕ) → IsBefore n k → IsNow (one_more n) k
 now_on n k (j, e, h) = more_to (2 ^ 32 - 1) n j k e h
 
 -- WHAT THE OPTIONS ALLOW
 
-may_retry : (most : Option ℕ) (n k : ℕ) → IsNow n k → allow_retry most n ≡ true → MayRetry most k
+pub may_retry : (most : Option ℕ) (n k : ℕ) → IsNow n k → allow_retry most n ≡ true → MayRetry most k
 may_retry None n k e h = tt
 may_retry (Some most) n k e h = let lt : n < most = grind (arith, nat_tests) in subst (λ x. x < most) e lt
 
@@ -97,7 +96,7 @@ has_retried (Some most) n k e h = let le : most ≤ n = grind (arith, nat_tests)
     at_most : (most n k end : ℕ) → n ≡ min k end → most ≤ n → most ≤ k
     at_most most n k end e le = omega (arith, e, le)
 
-either_so : {S A : Type 0} (w : Ways) (n k : ℕ) (rests : S) (f : Failure) (turn : SearchTurn S (Result A Failure)) → IsNow n k →
+either_so : {S A : Type 0} (w : Ways) (n k : ℕ) (rests : S) (f : Failure) (turn : SearchTransition S (Result A Failure)) → IsNow n k →
     turn ≡ cond (allow_retry w.max_retries n) (Stays rests (Wait w.retry_delay)) (Gives (Err f)) → AgainOrNot w k rests f turn
 either_so w n k rests f turn e h = elim (cases_Bool (allow_retry w.max_retries n)) [
   | inl y ↦ inl (may_retry w.max_retries n k e y, h ∙ ap (λ b. cond b (Stays rests (Wait w.retry_delay)) (Gives (Err f))) y)
@@ -108,13 +107,13 @@ none_more : (m : ℕ) → m ≡ 0 + m
 none_more m = omega arith
 
 -- a machine waits only where this is allowed, and its states keep how often it did
-abbrev WaitsSo : {S A : Type 0} → Ways → (S → ℕ → Type 0) → ℕ → SearchTurn S A → Type 0
+abbrev WaitsSo : {S A : Type 0} → Ways → (S → ℕ → Type 0) → ℕ → SearchTransition S A → Type 0
 WaitsSo w I k (Stays s (Get p)) = I s k
 WaitsSo w I k (Stays s (Ask l request)) = I s k
 WaitsSo w I k (Stays s (Wait delay)) = MayRetry w.max_retries k × I s (k + 1)
 WaitsSo w I k (Gives a) = Unit {0}
 
-keeps_so : {S A : Type 0} (w : Ways) (I : S → ℕ → Type 0) (k : ℕ) (x : SearchTurn S A) → WaitsSo w I k x → Keeps is_wait I k x
+keeps_so : {S A : Type 0} (w : Ways) (I : S → ℕ → Type 0) (k : ℕ) (x : SearchTransition S A) → WaitsSo w I k x → Keeps is_wait I k x
 keeps_so w I k (Stays s (Get p)) i = i
 keeps_so w I k (Stays s (Ask l request)) i = i
 keeps_so w I k (Stays s (Wait delay)) i = i.1
@@ -167,14 +166,19 @@ count_denied : (w : Ways) (n : ℕ) (r : Content) → is_body 22 r.body ≡ true
 unfolding count_in
 count_denied w n r b f c = rw (b, f, c) refl
 
-pub counts_again_lem : CountsAgain
-counts_again_lem w t os again n l a r h (b, f, c) =
-    either_so w n _ (count.Resting n l) (query r.error r.text) (count_told w t (count.Asked again n l) (news.Replied r)) (count_so w t os again n l a h)
+pub counts_either : (w : Ways) (t : List ℕ) (again : Bool) (n l k : ℕ) (r : Content) → IsNow n k → IsNotReady 22 1 r →
+    AgainOrNot w k (count.Resting n l) (query r.error r.text) (count_told w t (count.Asked again n l) (news.Replied r))
+counts_either w t again n l k r i (b, f, c) =
+    either_so w n k (count.Resting n l) (query r.error r.text) (count_told w t (count.Asked again n l) (news.Replied r)) i
     (ap (search.count_heard w n l) (count_denied w n r b f c) ∙ heard (allow_retry w.max_retries n) (query r.error r.text))
   where
-    heard : (x : Bool) (g : Failure) → search.count_heard w n l (cond x Later (Denies g)) ≡ cond x (Stays (count.Resting n l) (Wait w.retry_delay)) (Gives (Err g))
+    heard : (x : Bool) (g : Failure) →
+        search.count_heard w n l (cond x Later (Denies g)) ≡ cond x (Stays (count.Resting n l) (Wait w.retry_delay)) (Gives (Err g))
     heard true g = refl
     heard false g = refl
+
+pub counts_again_lem : CountsAgain
+counts_again_lem w t os again n l a r h d = counts_either w t again n l _ r (count_so w t os again n l a h) d
 
 -- THE BROKER OF A TOPIC
 
@@ -226,19 +230,24 @@ look_denied : (w : Ways) (proxy : Bool) (n : ℕ) (r : Content) → is_body 24 r
 unfolding place_heard
 look_denied w proxy n r b f c = rw (b, f, c) refl
 
-pub looks_again_lem : LooksAgain
-looks_again_lem w t os s l a r h (b, f, c) =
-    either_so w s.retries _ (look.Resting s l) (query r.error r.text) (look_told w t (look.Asked s l) (news.Replied r)) (look_so w t os s l a h)
+pub looks_either : (w : Ways) (t : List ℕ) (s : Question) (l k : ℕ) (r : Content) → IsNow s.retries k → IsNotReady 24 2 r →
+    AgainOrNot w k (look.Resting s l) (query r.error r.text) (look_told w t (look.Asked s l) (news.Replied r))
+looks_either w t s l k r i (b, f, c) =
+    either_so w s.retries k (look.Resting s l) (query r.error r.text) (look_told w t (look.Asked s l) (news.Replied r)) i
     (ap (search.look_heard w s l) (look_denied w s.last.proxy s.retries r b f c) ∙ heard (allow_retry w.max_retries s.retries) (query r.error r.text))
   where
-    heard : (x : Bool) (g : Failure) → search.look_heard w s l (cond x Later (Denies g)) ≡ cond x (Stays (look.Resting s l) (Wait w.retry_delay)) (Gives (Err g))
+    heard : (x : Bool) (g : Failure) →
+        search.look_heard w s l (cond x Later (Denies g)) ≡ cond x (Stays (look.Resting s l) (Wait w.retry_delay)) (Gives (Err g))
     heard true g = refl
     heard false g = refl
+
+pub looks_again_lem : LooksAgain
+looks_again_lem w t os s l a r h d = looks_either w t s l _ r (look_so w t os s l a h) d
 
 -- A COMMAND
 
 -- a plan within it goes on, or it begins anew
-abbrev retried : Ways → ℕ → SearchTurn Retrying (Result Place Failure) → SearchTurn Making (Result Served Failure)
+abbrev pub retried : Ways → ℕ → SearchTransition Retrying (Result Place Failure) → SearchTransition Making (Result Served Failure)
 retried w n x = search.and_then x (λ r. make.Retrying r n) (made_gets (one_more n))
 
 module _ (w : Ways) (c : Command) where
@@ -247,7 +256,7 @@ module _ (w : Ways) (c : Command) where
   MakeSo (make.Asked n l) k = IsNow n k
   MakeSo (make.Retrying r n) k = IsBefore n k
 
-  abbrev MakeKeeps : ℕ → SearchTurn Making (Result Served Failure) → Type 0
+  abbrev MakeKeeps : ℕ → SearchTransition Making (Result Served Failure) → Type 0
   MakeKeeps k x = Keeps rests_making MakeSo k x
 
   begun_again : (n k : ℕ) (f : Failure) (b : Bool) → IsNow n k →
@@ -259,7 +268,7 @@ module _ (w : Ways) (c : Command) where
   answers n l k (Ok r) i = tt
   answers n l k (Err f) i = begun_again n k (OfConnection f) (is_retryable f && allow_retry w.max_retries n) i
 
-  looked : (n k : ℕ) (x : SearchTurn Looking (Result Place Failure)) → IsBefore n k → MakeKeeps k (retried w n (search.nested x retry.Looking Gives))
+  looked : (n k : ℕ) (x : SearchTransition Looking (Result Place Failure)) → IsBefore n k → MakeKeeps k (retried w n (search.nested x retry.Looking Gives))
   looked n k (Stays s a) i = i
   looked n k (Gives (Ok place)) i = now_on n k i
   looked n k (Gives (Err f)) i = tt
@@ -277,22 +286,28 @@ module _ (w : Ways) (c : Command) where
   make_so place os n l a h =
       kept rests_making (made_told w c) MakeSo make_step (made_gets 0 place) os 0 _ refl (none_more _) (make.Asked n l) a h
 
-abbrev again_so : Ways → ℕ → Fault → Bool → SearchTurn Making (Result Served Failure)
+abbrev again_so : Ways → ℕ → Fault → Bool → SearchTransition Making (Result Served Failure)
 again_so w n f b = retried w n (cond b (Stays retry.Resting (Wait w.retry_delay)) (search.fails (OfConnection f)))
 
-pub makes_again_lem : MakesAgain
-makes_again_lem w c place os n l a o f h v = (
-  λ r. either_so w n _ (make.Retrying retry.Resting n) (OfConnection f) (made_told w c (make.Asked n l) o) (make_so w c place os n l a h)
-      (failed ∙ ap (λ b. again_so w n f (b && allow_retry w.max_retries n)) r ∙ begun (allow_retry w.max_retries n)),
-  λ r. failed ∙ ap (λ b. again_so w n f (b && allow_retry w.max_retries n)) r,
-)
-  where
-    failed : made_told w c (make.Asked n l) o ≡ again_so w n f (is_retryable f && allow_retry w.max_retries n)
-    failed = ap (search.made_answered w n l) v
+module _ (w : Ways) (c : Command) (n l : ℕ) (o : News) (f : Fault) (v : search.verdict c.answer o ≡ Err f) where
+  failed : made_told w c (make.Asked n l) o ≡ again_so w n f (is_retryable f && allow_retry w.max_retries n)
+  failed = ap (search.made_answered w n l) v
 
-    begun : (x : Bool) → again_so w n f x ≡ cond x (Stays (make.Retrying retry.Resting n) (Wait w.retry_delay)) (Gives (Err (OfConnection f)))
-    begun true = refl
-    begun false = refl
+  pub makes_either : (k : ℕ) → IsNow n k → is_retryable f ≡ true →
+      AgainOrNot w k (make.Retrying retry.Resting n) (OfConnection f) (made_told w c (make.Asked n l) o)
+  makes_either k i r =
+      either_so w n k (make.Retrying retry.Resting n) (OfConnection f) (made_told w c (make.Asked n l) o) i
+      (failed ∙ ap (λ b. again_so w n f (b && allow_retry w.max_retries n)) r ∙ begun (allow_retry w.max_retries n))
+    where
+      begun : (x : Bool) → again_so w n f x ≡ cond x (Stays (make.Retrying retry.Resting n) (Wait w.retry_delay)) (Gives (Err (OfConnection f)))
+      begun true = refl
+      begun false = refl
+
+  pub makes_no_more : is_retryable f ≡ false → made_told w c (make.Asked n l) o ≡ Gives (Err (OfConnection f))
+  makes_no_more r = failed ∙ ap (λ b. again_so w n f (b && allow_retry w.max_retries n)) r
+
+pub makes_again_lem : MakesAgain
+makes_again_lem w c place os n l a o f h v = (λ r. makes_either w c n l o f v _ (make_so w c place os n l a h) r, λ r. makes_no_more w c n l o f v r)
 
 -- IN A RUN each wait of a question is one that the options allow
 
@@ -312,11 +327,11 @@ module _ (w : Ways) where
   over_bounded : (k : ℕ) → IsAllowed w.max_retries k → IsAllowed w.max_retries (k + 0)
   over_bounded k a = same_allowed w.max_retries k (k + 0) (omega arith) a
 
-  module _ {S A : Type 0} (I : S → ℕ → Type 0) (within : S → Search) (gives : A → SearchTurn Search (Result Answer Failure)) where
+  module _ {S A : Type 0} (I : S → ℕ → Type 0) (within : S → Search) (gives : A → SearchTransition Search (Result Answer Failure)) where
     abbrev Goes : List Outcome → Type 0
-    Goes os = (s : S) (k : ℕ) → I s k → IsAllowed w.max_retries k → Bounded k (course (plan_turn.Stays (Searching w (within s)) Rest) os)
+    Goes os = (s : S) (k : ℕ) → I s k → IsAllowed w.max_retries k → Bounded k (course (Stays (Searching w (within s)) Rest) os)
 
-    goes_bounded : ((a : A) → (x : Result Answer Failure) × (gives a ≡ Gives x)) → (x : SearchTurn S (Result A Failure)) (k : ℕ) (os : List Outcome) →
+    goes_bounded : ((a : A) → (x : Result Answer Failure) × (gives a ≡ Gives x)) → (x : SearchTransition S (Result A Failure)) (k : ℕ) (os : List Outcome) →
         WaitsSo w I k x → IsAllowed w.max_retries k → Goes os → Bounded k (course (goes w (search.and_then x within gives)) os)
     goes_bounded ends (Gives (Ok x)) k os i a on = let e = ends x in subst (λ y. Bounded k (course (goes w y) os)) (sym e.1) (over_bounded k a)
     goes_bounded ends (Gives (Err f)) k os i a on = over_bounded k a
@@ -326,10 +341,10 @@ module _ (w : Ways) where
     goes_bounded ends (Stays s (Ask l request)) k (o ∷ os) i a on = on s k i a
     goes_bounded ends (Stays s (Wait delay)) k [] i a on = one_waited w.max_retries k i.0
     goes_bounded ends (Stays s (Wait delay)) k (o ∷ os) i a on =
-        let n : ℕ = waits_in (course (plan_turn.Stays (Searching w (within s)) Rest) (o ∷ os)) in
+        let n : ℕ = waits_in (course (Stays (Searching w (within s)) Rest) (o ∷ os)) in
         same_allowed w.max_retries (k + 1 + n) (k + (n + 1)) (omega arith) (on s (k + 1) i.1 (one_waited w.max_retries k i.0))
 
-    on_bounded : (told : S → News → SearchTurn S (Result A Failure)) →
+    on_bounded : (told : S → News → SearchTransition S (Result A Failure)) →
         ((s : S) (o : News) → search.told w (within s) o ≡ search.and_then (told s o) within gives) →
         ((a : A) → (x : Result Answer Failure) × (gives a ≡ Gives x)) → ((s : S) (o : News) (k : ℕ) → I s k → WaitsSo w I k (told s o)) →
         (os : List Outcome) → Goes os

@@ -1,7 +1,7 @@
 -- What an action gives at once: nothing, or that one is told what came of it, or a dial; and the Stop ends all links. `performs` is walked once, here.
 use Rattle.std.proofs.Common.{◌≡◌, ap, ℕ, List, [], ◌∷◌, ◌++◌, refl, Bool, true, false, cond, Option, Some, None, Result, Ok, Err}
 use Rattle.std.specs.Option.{option_map}
-use Rattle.pulsar_laws.proofs.ActWords.{Act, Action, Answers, Ask, Comes, Dials, Does, Draw, Ends, FailConsumer, Find, FindConsumer, Flush, Get, Hold, Number, OfTopic, Outcome, PassTurn, Recall, RecallConsumer, Remake, Rest, Revive, Shut, Starts, StopAll, Stops, Store, TakeBatch, TakeFlow, TakeNumber, TakeTurn, Tell, TellAll, ToLink, Told, TopicAsk, Wait, Who, ticket_of}
+use Rattle.pulsar_laws.proofs.ActWords.{Act, Action, Answers, Ask, Comes, Dials, Does, Draw, Ends, FailConsumer, Find, FindConsumer, Flush, Get, Hold, Number, OfTopic, Outcome, PassTurn, Recall, RecallConsumer, Remake, Rest, Revive, Shut, Starts, StopAll, Stops, Store, TakeBatch, TakeFlow, TakeNumber, TakeTurn, Tell, TellAll, ToLink, Told, TopicAsk, Wait, Who, ticket_of, OfConsumer}
 use Rattle.pulsar_laws.proofs.PlanWords.{Command, Drawn, News}
 use Rattle.pulsar_laws.proofs.RunWords.{Each, each_append, notice, over_each, performs, room_of, tells, View}
 use Rattle.pulsar_laws.proofs.LinkWords.{address_key, answer_at, ConnectionError, is_reachable, Nobody, over_links, Pauses, Place, Runs, Series, Serves, stop_act, told_at, Words}
@@ -13,10 +13,11 @@ use Rattle.pulsar_producer_table.specs.declared.table.Topic.{Topic}
 use Rattle.pulsar_producer_table.specs.Producers.{drawn, is_settled_at, link_at, next_batch_at, number_drawn, recalled, turn_taken}
 use Rattle.pulsar_producer_table.specs.Asks.{draw_outcome, draw_said, grants_it, link_said, recall_said, turn_said}
 use Rattle.pulsar_acts.specs.Rules.{gets_from, number_said, says_to}
-use Rattle.pulsar_acts.specs.Reading.{recalled_said, sought_said, numbering_said}
+use Rattle.pulsar_consumer_table.specs.Asks.{recalled_said, sought_said}
+use Rattle.pulsar_acts.specs.Reading.{numbering_said}
 use Rattle.pulsar_consumer_table.specs.Consumers as consumer
-use Rattle.pulsar_consumer_table.specs.declared.row.Sought.{Sought}
-use Rattle.pulsar_consumer_table.specs.declared.row.Sought.TheVariants.{Found, Gone, Later}
+use Rattle.pulsar_consumer_table.specs.declared.row.LinkAnswer.{LinkAnswer}
+use Rattle.pulsar_consumer_table.specs.declared.row.LinkAnswer.TheVariants.{Found, Gone, Later}
 use Rattle.pulsar_consumer_table.specs.declared.numbers.Numbering.{Numbering}
 use Rattle.pulsar_consumer_table.specs.declared.numbers.Numbering.TheVariants.{Has, InUse, Spent}
 use Rattle.pulsar_client.proofs.Raising.{IsRaised}
@@ -114,12 +115,12 @@ module _ (v : View) (who : Who) where
   numbering_once wanted InUse = says tt refl
   numbering_once wanted Spent = says tt refl
 
-  sought_once : (t : ℕ) (x : Sought) → AtOnce v who (FindConsumer t) (sought_said who x)
+  sought_once : (t : ℕ) (x : LinkAnswer) → AtOnce v who (OfConsumer (FindConsumer t)) (says_to who (sought_said x))
   sought_once t (Found l) = says tt refl
   sought_once t Gone = says tt refl
   sought_once t Later = nothing
 
-  command_once : (r : Option Command) → AtOnce v who RecallConsumer (recalled_said who r)
+  command_once : (r : Option Command) → AtOnce v who (OfConsumer RecallConsumer) (tells who (recalled_said r))
   command_once None = says tt refl
   command_once (Some c) = says tt refl
 
@@ -145,11 +146,11 @@ module _ (v : View) (who : Who) where
   performs_once (Hold l n) = says tt refl
   performs_once (Shut t) = says tt refl
   performs_once (TakeNumber wanted) = numbering_once wanted (consumer.numbering v.consumers wanted)
-  performs_once (FindConsumer t) = sought_once t (consumer.sought (v.consumers.rows t))
-  performs_once TakeFlow = says tt refl
-  performs_once RecallConsumer = command_once (consumer.recalled (v.consumers.rows (ticket_of who)))
-  performs_once (Revive l) = says tt refl
-  performs_once (FailConsumer f) = says tt refl
+  performs_once (OfConsumer (FindConsumer t)) = sought_once t (consumer.sought (v.consumers.rows t))
+  performs_once (OfConsumer TakeFlow) = says tt refl
+  performs_once (OfConsumer RecallConsumer) = command_once (consumer.recalled (v.consumers.rows (ticket_of who)))
+  performs_once (OfConsumer (Revive l)) = says tt refl
+  performs_once (OfConsumer (FailConsumer f)) = says tt refl
   performs_once (Tell n) = says tt refl
   performs_once (TellAll ns) = says tt refl
   performs_once Rest = nothing

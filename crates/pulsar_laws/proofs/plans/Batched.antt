@@ -16,13 +16,13 @@ use Rattle.pulsar_outgoing.specs.declared.batch.Fate.TheVariants as fate
 use Rattle.pulsar_producer.specs.declared.batching.Batching.TheVariants as batching
 use Rattle.pulsar_producer.specs.declared.batching.Goes.{Goes}
 use Rattle.pulsar_outgoing.specs.declared.news.News.TheVariants as news
-use Rattle.pulsar_producer.specs.declared.deed.Step.TheVariants as step
 use Rattle.pulsar_producer.specs.declared.sending.Sending.TheVariants as send
 use Rattle.pulsar_calls.specs.declared.act.Outcome.TheVariants as outcome
 use Rattle.pulsar_plans.specs.Plan.{told_batch}
 use Rattle.pulsar_producer.proofs.Arcs.{SendArc, draws, send_arc}
 use Rattle.pulsar_laws.proofs.Cases.{cond_when}
 use Rattle.pulsar_plans.proofs.Arcs.{StaysSo}
+use Rattle.pulsar_searches.specs.declared.transition.Transition.TheVariants as transition
 
 -- HOW IT COMES TO A STATE, and what it does there
 
@@ -51,7 +51,7 @@ Writes e ms c s a u =
     × (c ≡ length (entries_in items)) × (batch_of (entries_in items) ≡ Ok m) × (s ≡ send.Waiting m) × (a ≡ OfTopic e.producer TakeTurn)
 
 abbrev pub GoesOn : Ways → Errand → Send → Send → Action → Outcome → Type 0
-GoesOn w e old s a u = (d : Deed) × (produce.send_told w e old (news_of u) ≡ step.Stays s d) × (a ≡ action_of d)
+GoesOn w e old s a u = (d : Deed) × (produce.send_told w e old (news_of u) ≡ transition.Stays s d) × (a ≡ action_of d)
 
 abbrev pub IsSending : Ways → Errand → List Member → ℕ → Send → Action → Batches → Outcome → Type 0
 IsSending w e ms c s a batching.Resting u = ⊥
@@ -66,8 +66,8 @@ Unsent items f = ((entries_in items ≡ []) × (f ≡ fate.Flushed)) ⊎ ((r : R
 abbrev pub Comes : Ways → Errand → Send → Outcome → Fate → Type 0
 Comes w e s u f =
     ((overrides u ≡ true) × (f ≡ fate.Halted))
-    ⊎ (((r : Content) × (produce.send_told w e s (news_of u) ≡ step.Gives (Ok r)) × (f ≡ receipt_fate r))
-    ⊎ ((g : Failure) × (produce.send_told w e s (news_of u) ≡ step.Gives (Err g)) × (f ≡ failed g)))
+    ⊎ (((r : Content) × (produce.send_told w e s (news_of u) ≡ transition.Gives (Ok r)) × (f ≡ receipt_fate r))
+    ⊎ ((g : Failure) × (produce.send_told w e s (news_of u) ≡ transition.Gives (Err g)) × (f ≡ failed g)))
 
 abbrev pub IsSettling : Ways → Errand → Action → Batches → Outcome → Type 0
 IsSettling w e a batching.Resting u = ⊥
@@ -143,9 +143,9 @@ module _ (w : Ways) (e : Errand) where
 
   sends_goes : (ms : List Member) (c : ℕ) (s : Send) (u : Outcome) (x : Sent) → produce.send_told w e s (news_of u) ≡ x →
       GoesTo (batching.Sending ms c s) u (batches.sends ms c x)
-  sends_goes ms c s u (step.Stays q d) h = (refl, refl, (d, h, refl))
-  sends_goes ms c s u (step.Gives (Ok r)) h = inr (receipt_fate r, inr (inl (r, h, refl)), refl)
-  sends_goes ms c s u (step.Gives (Err g)) h = inr (failed g, inr (inr (g, h, refl)), refl)
+  sends_goes ms c s u (transition.Stays q d) h = (refl, refl, (d, h, refl))
+  sends_goes ms c s u (transition.Gives (Ok r)) h = inr (receipt_fate r, inr (inl (r, h, refl)), refl)
+  sends_goes ms c s u (transition.Gives (Err g)) h = inr (failed g, inr (inr (g, h, refl)), refl)
 
   told_goes : (b : Batches) (u : Outcome) → GoesTo b u (batches.told w e b (news_of u))
   told_goes batching.Resting u = resting_goes u

@@ -1,6 +1,6 @@
 -- What the plans of consumers do: it touches no producer, sends no message, tells nobody, and stops nothing. And what calls on consumers begin.
 use Rattle.std.proofs.Common.{◌≡◌, ℕ, List, [], ◌∷◌, refl, Bool, true, false, Option, Some, None}
-use Rattle.pulsar_laws.proofs.ActWords.{Action, Ask, Asked, FailConsumer, FindConsumer, Get, Procedure, RecallConsumer, CallRefusal, Rest, Revive, TakeFlow, TakeNumber, Wait}
+use Rattle.pulsar_laws.proofs.ActWords.{Action, Ask, Asked, Get, Procedure, CallRefusal, Rest, TakeNumber, Wait, OfConsumer}
 use Rattle.pulsar_laws.proofs.PlanWords.{Ways}
 use Rattle.pulsar_laws.proofs.RunWords.{Chosen, may_call, procedure_for, Tickets, unless_refused, ways_of}
 use Rattle.pulsar_messages.specs.Words as words
@@ -18,11 +18,7 @@ is_modest (Get p) = true
 is_modest (Ask l request) = true
 is_modest (Wait delay) = true
 is_modest (TakeNumber wanted) = true
-is_modest (FindConsumer t) = true
-is_modest TakeFlow = true
-is_modest RecallConsumer = true
-is_modest (Revive l) = true
-is_modest (FailConsumer f) = true
+is_modest (OfConsumer ask) = true
 is_modest Rest = true
 is_modest _ = false
 

@@ -2,7 +2,7 @@
 use Rattle.std.proofs.Common.{arith, ◌≡◌, ◌⊎◌, inl, inr, sym, subst, ℕ, zero, suc, ◌+◌, ◌≤◌, ◌==◌, List, [], ◌∷◌, ◌++◌, length, refl, false, ◌&&◌, None, Result, Ok, Err}
 use Rattle.std.proofs.lemmas.Bool.{cases_Bool, eqb-true}
 use Rattle.pulsar_laws.proofs.ActWords.{Outcome}
-use Rattle.pulsar_laws.proofs.PlanWords.{Denies, Later, Looking, Naming, Heard as News, Says, SearchTurn, Ways}
+use Rattle.pulsar_laws.proofs.PlanWords.{Denies, Heard as News, Later, Looking, Naming, Says, SearchTransition, Ways}
 use Rattle.pulsar_laws.proofs.RunWords.{In}
 use Rattle.pulsar_laws.proofs.LinkWords.{Failure, Named, Place, Reply}
 use Rattle.pulsar_frame.specs.Reply.{Reply as Content}
@@ -15,10 +15,10 @@ use Rattle.pulsar_searches.specs.declared.count.Counting.TheVariants as count
 use Rattle.pulsar_searches.specs.declared.names.Naming.TheVariants as name
 use Rattle.pulsar_searches.specs.declared.replies.Heard.{Heard}
 use Rattle.pulsar_searches.specs.declared.turn.SearchOutcome.TheVariants as news
-use Rattle.pulsar_searches.specs.declared.turn.Turn.TheVariants as search_turn
 use Rattle.pulsar_consumer.specs.Plans as consume
 use Rattle.pulsar_calls.specs.declared.act.Outcome.TheVariants as outcome
 use Rattle.pulsar_laws.proofs.Cases.{cond_so}
+use Rattle.pulsar_searches.specs.declared.transition.Transition.TheVariants as transition
 
 not_zero : (n : ℕ) → (n == 0) ≡ false → 1 ≤ n
 not_zero zero h = absurd cc
@@ -51,15 +51,15 @@ module _ (w : Ways) (all : List Outcome) where
   NamedIn (name.Counting c) = Unit {0}
   NamedIn (name.Whole l) = Unit {0}
 
-  abbrev CountKept : SearchTurn Counting (Result ℕ Failure) → Type 0
-  CountKept (search_turn.Stays s a) = Unit {0}
-  CountKept (search_turn.Gives (Ok k)) = (k ≡ 0) ⊎ IsCounted k
-  CountKept (search_turn.Gives (Err f)) = Unit {0}
+  abbrev CountKept : SearchTransition Counting (Result ℕ Failure) → Type 0
+  CountKept (transition.Stays s a) = Unit {0}
+  CountKept (transition.Gives (Ok k)) = (k ≡ 0) ⊎ IsCounted k
+  CountKept (transition.Gives (Err f)) = Unit {0}
 
-  abbrev pub NamesKept : SearchTurn Naming (Result (List Named) Failure) → Type 0
-  NamesKept (search_turn.Stays s a) = NamedIn s
-  NamesKept (search_turn.Gives (Ok names)) = consume.only names ≡ None → Several
-  NamesKept (search_turn.Gives (Err f)) = Unit {0}
+  abbrev pub NamesKept : SearchTransition Naming (Result (List Named) Failure) → Type 0
+  NamesKept (transition.Stays s a) = NamedIn s
+  NamesKept (transition.Gives (Ok names)) = consume.only names ≡ None → Several
+  NamesKept (transition.Gives (Err f)) = Unit {0}
 
   count_kept : (t : List ℕ) (c : Counting) (x : News) → Heeds x → CountKept (search.count_told w t c x)
   count_kept t (count.Getting again n) (news.GotLink l) h = tt
@@ -97,16 +97,17 @@ module _ (w : Ways) (all : List Outcome) where
     | inr z ↦ (let more : 1 ≤ k = not_zero k z in rw z (omega (arith, more), c))
   ]
 
-  count_then : (t : List ℕ) (x : SearchTurn Counting (Result ℕ Failure)) → CountKept x → NamesKept (search.and_then x name.Counting (search.names_of w t))
-  count_then t (search_turn.Stays s a) k = tt
-  count_then t (search_turn.Gives (Ok n)) k = of_kept t n k
-  count_then t (search_turn.Gives (Err f)) k = tt
+  count_then : (t : List ℕ) (x : SearchTransition Counting (Result ℕ Failure)) → CountKept x → NamesKept (search.and_then x name.Counting (search.names_of w t))
+  count_then t (transition.Stays s a) k = tt
+  count_then t (transition.Gives (Ok n)) k = of_kept t n k
+  count_then t (transition.Gives (Err f)) k = tt
 
-  look_then : (x : SearchTurn Looking (Result Place Failure)) (within : Looking → Naming) (on : Place → SearchTurn Naming (Result (List Named) Failure)) →
+  look_then : (x : SearchTransition Looking (Result Place Failure)) (within : Looking → Naming) (on : Place →
+      SearchTransition Naming (Result (List Named) Failure)) →
       ((l : Looking) → NamedIn (within l)) → ((p : Place) → NamesKept (on p)) → NamesKept (search.and_then x within on)
-  look_then (search_turn.Stays s a) within on k m = k s
-  look_then (search_turn.Gives (Ok p)) within on k m = m p
-  look_then (search_turn.Gives (Err f)) within on k m = tt
+  look_then (transition.Stays s a) within on k m = k s
+  look_then (transition.Gives (Ok p)) within on k m = m p
+  look_then (transition.Gives (Err f)) within on k m = tt
 
   only_one : (t : List ℕ) (p : Place) → consume.only (search_low.name_found [] t p) ≡ None → Several
   only_one t p h = absurd cc
@@ -114,7 +115,7 @@ module _ (w : Ways) (all : List Outcome) where
   pub names_kept : (t : List ℕ) (n : Naming) (x : News) → Heeds x → NamedIn n → NamesKept (search.names_told w t n x)
   names_kept t (name.Counting c) x h k = count_then t (search.count_told w t c x) (count_kept t c x h)
   names_kept t (name.Whole l) x h k =
-      look_then (search.look_told w t l x) name.Whole (λ p. search_turn.Gives (Ok (search_low.name_found [] t p))) (λ l. tt) (λ p. only_one t p)
+      look_then (search.look_told w t l x) name.Whole (λ p. transition.Gives (Ok (search_low.name_found [] t p))) (λ l. tt) (λ p. only_one t p)
   names_kept t (name.Part l p) x h k =
       look_then (search.look_told w p.name l x) (λ l. name.Part l p) (λ y. search.names_left w t p.count p.left (search_low.name_found p.found p.name y))
       (λ l. k) (λ y. left_kept t p.count p.left (search_low.name_found p.found p.name y) (so_many y) some k.1)

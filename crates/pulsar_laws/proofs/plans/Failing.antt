@@ -3,7 +3,7 @@ use Rattle.std.proofs.Common.{◌≡◌, ◌⊎◌, inl, inr, ◌∙◌, sym, ap
 use Rattle.std.specs.List.{list_any}
 use Rattle.std.specs.Option.{is_some}
 use Rattle.pulsar_laws.proofs.ActWords.{Action, Checks, Flushes, Link, Makes, Nothing, numbers_from, Outcome, Procedure, Rest, Said, Share, Verdict}
-use Rattle.pulsar_laws.proofs.PlanWords.{Asking, Awaiting, Batches, Batching, begins, BuildingProducer as Build, Built, Command, Says as CountIs, Errand, fails, Gives, is_answer, Leaving, Making, Naming, Heard as News, news_in, news_of, ProducerOrder, overrides, Plan, Producing, Reporting, SearchTurn, Sending as Send, Served, Serving, Stays, Stored, Storing, Subscribing, told, Turn, verdict, Visiting, Ways, Deed as Wish}
+use Rattle.pulsar_laws.proofs.PlanWords.{Asking, Awaiting, Batches, Batching, begins, BuildingProducer as Build, Built, Command, Deed as Wish, Errand, fails, Gives, Heard as News, is_answer, Leaving, Making, Naming, news_in, news_of, overrides, Plan, PlanTransition, ProducerOrder, Producing, Reporting, Says as CountIs, SearchTransition, Sending as Send, Served, Serving, Stays, Stored, Storing, Subscribing, told, verdict, Visiting, Ways}
 use Rattle.pulsar_laws.proofs.RunWords.{Answered, In, stays}
 use Rattle.pulsar_laws.proofs.plans.Follow.{along}
 use Rattle.pulsar_laws.proofs.LinkWords.{Failure, Named, OfConnection, Reply}
@@ -21,13 +21,10 @@ use Rattle.pulsar_searches.specs.declared.plan.Answer.{Answer}
 use Rattle.pulsar_searches.specs.declared.plan.Answer.TheVariants as answer
 use Rattle.pulsar_searches.specs.declared.plan.SearchPlan.{SearchPlan as Search}
 use Rattle.pulsar_searches.specs.declared.turn.SearchOutcome.TheVariants as news
-use Rattle.pulsar_searches.specs.declared.turn.Turn.TheVariants as search_turn
 use Rattle.pulsar_outgoing.specs.Errors.{in_producer}
 use Rattle.pulsar_producer.specs.Plans as produce
 use Rattle.pulsar_producer.specs.Plans.{fault_told}
 use Rattle.pulsar_outgoing.specs.declared.news.News.TheVariants as granting
-use Rattle.pulsar_producer.specs.declared.deed.Step.{Step}
-use Rattle.pulsar_producer.specs.declared.deed.Step.TheVariants as step
 use Rattle.pulsar_calls.specs.declared.act.Outcome.TheVariants as outcome
 use Rattle.pulsar_calls.specs.declared.act.Outcome.TheVariants.{GotLink, Queued, InLine, Replied, Granted, Parted, Settled, Cut, Stopped}
 use Rattle.pulsar_calls.specs.declared.act.Place.TheVariants.{At}
@@ -51,10 +48,11 @@ use Rattle.pulsar_consumer.specs.declared.building.News.{News as ConsumerNews}
 use Rattle.pulsar_incoming.specs.declared.orders.ConsumerOrder.{ConsumerOrder}
 use Rattle.pulsar_calls.specs.declared.act.Word.TheVariants as word
 use Rattle.pulsar_consumer.specs.Plans as consume
-use Rattle.pulsar_searches.specs.declared.closing.Step.TheVariants as building_step
 use Rattle.pulsar_consumer.specs.declared.building.BuildingConsumer.TheVariants as consumer_build
 use Rattle.pulsar_consumer.specs.declared.building.News.TheVariants as consumer_news
 use Rattle.pulsar_laws.proofs.plans.Counted.{Heeds, IsCounted, NamedIn, NamesKept, Several, names_begin_kept, names_kept}
+use Rattle.pulsar_searches.specs.declared.transition.Transition.TheVariants as transition
+use Rattle.pulsar_producer.specs.Transitions.{ProducerTransition}
 
 -- FAULTS
 
@@ -107,25 +105,25 @@ Fails m f = Answered (record { makes = m; said = Failed f })
 -- THE BUILDING OF A CONSUMER, where it fails
 
 abbrev BuildFails : (Failure → Type 0) → consume.Builds → Type 0
-BuildFails P (building_step.Stays b d) = Unit {0}
-BuildFails P (building_step.Gives (Ok b)) = Unit {0}
-BuildFails P (building_step.Gives (Err f)) = P f
+BuildFails P (transition.Stays b d) = Unit {0}
+BuildFails P (transition.Gives (Ok b)) = Unit {0}
+BuildFails P (transition.Gives (Err f)) = P f
 
-then_fails : {S A : Type 0} (P Q : Failure → Type 0) (turn : SearchTurn S (Result A Failure)) (within : S → ConsumerBuild) (on : A → consume.Builds) →
+then_fails : {S A : Type 0} (P Q : Failure → Type 0) (turn : SearchTransition S (Result A Failure)) (within : S → ConsumerBuild) (on : A → consume.Builds) →
     FailsBy Q turn → ((f : Failure) → Q f → P f) → ((a : A) → BuildFails P (on a)) → BuildFails P (consume.build_then turn within on)
-then_fails P Q (search_turn.Stays s action) within on q h k = tt
-then_fails P Q (search_turn.Gives (Ok a)) within on q h k = k a
-then_fails P Q (search_turn.Gives (Err f)) within on q h k = h f q
+then_fails P Q (transition.Stays s action) within on q h k = tt
+then_fails P Q (transition.Gives (Ok a)) within on q h k = k a
+then_fails P Q (transition.Gives (Err f)) within on q h k = h f q
 
 numbers_fail : (P : Failure → Type 0) (o : ConsumerOrder) (n : Option Named) → (n ≡ None → P consume.not_found) → BuildFails P (consume.build_numbers o n)
 numbers_fail P o None k = k refl
 numbers_fail P o (Some n) k = tt
 
-named_fails : (P Q : Failure → Type 0) (w : Ways) (all : List Outcome) (o : ConsumerOrder) (turn : SearchTurn Naming (Result (List Named) Failure)) →
+named_fails : (P Q : Failure → Type 0) (w : Ways) (all : List Outcome) (o : ConsumerOrder) (turn : SearchTransition Naming (Result (List Named) Failure)) →
     FailsBy Q turn → ((f : Failure) → Q f → P f) → NamesKept w all turn → (Several w all → P consume.not_found) → BuildFails P (consume.build_names o turn)
-named_fails P Q w all o (search_turn.Stays s action) q h k m = tt
-named_fails P Q w all o (search_turn.Gives (Ok names)) q h k m = numbers_fail P o (consume.only names) (λ e. m (k e))
-named_fails P Q w all o (search_turn.Gives (Err f)) q h k m = h f q
+named_fails P Q w all o (transition.Stays s action) q h k m = tt
+named_fails P Q w all o (transition.Gives (Ok names)) q h k m = numbers_fail P o (consume.only names) (λ e. m (k e))
+named_fails P Q w all o (transition.Gives (Err f)) q h k m = h f q
 
 -- what such a building keeps
 module _ (w : Ways) (all : List Outcome) where
@@ -135,22 +133,23 @@ module _ (w : Ways) (all : List Outcome) where
   BuildNamed (consumer_build.Making c m n) = Unit {0}
 
   abbrev BuildKept : consume.Builds → Type 0
-  BuildKept (building_step.Stays b d) = BuildNamed b
-  BuildKept (building_step.Gives a) = Unit {0}
+  BuildKept (transition.Stays b d) = BuildNamed b
+  BuildKept (transition.Gives a) = Unit {0}
 
   numbers_kept : (o : ConsumerOrder) (n : Option Named) → BuildKept (consume.build_numbers o n)
   numbers_kept o None = tt
   numbers_kept o (Some n) = tt
 
-  named_kept : (o : ConsumerOrder) (turn : SearchTurn Naming (Result (List Named) Failure)) → NamesKept w all turn → BuildKept (consume.build_names o turn)
-  named_kept o (search_turn.Stays s action) k = k
-  named_kept o (search_turn.Gives (Ok names)) k = numbers_kept o (consume.only names)
-  named_kept o (search_turn.Gives (Err f)) k = tt
+  named_kept : (o : ConsumerOrder) (turn : SearchTransition Naming (Result (List Named) Failure)) → NamesKept w all turn →
+      BuildKept (consume.build_names o turn)
+  named_kept o (transition.Stays s action) k = k
+  named_kept o (transition.Gives (Ok names)) k = numbers_kept o (consume.only names)
+  named_kept o (transition.Gives (Err f)) k = tt
 
-  makes_kept : (c : Command) (n : ℕ) (turn : SearchTurn Making (Result Served Failure)) → BuildKept (consume.build_makes c n turn)
-  makes_kept c n (search_turn.Stays s action) = tt
-  makes_kept c n (search_turn.Gives (Ok s)) = tt
-  makes_kept c n (search_turn.Gives (Err f)) = tt
+  makes_kept : (c : Command) (n : ℕ) (turn : SearchTransition Making (Result Served Failure)) → BuildKept (consume.build_makes c n turn)
+  makes_kept c n (transition.Stays s action) = tt
+  makes_kept c n (transition.Gives (Ok s)) = tt
+  makes_kept c n (transition.Gives (Err f)) = tt
 
   build_kept : (o : ConsumerOrder) (b : ConsumerBuild) (y : ConsumerNews) → ((x : News) → y ≡ consumer_news.Told x → Heeds w all x) → BuildNamed b →
       BuildKept (consume.build_told w o b y)
@@ -236,7 +235,7 @@ module _ (p : Procedure) (all : List Outcome) where
   Holds (Departing t n) = p ≡ procedure.Leave t n
   Holds Stopping = Unit {0}
 
-  abbrev pub TurnHolds : Turn Plan Verdict → Type 0
+  abbrev pub TurnHolds : PlanTransition → Type 0
   TurnHolds (Stays plan action) = Holds plan
   TurnHolds (Gives verdict) = Says verdict.said
 
@@ -277,11 +276,11 @@ module _ (p : Procedure) (all : List Outcome) where
   says_found (answer.Addresses names) f h = absurd cc
   says_found (answer.Reply served) f h = absurd cc
 
-  goes_holds : (w : Ways) (P : Failure → Type 0) (turn : SearchTurn Search (Result Answer Failure)) → ways_in p ≡ Some w → Keeps P turn →
+  goes_holds : (w : Ways) (P : Failure → Type 0) (turn : SearchTransition Search (Result Answer Failure)) → ways_in p ≡ Some w → Keeps P turn →
       ((f : Failure) → P f → FailsSo p all f) → TurnHolds (goes w turn)
-  goes_holds w P (search_turn.Stays s action) is k fail = (is, k)
-  goes_holds w P (search_turn.Gives (Ok a)) is k fail = says_found a
-  goes_holds w P (search_turn.Gives (Err f)) is k fail = says_failed f (fail f k)
+  goes_holds w P (transition.Stays s action) is k fail = (is, k)
+  goes_holds w P (transition.Gives (Ok a)) is k fail = says_found a
+  goes_holds w P (transition.Gives (Err f)) is k fail = says_failed f (fail f k)
 
   -- PRODUCERS
 
@@ -297,11 +296,12 @@ module _ (p : Procedure) (all : List Outcome) where
       replied_so outcome.Woken i e = absurd cc
       replied_so u i e = absurd cc
 
-  builds_hold : (w : Ways) (o : ProducerOrder) (x : Step Build (Result (List Built) Failure)) → ways_in p ≡ Some w → Ends (BuildKeeps Fails') Fails' x →
+  builds_hold : (w : Ways) (o : ProducerOrder) (x : ProducerTransition Build (Result (List Built) Failure)) → ways_in p ≡ Some w →
+      Ends (BuildKeeps Fails') Fails' x →
       TurnHolds (builds w o x)
-  builds_hold w o (step.Stays b d) is k = (is, k)
-  builds_hold w o (step.Gives (Ok parts)) is k = says_done
-  builds_hold w o (step.Gives (Err f)) is k = says_failed f k
+  builds_hold w o (transition.Stays b d) is k = (is, k)
+  builds_hold w o (transition.Gives (Ok parts)) is k = says_done
+  builds_hold w o (transition.Gives (Err f)) is k = says_failed f k
 
   leaves_hold : (share : Option Share) (f : Failure) → FailsSo p all f → TurnHolds (leaves share f)
   leaves_hold None f k = with_failure f k
@@ -328,9 +328,9 @@ module _ (p : Procedure) (all : List Outcome) where
   sends_hold : (w : Ways) (e : Errand) (share : Option Share) (x : produce.Sent) → ways_in p ≡ Some w → fails_in_producer p ≡ true →
       Ends (SendKeeps Fails') Fails' x →
       TurnHolds (goes_on_sending w e share x)
-  sends_hold w e share (step.Stays s d) is fs k = stays_hold w e share s d is fs k
-  sends_hold w e share (step.Gives (Ok r)) is fs k = says_receipt r.body
-  sends_hold w e share (step.Gives (Err f)) is fs k = leaves_hold share f k
+  sends_hold w e share (transition.Stays s d) is fs k = stays_hold w e share s d is fs k
+  sends_hold w e share (transition.Gives (Ok r)) is fs k = says_receipt r.body
+  sends_hold w e share (transition.Gives (Err f)) is fs k = leaves_hold share f k
 
   -- A MESSAGE THAT IS STORED, AND BATCHES
 
@@ -433,9 +433,9 @@ module _ (p : Procedure) (all : List Outcome) where
 
   building_holds : (w : Ways) (o : ConsumerOrder) (x : consume.Builds) → p ≡ procedure.Subscribe w o → BuildFails Fails' x → BuildKept w all x →
       TurnHolds (subscribes w o x)
-  building_holds w o (building_step.Stays b d) is k m = (is, m)
-  building_holds w o (building_step.Gives (Ok b)) is k m = says_done
-  building_holds w o (building_step.Gives (Err f)) is k m = says_failed f k
+  building_holds w o (transition.Stays b d) is k m = (is, m)
+  building_holds w o (transition.Gives (Ok b)) is k m = says_done
+  building_holds w o (transition.Gives (Err f)) is k m = says_failed f k
 
   several_so : (w : Ways) (o : ConsumerOrder) → p ≡ procedure.Subscribe w o → Several w all → FailsSo p all consume.not_found
   several_so w o is (k, (r, n, i, c), two) = IsOfSeveral w o r n k is i c two refl
@@ -563,7 +563,7 @@ module _ (p : Procedure) (all : List Outcome) where
   not_acted m f action ds (inr e) = e
 
   -- along its outcomes
-  pub course_fails : (turn : Turn Plan Verdict) (os : List Outcome) (m : Makes) (f : Failure) → TurnHolds turn →
+  pub course_fails : (turn : PlanTransition) (os : List Outcome) (m : Makes) (f : Failure) → TurnHolds turn →
       ((u : Outcome) → In u os → In u all × (is_proper u ≡ true)) → In (Fails m f) (course turn os) → FailsSo p all f
   course_fails (Gives verdict) os m f k each (inl e) = k f (ap said_in e)
   course_fails (Gives verdict) os m f k each (inr e) = absurd e
@@ -573,7 +573,7 @@ module _ (p : Procedure) (all : List Outcome) where
       course_fails (told plan u) os m f (told_holds plan u k is.0 is.1) (λ x i. each x (inr i)) (not_acted m f action (course (told plan u) os) h)
 
   -- where it leaves with a failure, it would fail so
-  pub leaves_so : (turn : Turn Plan Verdict) (os : List Outcome) (f : Failure) → TurnHolds turn →
+  pub leaves_so : (turn : PlanTransition) (os : List Outcome) (f : Failure) → TurnHolds turn →
       ((u : Outcome) → In u os → In u all × (is_proper u ≡ true)) → stays (along turn os) ≡ Some (Leaving f) → FailsSo p all f
   leaves_so (Gives verdict) os f k each h = absurd cc
   leaves_so (Stays plan action) [] f k each h = subst Holds (let e : plan ≡ Leaving f = cc in e) k

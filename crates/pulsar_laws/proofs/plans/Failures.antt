@@ -2,8 +2,8 @@
 use Rattle.std.proofs.Common.{◌≡◌, ◌⊎◌, inl, inr, ◌∙◌, sym, ap, subst, ℕ, ◌+◌, List, [], ◌∷◌, ◌++◌, refl, Bool, true, false, not, drop, length, Option, Some, None, ◌==◌}
 use Rattle.std.proofs.lemmas.Bool.{cases_Bool}
 use Rattle.std.specs.Option.{is_some}
-use Rattle.pulsar_laws.proofs.ActWords.{Act, Action, Answers, Asked, Calls, Checks, Comes, Does, Flushes, is_same, lacks_tickets, Link, next_advice, Outcome, Procedure, CallRefusal, Rest, Share, shares, Starts, Tell, TellAll, Told, Verdict, Who}
-use Rattle.pulsar_laws.proofs.PlanWords.{begins, Errand, Gives, Heard as News, Plan, Sought, Stays, Turn, Ways}
+use Rattle.pulsar_laws.proofs.ActWords.{Act, Action, Answers, Asked, Calls, Checks, Comes, Does, Flushes, is_same, lacks_tickets, Link, next_advice, Outcome, Procedure, CallRefusal, Rest, Share, shares, Starts, Tell, TellAll, Told, Who}
+use Rattle.pulsar_laws.proofs.PlanWords.{begins, Errand, Gives, Heard as News, PlanTransition, Sought, Stays, Ways}
 use Rattle.pulsar_laws.proofs.RunWords.{agenda, asks_raw, asks_topics, at_once, Begins, builds_with, Cause, checks, Chosen, chosen_same, closes, does, Each, each_append, each_either, each_first, each_map, each_rest, Entry, fails_as, flushes, flushes_all, follows, follows_some, from_base, gathers, In, InThisStep, is_served, IsRun, may_call, notice, Options, parts_of, performs, procedure_for, produces, produces_from, rest, searches, sends, sends_as, sends_by, share, shares_of, shares_unless, started, starts, stores_as, Then, Tickets, told_some, unless, unless_refused, view, View, ways_of, why_no_raw, why_no_sends}
 use Rattle.pulsar_laws.proofs.LinkWords.{Place}
 use Rattle.pulsar_frame.specs.Batch.{EntryValues}
@@ -167,11 +167,11 @@ module _ (ws : Option Ways) where
   does_made who Rest = tt
   does_made who _ = (tt, tt)
 
-  follows_made : (who : Who) (turn : Turn Plan Verdict) → Each (StartsMade ws) (follows who turn)
+  follows_made : (who : Who) (turn : PlanTransition) → Each (StartsMade ws) (follows who turn)
   follows_made who (Stays plan action) = does_made who action
   follows_made who (Gives verdict) = (tt, tt)
 
-  some_made : (who : Who) (turn : Option (Turn Plan Verdict)) → Each (StartsMade ws) (follows_some who turn)
+  some_made : (who : Who) (turn : Option (PlanTransition)) → Each (StartsMade ws) (follows_some who turn)
   some_made who None = tt
   some_made who (Some turn) = follows_made who turn
 

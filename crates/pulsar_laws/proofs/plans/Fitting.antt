@@ -2,8 +2,8 @@
 -- call says, and others together only what becomes of a batch; none but a Stop ends every link; and a send that is a part of another call has
 -- reported once it is queued.
 use Rattle.std.proofs.Common.{◌≡◌, ℕ, List, ◌∷◌, map, refl, Bool, true, false, ◌&&◌, Option, Some, None, []}
-use Rattle.pulsar_laws.proofs.ActWords.{Action, Ask, Find, Notice, OfTopic, Outcome, PassTurn, Procedure, Share, Shut, StopAll, Store, TakeBatch, Tell, TellAll, Verdict}
-use Rattle.pulsar_laws.proofs.PlanWords.{action_of, Batches, Batching, begins, BuildingProducer as Build, Deed, Errand, Fate, Gives, Leaving, News, ProducerOrder, Plan, Reporting, Sending as Send, Stays, Stored, Storing, told, told_to, Turn, verdict, Visiting, Ways}
+use Rattle.pulsar_laws.proofs.ActWords.{Action, Ask, Find, Notice, OfTopic, Outcome, PassTurn, Procedure, Share, Shut, StopAll, Store, TakeBatch, Tell, TellAll}
+use Rattle.pulsar_laws.proofs.PlanWords.{action_of, Batches, Batching, begins, BuildingProducer as Build, Deed, Errand, Fate, Gives, Leaving, News, Plan, PlanTransition, ProducerOrder, Reporting, Sending as Send, Stays, Stored, Storing, told, told_to, verdict, Visiting, Ways}
 use Rattle.pulsar_producer.specs.Batching.{is_sent_send}
 use Rattle.pulsar_frame.specs.Batch.{EntryValues}
 use Rattle.pulsar_outgoing.specs.Batch.{member_of, reports}
@@ -94,7 +94,7 @@ fits Stores (OfTopic n (Store entry)) = true
 fits Stores action = false
 fits Nowhere action = false
 
-abbrev pub Fits : Turn Plan Verdict → Type 0
+abbrev pub Fits : PlanTransition → Type 0
 Fits (Stays plan action) = fits (spot plan) action ≡ true
 Fits (Gives verdict) = Unit {0}
 
@@ -144,7 +144,8 @@ spot_stores (Visiting r n left at.Passing) h = absurd cc
 spot_stores (Visiting r n left at.Awaiting) h = absurd cc
 spot_stores plan h = absurd cc
 
-pub stores_so : (plan : Plan) (n : ℕ) (entry : EntryValues) → fits (spot plan) (OfTopic n (Store entry)) ≡ true → (share : Option Share) × (plan ≡ Storing share)
+pub stores_so : (plan : Plan) (n : ℕ) (entry : EntryValues) → fits (spot plan) (OfTopic n (Store entry)) ≡ true →
+    (share : Option Share) × (plan ≡ Storing share)
 stores_so plan n entry h = spot_stores plan (stores_at (spot plan) n entry h)
 
 fate_settles : (f : Fate) → is_settling (told_of f) ≡ true

@@ -1,8 +1,8 @@
 -- Plans follow their outcomes.
 use Rattle.std.proofs.Common.{◌≡◌, ℕ, ◌∙◌, sym, ap, subst, ◌+◌, ◌-◌, ◌^◌, List, [], ◌∷◌, ◌++◌, refl, arith, drop, Bool, true, false, cond, Option, Some, None, inl, inr, append-nil, append_assoc}
 use Rattle.std.proofs.lemmas.Bool.{cases_Bool}
-use Rattle.pulsar_laws.proofs.ActWords.{Act, Action, Answers, Asked, Call, Calls, Comes, Does, is_same, lacks_tickets, Makes, Notice, Outcome, Part, Procedure, Rest, shares, Starts, Told, Verdict, Who}
-use Rattle.pulsar_laws.proofs.PlanWords.{begins, Gives, Plan, Stays, told, Turn, Ways}
+use Rattle.pulsar_laws.proofs.ActWords.{Act, Action, Answers, Asked, Call, Calls, Comes, Does, is_same, lacks_tickets, Makes, Notice, Outcome, Part, Procedure, Rest, shares, Starts, Told, Who}
+use Rattle.pulsar_laws.proofs.PlanWords.{begins, Gives, PlanTransition, Stays, told, Ways}
 use Rattle.pulsar_laws.proofs.RunWords.{agenda, Answered, at_once, Begins, begun_same, called, does, Each, each_append, each_map, Entry, first, first_case, follows, follows_some, is_served, IsRun, left_with, none_now, Options, performs, rest, started, starts, StartsIn, stays, stays_some, Then, told_some, view, View, ways_of}
 use Rattle.pulsar_laws.specs.Laws.{AnswersOnce, Deed, PlansFollow, acted, course, deed_of, deeds, outcomes, verdicts_in}
 use Rattle.pulsar_client.proofs.Acts.{each_drop, starts_in}
@@ -99,35 +99,35 @@ comes_none v w p k = none_due w (at_once v (Comes p)) (each_map IsQuiet NoDeed (
 
 -- COURSES
 
-abbrev first_deed : Turn Plan Verdict → List Deed
+abbrev first_deed : PlanTransition → List Deed
 first_deed (Stays plan action) = acted action
 first_deed (Gives verdict) = Answered verdict ∷ []
 
-course_nil : (t : Turn Plan Verdict) → course t [] ≡ first_deed t
+course_nil : (t : PlanTransition) → course t [] ≡ first_deed t
 course_nil (Stays plan action) = refl
 course_nil (Gives verdict) = refl
 
-abbrev pub along : Turn Plan Verdict → List Outcome → Turn Plan Verdict
+abbrev pub along : PlanTransition → List Outcome → PlanTransition
 along (Gives verdict) os = Gives verdict
 along (Stays plan action) [] = Stays plan action
 along (Stays plan action) (o ∷ os) = along (told plan o) os
 
-abbrev deed_after : Turn Plan Verdict → Outcome → List Deed
+abbrev deed_after : PlanTransition → Outcome → List Deed
 deed_after (Gives verdict) o = []
 deed_after (Stays plan action) o = first_deed (told plan o)
 
-course_more : (t : Turn Plan Verdict) (os : List Outcome) (o : Outcome) → course t (os ++ o ∷ []) ≡ course t os ++ deed_after (along t os) o
+course_more : (t : PlanTransition) (os : List Outcome) (o : Outcome) → course t (os ++ o ∷ []) ≡ course t os ++ deed_after (along t os) o
 course_more (Gives verdict) os o = refl
 course_more (Stays plan action) [] o = ap (λ ds. acted action ++ ds) (course_nil (told plan o))
 course_more (Stays plan action) (x ∷ os) o =
     ap (λ ds. acted action ++ ds) (course_more (told plan x) os o)
     ∙ sym (append_assoc (acted action) (course (told plan x) os) (deed_after (along (told plan x) os) o))
 
-along_nil : (t : Turn Plan Verdict) → along t [] ≡ t
+along_nil : (t : PlanTransition) → along t [] ≡ t
 along_nil (Stays plan action) = refl
 along_nil (Gives verdict) = refl
 
-along_more : (t : Turn Plan Verdict) (os : List Outcome) (o : Outcome) → stays (along t (os ++ o ∷ [])) ≡ stays_some (told_some (stays (along t os)) o)
+along_more : (t : PlanTransition) (os : List Outcome) (o : Outcome) → stays (along t (os ++ o ∷ [])) ≡ stays_some (told_some (stays (along t os)) o)
 along_more (Gives verdict) os o = refl
 along_more (Stays plan action) [] o = ap stays (along_nil (told plan o))
 along_more (Stays plan action) (x ∷ os) o = along_more (told plan x) os o
@@ -136,7 +136,7 @@ does_due : (w who : Who) (action : Action) → due_deeds w (does who action) ≡
 does_due w who Rest = elim (is_same w who) as (λ b. ◌≡◌ {A = List Deed} [] (cond b [] [])) [ true ↦ refl | false ↦ refl ]
 does_due w who _ = append-nil _
 
-follows_due : (w who : Who) (t : Turn Plan Verdict) → due_deeds w (follows who t) ≡ cond (is_same w who) (first_deed t) []
+follows_due : (w who : Who) (t : PlanTransition) → due_deeds w (follows who t) ≡ cond (is_same w who) (first_deed t) []
 follows_due w who (Stays plan action) = does_due w who action
 follows_due w who (Gives verdict) = append-nil _
 
@@ -144,19 +144,19 @@ does_one : (who : Who) (action : Action) → drop 1 (does who action) ≡ []
 does_one who Rest = refl
 does_one who _ = refl
 
-follows_one : (who : Who) (t : Turn Plan Verdict) → Each NoDeed (drop 1 (follows who t))
+follows_one : (who : Who) (t : PlanTransition) → Each NoDeed (drop 1 (follows who t))
 follows_one who (Stays plan action) = subst (Each NoDeed) (sym (does_one who action)) tt
 follows_one who (Gives verdict) = tt
 
-some_one : (who : Who) (t : Option (Turn Plan Verdict)) → Each NoDeed (drop 1 (follows_some who t))
+some_one : (who : Who) (t : Option (PlanTransition)) → Each NoDeed (drop 1 (follows_some who t))
 some_one who None = tt
 some_one who (Some t) = follows_one who t
 
-some_other : (w who : Who) (t : Option (Turn Plan Verdict)) → is_same w who ≡ false → due_deeds w (follows_some who t) ≡ []
+some_other : (w who : Who) (t : Option (PlanTransition)) → is_same w who ≡ false → due_deeds w (follows_some who t) ≡ []
 some_other w who None h = refl
 some_other w who (Some t) h = follows_due w who t ∙ ap (λ b. cond b (first_deed t) []) h
 
-some_here : (w who : Who) (t : Turn Plan Verdict) (o : Outcome) → is_same w who ≡ true → due_deeds w (follows_some who (told_some (stays t) o)) ≡ deed_after t o
+some_here : (w who : Who) (t : PlanTransition) (o : Outcome) → is_same w who ≡ true → due_deeds w (follows_some who (told_some (stays t) o)) ≡ deed_after t o
 some_here w who (Gives verdict) o h = refl
 some_here w who (Stays plan action) o h = follows_due w who (told plan o) ∙ ap (λ b. cond b (first_deed (told plan o)) []) h
 
@@ -252,7 +252,7 @@ starts_on o log who q k fits = record {
     xs : List Act
     xs = follows who (begins q)
 
-    nil : (t : Turn Plan Verdict) → along t [] ≡ t
+    nil : (t : PlanTransition) → along t [] ≡ t
     nil t = along_nil t
 
 pub follows_run : (o : Options) (log : List Entry) → IsRun o log → Follows o log

@@ -2,7 +2,7 @@
 use Rattle.std.proofs.Common.{◌≡◌, sym, ap, subst, ℕ, List, refl, Bool, true, false, ◌&&◌, cond, Option, Some, None, Result, Ok, Err}
 use Rattle.std.specs.Prelude.{not}
 use Rattle.pulsar_laws.proofs.ActWords.{Action, Ask, Draw, OfTopic, Outcome, Share}
-use Rattle.pulsar_laws.proofs.PlanWords.{action_of, Command, Deed, Denies, Drawn, Errand, Heard as Heard', Later, Leaving, Looking, Making, News, news_of, Plan, Reporting, Says, SearchTurn, Sending as Send, told, Ways, Wish}
+use Rattle.pulsar_laws.proofs.PlanWords.{action_of, Command, Deed, Denies, Drawn, Errand, Heard as Heard', Later, Leaving, Looking, Making, News, news_of, Plan, Reporting, Says, SearchTransition, Sending as Send, told, Ways, Wish}
 use Rattle.pulsar_laws.proofs.LinkWords.{Failure, Fault, OfConnection, Words}
 use Rattle.pulsar_messages.specs.Content.{ProducerMessageValues}
 use Rattle.pulsar_messages.specs.Words as words
@@ -21,19 +21,18 @@ use Rattle.pulsar_searches.specs.declared.retry.Retrying.{Retrying}
 use Rattle.pulsar_searches.specs.declared.retry.Retrying.TheVariants as retry
 use Rattle.pulsar_searches.specs.declared.turn.Action.TheVariants as wish
 use Rattle.pulsar_searches.specs.declared.turn.SearchOutcome.TheVariants as told_in
-use Rattle.pulsar_searches.specs.declared.turn.Turn.TheVariants as search_turn
 use Rattle.pulsar_messages.specs.Message.{with_version}
 use Rattle.pulsar_producer.specs.Plans as produce
 use Rattle.pulsar_producer.specs.Plans.{Sent, kept}
 use Rattle.pulsar_producer.specs.declared.deed.Deed.TheVariants as deed
 use Rattle.pulsar_outgoing.specs.declared.news.News.TheVariants as news
-use Rattle.pulsar_producer.specs.declared.deed.Step.TheVariants as step
 use Rattle.pulsar_producer.specs.declared.sending.Sending.TheVariants as send
 use Rattle.pulsar_calls.specs.declared.act.Outcome.TheVariants as outcome
 use Rattle.pulsar_plans.specs.declared.plan.Plan.TheVariants.{Sending}
 use Rattle.pulsar_plans.specs.Plan.{wished}
 use Rattle.pulsar_plans.proofs.Arcs.{Arc, StaysSo, part_fails, part_halts, part_sends, part_tells, reports_on, sends, stays_by}
 use Rattle.pulsar_producer.proofs.Arcs.{SendArc, StepSo as ArcsTo, asked_recalls, asks, drawn_recalls, draws, looked_makes, looking_rests, looks_on_asks, looks_on_gets, looks_on_waits, made_remakes, makes_on_asks, makes_on_gets, makes_on_waits, making_rests, recalled_looks_asks, recalled_looks_gets, recalled_looks_waits, recalled_makes, remade_draws, send_arcs, stands}
+use Rattle.pulsar_searches.specs.declared.transition.Transition.TheVariants as transition
 
 -- PLANS WITHIN PLANS ASK FOR NO MESSAGE
 
@@ -45,25 +44,25 @@ abbrev pub IsPlainWish : Wish → Type 0
 IsPlainWish (wish.Ask l request) = is_message request ≡ false
 IsPlainWish _ = Unit {0}
 
-abbrev PlainTurn : {S A : Type 0} → SearchTurn S A → Type 0
-PlainTurn (search_turn.Stays s a) = IsPlainWish a
-PlainTurn (search_turn.Gives a) = Unit {0}
+abbrev PlainTurn : {S A : Type 0} → SearchTransition S A → Type 0
+PlainTurn (transition.Stays s a) = IsPlainWish a
+PlainTurn (transition.Gives a) = Unit {0}
 
-either_plain : {S A : Type 0} (b : Bool) (x y : SearchTurn S A) → PlainTurn x → PlainTurn y → PlainTurn (cond b x y)
+either_plain : {S A : Type 0} (b : Bool) (x y : SearchTransition S A) → PlainTurn x → PlainTurn y → PlainTurn (cond b x y)
 either_plain true x y p q = p
 either_plain false x y p q = q
 
-and_plain : {S T A B : Type 0} (x : SearchTurn S (Result A Failure)) (within : S → T) (on : A → SearchTurn T (Result B Failure)) → PlainTurn x →
+and_plain : {S T A B : Type 0} (x : SearchTransition S (Result A Failure)) (within : S → T) (on : A → SearchTransition T (Result B Failure)) → PlainTurn x →
     ((a : A) → PlainTurn (on a)) →
     PlainTurn (search.and_then x within on)
-and_plain (search_turn.Stays s a) within on p q = p
-and_plain (search_turn.Gives (Ok a)) within on p q = q a
-and_plain (search_turn.Gives (Err f)) within on p q = tt
+and_plain (transition.Stays s a) within on p q = p
+and_plain (transition.Gives (Ok a)) within on p q = q a
+and_plain (transition.Gives (Err f)) within on p q = tt
 
-nested_plain : {S T A B : Type 0} (x : SearchTurn S A) (within : S → T) (on : A → SearchTurn T B) → PlainTurn x → ((a : A) → PlainTurn (on a)) →
+nested_plain : {S T A B : Type 0} (x : SearchTransition S A) (within : S → T) (on : A → SearchTransition T B) → PlainTurn x → ((a : A) → PlainTurn (on a)) →
     PlainTurn (search.nested x within on)
-nested_plain (search_turn.Stays s a) within on p q = p
-nested_plain (search_turn.Gives a) within on p q = q a
+nested_plain (transition.Stays s a) within on p q = p
+nested_plain (transition.Gives a) within on p q = q a
 
 pointed_plain : (n : ℕ) (x : Pointed) → PlainTurn (search.look_pointed n x)
 pointed_plain n (Redirects place authority) = tt
@@ -88,7 +87,7 @@ look_plain w t (look.Reaching found) _ = tt
 retry_plain : (w : Ways) (t : List ℕ) (x : Retrying) (o : Heard') → PlainTurn (search.retry_told w t x o)
 retry_plain w t retry.Resting told_in.Woken = tt
 retry_plain w t retry.Resting _ = tt
-retry_plain w t (retry.Looking l) o = nested_plain (search.look_told w t l o) retry.Looking search_turn.Gives (look_plain w t l o) (λ a. tt)
+retry_plain w t (retry.Looking l) o = nested_plain (search.look_told w t l o) retry.Looking transition.Gives (look_plain w t l o) (λ a. tt)
 
 again_plain : (w : Ways) (n : ℕ) (f : Fault) → PlainTurn (search.retry_begins w n f)
 again_plain w n f = either_plain (is_retryable f && allow_retry w.max_retries n) _ (search.fails (OfConnection f)) tt tt
@@ -143,8 +142,8 @@ module _ (e : Errand) (given : ProducerMessageValues) (V : Option (List ℕ) →
   NewsSo _ = Unit {0}
 
   abbrev pub StepSo : News → Sent → Type 0
-  StepSo y (step.Stays s d) = MessageSo s × DeedSo y s d
-  StepSo y (step.Gives a) = Unit {0}
+  StepSo y (transition.Stays s d) = MessageSo s × DeedSo y s d
+  StepSo y (transition.Gives a) = Unit {0}
 
   pub send_so : {w : Ways} {s q : Send} {y : News} {d : Deed} → SendArc w e s y q d → MessageSo s → NewsSo y → MessageSo q × DeedSo y q d
   send_so (draws {m} {v}) k h = ((v, ap (with_version v) k, h), refl)
@@ -173,8 +172,8 @@ module _ (e : Errand) (given : ProducerMessageValues) (V : Option (List ℕ) →
   step_so w s y k h = by (produce.send_told w e s y) (send_arcs w e s y)
     where
       by : (x : Sent) → ArcsTo (SendArc w e s y) x → StepSo y x
-      by (step.Stays q d) r = send_so r k h
-      by (step.Gives a) r = tt
+      by (transition.Stays q d) r = send_so r k h
+      by (transition.Gives a) r = tt
 
   -- A PLAN OF IT
 

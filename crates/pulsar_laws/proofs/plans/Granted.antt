@@ -1,7 +1,7 @@
 -- What plans do comes right behind what leads to it, and numbers, commands and batches that they are granted right behind what they do.
 use Rattle.std.proofs.Common.{◌≡◌, ◌⊎◌, inl, inr, ◌∙◌, sym, ap, subst, ℕ, List, [], ◌∷◌, ◌++◌, refl, map, drop, Bool, true, false, ◌&&◌, cond, Option, Some, None}
 use Rattle.std.specs.Option.{option_map, option_to_list}
-use Rattle.pulsar_laws.proofs.ActWords.{Act, Action, Alarm, Answers, Ask, Batch, Comes, Does, Drains, End, Ends, FailConsumer, Flush, Idles, Notice, OfTopic, Outcome, Overdue, Part, PassTurn, Polls, Procedure, Reads, Retry, Revive, Rings, Shut, Starts, StopAll, Stops, Store, Tell, TellAll, ToLink, Told, Wake, Who, below, opens, turn_of}
+use Rattle.pulsar_laws.proofs.ActWords.{Act, Action, Alarm, Answers, Ask, Batch, Comes, Does, Drains, End, Ends, FailConsumer, Flush, Idles, Notice, OfTopic, Outcome, Overdue, Part, PassTurn, Polls, Procedure, Reads, Retry, Revive, Rings, Shut, Starts, StopAll, Stops, Store, Tell, TellAll, ToLink, Told, Wake, Who, below, opens, turn_of, OfConsumer}
 use Rattle.pulsar_laws.proofs.PlanWords.{begins, closed_notice, News, Plan, Stays, told}
 use Rattle.pulsar_laws.proofs.RunWords.{after, agenda, Answered, arranged, at_once, Begins, causes, Each, each_append, each_either, each_flat, each_map, Entry, first_of, In, IsRun, joins, lost_on, notice, Options, over_each, performs, readied, ready_notice, rest, rest_of, rules, stays, stays_some, stopped_on, tells, Then, told_some, turn_notice, Turned, turned_by, view, View}
 use Rattle.pulsar_laws.proofs.LinkWords.{Addresses, Base, Becomes, Change, Fault, IsOver, over_links, Pause, rings, Runs, Seat, Series, stop_act}
@@ -387,8 +387,8 @@ joins_so o log (Does who (Tell n)) run = (tell_said o log who n run, tt)
 joins_so o log (Does who (TellAll ns)) run = tell_settling o log who ns run
 joins_so o log (Comes (Polls t)) run = worded (view o log) (Comes (Polls t)) refl
 joins_so o log (Does who (Ask l request)) run = worded (view o log) (Does who (Ask l request)) refl
-joins_so o log (Does who (Revive l)) run = worded (view o log) (Does who (Revive l)) refl
-joins_so o log (Does who (FailConsumer f)) run = worded (view o log) (Does who (FailConsumer f)) refl
+joins_so o log (Does who (OfConsumer (Revive l))) run = worded (view o log) (Does who (OfConsumer (Revive l))) refl
+joins_so o log (Does who (OfConsumer (FailConsumer f))) run = worded (view o log) (Does who (OfConsumer (FailConsumer f))) refl
 joins_so o log (Answers who verdict) run = worded (view o log) (Answers who verdict) refl
 joins_so o log _ run = tt
 

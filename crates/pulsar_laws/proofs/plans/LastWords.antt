@@ -1,7 +1,7 @@
 -- What one is told last: that the client is stopped, or what became of a batch; and what a plan does then.
 use Rattle.std.proofs.Common.{◌≡◌, ◌⊎◌, inl, inr, ◌∙◌, sym, ap, subst, ℕ, ◌+◌, List, ◌∷◌, ◌++◌, refl, map, Bool, true, false, Option, Some, None, [], Ok, Err}
-use Rattle.pulsar_laws.proofs.ActWords.{Act, Answers, Call, Comes, Does, Ends, Makes, Nothing, Notice, OfTopic, Outcome, Part, Procedure, Rest, Share, Starts, Stops, TakeBatch, Tell, TellAll, ToLink, Told, Verdict, Who}
-use Rattle.pulsar_laws.proofs.PlanWords.{Batches, batches_on, Batching, Errand, Gives, Leaving, Member, Plan, Reporting, Sending as Send, Stays, Stored, Storing, told, told_to, Turn, verdict, Visiting, Ways}
+use Rattle.pulsar_laws.proofs.ActWords.{Act, Answers, Call, Comes, Does, Ends, Makes, Nothing, Notice, OfTopic, Outcome, Part, Procedure, Rest, Share, Starts, Stops, TakeBatch, Tell, TellAll, ToLink, Told, Who}
+use Rattle.pulsar_laws.proofs.PlanWords.{Batches, batches_on, Batching, Errand, Gives, Leaving, Member, Plan, PlanTransition, Reporting, Sending as Send, Stays, Stored, Storing, told, told_to, verdict, Visiting, Ways}
 use Rattle.pulsar_laws.proofs.RunWords.{Each, each_append, each_map, each_rest, follows, follows_some, rest_of, stays, stays_some, told_some}
 use Rattle.pulsar_laws.proofs.LinkWords.{Failure, OfConnection}
 use Rattle.pulsar_plans.specs.Plan.{fault_of, halted_with}
@@ -127,7 +127,7 @@ abbrev LateSo : (ℕ → Type 0) → Notice → Type 0
 LateSo P n = IsLastNotice n ⊎ ((is_settled_word n.outcome ≡ true) × (t : ℕ) × (n.who ≡ Call t) × P t)
 
 -- what a plan does that is told its last word
-abbrev IsLastTurn : (ℕ → Type 0) → Turn Plan Verdict → Type 0
+abbrev IsLastTurn : (ℕ → Type 0) → PlanTransition → Type 0
 IsLastTurn P (Gives verdict) = makes_nothing verdict.makes ≡ true
 IsLastTurn P (Stays (Leaving f) (Tell n)) = is_last_word n.outcome ≡ true
 IsLastTurn P (Stays (Batching w e batching.Settling) (TellAll ns)) = Each (LateSo P) ns
@@ -185,7 +185,7 @@ module _ (P : ℕ → Type 0) where
       late n (inl is) = inl is
       late n (inr s) = inr (s.0, ap (λ w. ends_settled (stand w)) s.2 ∙ f s.1 s.3)
 
-  last_turn : (stand : Who → Option Plan) (who : Who) (turn : Turn Plan Verdict) → ((t : ℕ) → P t → ends_settled (stand (Call t)) ≡ true) →
+  last_turn : (stand : Who → Option Plan) (who : Who) (turn : PlanTransition) → ((t : ℕ) → P t → ends_settled (stand (Call t)) ≡ true) →
       stand who ≡ stays turn → IsLastTurn P turn → AreLast stand (follows who turn)
   last_turn stand who (Gives verdict) f e h = (inl h, tt)
   last_turn stand who (Stays (Leaving x) (Tell n)) f e h = (inr (h, ap (λ row. is_leaving (spot_of row)) e), tt)
@@ -198,7 +198,7 @@ module _ (P : ℕ → Type 0) where
   last_some stand who None u f e is c k = tt
   last_some stand who (Some plan) u f e is c k = last_turn stand who (told plan u) f e (last_told plan u is c k)
 
-  last_fine : (turn : Turn Plan Verdict) → IsLastTurn P turn → is_fine (stays turn) ≡ true
+  last_fine : (turn : PlanTransition) → IsLastTurn P turn → is_fine (stays turn) ≡ true
   last_fine (Gives verdict) h = refl
   last_fine (Stays (Leaving f) (Tell n)) h = refl
   last_fine (Stays (Batching w e batching.Settling) (TellAll ns)) h = refl

@@ -1,7 +1,7 @@
 -- What one does comes right behind the start of its plan, or the outcome that leads to it.
 use Rattle.std.proofs.Common.{◌≡◌, ◌⊎◌, inl, inr, ◌∙◌, sym, ap, subst, ℕ, ◌-◌, ◌^◌, List, [], ◌∷◌, ◌++◌, refl, Bool, true, false, cond, Option, Some, None}
-use Rattle.pulsar_laws.proofs.ActWords.{Act, Action, Answers, Asked, Call, Calls, Comes, Does, lacks_tickets, Notice, Procedure, Rest, shares, Starts, Told, Verdict, Who}
-use Rattle.pulsar_laws.proofs.PlanWords.{begins, fails, Gives, Plan, Stays, told, Turn}
+use Rattle.pulsar_laws.proofs.ActWords.{Act, Action, Answers, Asked, Call, Calls, Comes, Does, lacks_tickets, Notice, Procedure, Rest, shares, Starts, Told, Who}
+use Rattle.pulsar_laws.proofs.PlanWords.{begins, fails, Gives, Plan, PlanTransition, Stays, told}
 use Rattle.pulsar_laws.proofs.RunWords.{agenda, Answered, at_once, Begins, Each, each_map, Entry, first_case, follows, follows_some, is_served, IsRun, left_with, Options, performs, rest, starts, Then, told_some, view, View, ways_of}
 use Rattle.pulsar_laws.proofs.LinkWords.{Exhausted}
 use Rattle.pulsar_plans.proofs.Arcs.{begun_arc, told_arc}
@@ -26,11 +26,11 @@ not_deed w d xs ys k e =
     cc
 
 -- what a turn does
-record Led (who w : Who) (d : Deed) (t : Turn Plan Verdict) : Type 0 where
+record Led (who w : Who) (d : Deed) (t : PlanTransition) : Type 0 where
   same : who ≡ w
   leads : Leads d t
 
-led : (who w : Who) (d : Deed) (t : Turn Plan Verdict) (ys : List Act) → follows who t ≡ act_of w d ∷ ys → Led who w d t
+led : (who w : Who) (d : Deed) (t : PlanTransition) (ys : List Act) → follows who t ≡ act_of w d ∷ ys → Led who w d t
 led who w d (Stays plan Rest) ys h = absurd cc
 led who w (Acted b) (Stays plan action) ys h = record { same = cc; leads = (plan, ap (Stays plan) (let e : action ≡ b = cc in e)) }
 led who w (Answered verdict) (Stays plan action) ys h = absurd cc

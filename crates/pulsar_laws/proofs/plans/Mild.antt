@@ -1,12 +1,10 @@
 -- No plan asks to acknowledge: only a procedure that begins so does.
 use Rattle.std.proofs.Common.{◌≡◌, subst, ℕ, List, refl, Bool, true, false, Option, Some, None, Result, Ok, Err}
 use Rattle.pulsar_laws.proofs.ActWords.{Action, Ask, Checks, Flushes, Link, Outcome, Procedure}
-use Rattle.pulsar_laws.proofs.PlanWords.{action_of, Batches, Batching, begins, BuildingProducer as Build, Command, Deed, Errand, Heard as Heard', Looking, Making, Naming, News, news_in, news_of, ProducerOrder, Plan, Producing, SearchTurn, Sending as Send, Served, Serving, Subscribing, told, Ways}
+use Rattle.pulsar_laws.proofs.PlanWords.{action_of, Batches, Batching, begins, BuildingProducer as Build, Command, Deed, Errand, Heard as Heard', Looking, Making, Naming, News, news_in, news_of, Plan, ProducerOrder, Producing, SearchTransition, Sending as Send, Served, Serving, Subscribing, told, Ways}
 use Rattle.pulsar_laws.proofs.LinkWords.{Failure, Named, Place, Words}
 use Rattle.pulsar_searches.specs.Plans as search
-use Rattle.pulsar_searches.specs.declared.closing.Step.TheVariants as building_step
 use Rattle.pulsar_searches.specs.declared.turn.Action.TheVariants as wish
-use Rattle.pulsar_searches.specs.declared.turn.Turn.TheVariants as search_turn
 use Rattle.pulsar_producer.specs.declared.batching.Batching.TheVariants as batching
 use Rattle.pulsar_producer.specs.declared.building.BuildingProducer.TheVariants as build
 use Rattle.pulsar_outgoing.specs.declared.news.News.TheVariants as news
@@ -34,6 +32,7 @@ use Rattle.pulsar_laws.specs.ConsumerLaws.{is_ack}
 use Rattle.pulsar_producer.proofs.Arcs.{BuildArc, SendArc, asks, building_rests, builds_on_asks, builds_on_gets, builds_on_waits, built_closes, closes_on, looked_makes, looking_rests, looks_on_asks, looks_on_gets, looks_on_waits, makes_on_asks, makes_on_gets, makes_on_waits, making_rests, names_on_asks, numbered_closes, numbered_makes, recalled_looks_asks, recalled_looks_gets, recalled_looks_waits, recalled_makes}
 use Rattle.pulsar_plans.proofs.Arcs.{Arc, BatchArc, Begun, StaysSo, batch_sends, batches_go, begins_acknowledge, begins_asking, begins_by, begins_getting, begins_produce_asks, begins_search_asks, begins_search_gets, begins_search_waits, begins_subscribe_asks, builds_on, departs_asks, ended_closes, flow_asks, found_asks, got_asks, over_closes, part_sends, recalled_resumes_asks, recalled_resumes_gets, recalled_resumes_waits, resumes_on_asks, resumes_on_gets, resumes_on_waits, search_rests, searches_asks, searches_gets, searches_waits, sends, serving_rests, stays_by, subscribed_numbers, subscribed_rests, subscribes_on_asks, subscribes_on_gets, subscribes_on_waits, subscribing_rests}
 use Rattle.pulsar_laws.proofs.plans.MildSearches.{Any, IsMildCommand, IsMildWish, MildSearch, MildSought, MildTurn, and_mild, look_mild, made_mild, names_begun, names_mild, own_ack, search_begun, search_mild}
+use Rattle.pulsar_searches.specs.declared.transition.Transition.TheVariants as transition
 
 -- A SEND
 
@@ -59,8 +58,8 @@ IsMild (Ask l request) = is_ack request ≡ false
 IsMild _ = Unit {0}
 
 -- by what a search asks for
-asks_so : {S A : Type 0} {q : S} {l : ℕ} {request : Words} (P : S → Type 0) (t : SearchTurn S A) → MildTurn P t →
-    t ≡ search_turn.Stays q (wish.Ask l request) → is_ack request ≡ false
+asks_so : {S A : Type 0} {q : S} {l : ℕ} {request : Words} (P : S → Type 0) (t : SearchTransition S A) → MildTurn P t →
+    t ≡ transition.Stays q (wish.Ask l request) → is_ack request ≡ false
 asks_so {request} P t k e = own_ack request (subst (MildTurn P) e k).1
 
 send_mild : {w : Ways} {e : Errand} {s q : Send} {y : News} {d : Deed} → SendArc w e s y q d → MildSend s → MildNews y → MildSend q × IsMild (action_of d)
@@ -113,23 +112,23 @@ IsMildConsumerDeed (consumer_deed.Numbers n) = Unit {0}
 IsMildConsumerDeed consumer_deed.Rests = Unit {0}
 
 abbrev MildConsumers : consume.Builds → Type 0
-MildConsumers (building_step.Stays b d) = MildConsumer b × IsMildConsumerDeed d
-MildConsumers (building_step.Gives a) = Unit {0}
+MildConsumers (transition.Stays b d) = MildConsumer b × IsMildConsumerDeed d
+MildConsumers (transition.Gives a) = Unit {0}
 
 numbers_mild : (o : ConsumerOrder) (n : Option Named) → MildConsumers (consume.build_numbers o n)
 numbers_mild o None = tt
 numbers_mild o (Some n) = (tt, tt)
 
-consumer_named : (o : ConsumerOrder) (x : SearchTurn Naming (Result (List Named) Failure)) → MildTurn Any x → MildConsumers (consume.build_names o x)
-consumer_named o (search_turn.Stays s a) p = (tt, p.1)
-consumer_named o (search_turn.Gives (Ok names)) p = numbers_mild o (consume.only names)
-consumer_named o (search_turn.Gives (Err f)) p = tt
+consumer_named : (o : ConsumerOrder) (x : SearchTransition Naming (Result (List Named) Failure)) → MildTurn Any x → MildConsumers (consume.build_names o x)
+consumer_named o (transition.Stays s a) p = (tt, p.1)
+consumer_named o (transition.Gives (Ok names)) p = numbers_mild o (consume.only names)
+consumer_named o (transition.Gives (Err f)) p = tt
 
-consumer_makes : (c : Command) (number : ℕ) (x : SearchTurn Making (Result Served Failure)) → IsMildCommand c → MildTurn Any x →
+consumer_makes : (c : Command) (number : ℕ) (x : SearchTransition Making (Result Served Failure)) → IsMildCommand c → MildTurn Any x →
     MildConsumers (consume.build_makes c number x)
-consumer_makes c number (search_turn.Stays s a) h p = (h, p.1)
-consumer_makes c number (search_turn.Gives (Ok s)) h p = tt
-consumer_makes c number (search_turn.Gives (Err f)) h p = tt
+consumer_makes c number (transition.Stays s a) h p = (h, p.1)
+consumer_makes c number (transition.Gives (Ok s)) h p = tt
+consumer_makes c number (transition.Gives (Err f)) h p = tt
 
 consumer_mild : (w : Ways) (o : ConsumerOrder) (b : ConsumerBuild) (y : ConsumerNews) → MildConsumer b → MildConsumers (consume.build_told w o b y)
 consumer_mild w o (consumer_build.Naming n) (consumer_news.Told x) h = consumer_named o (search.names_told w o.topic n x) (names_mild w o.topic n x)
@@ -139,10 +138,10 @@ consumer_mild w o (consumer_build.Numbering topic place) _ h = tt
 consumer_mild w o (consumer_build.Making c k number) (consumer_news.Told x) h = consumer_makes c number (search.made_told w c k x) h (made_mild w c k x h)
 consumer_mild w o (consumer_build.Making c k number) _ h = (h, tt)
 
-resume_makes_mild : (x : SearchTurn Making (Result Served Failure)) → MildTurn Any x → MildTurn Any (consume.resume_makes x)
+resume_makes_mild : (x : SearchTransition Making (Result Served Failure)) → MildTurn Any x → MildTurn Any (consume.resume_makes x)
 resume_makes_mild x p = and_mild Any Any x resume.Making _ (λ s p. tt) p (λ a. tt)
 
-resume_looks_mild : (x : SearchTurn Looking (Result Place Failure)) → MildTurn Any x → MildTurn Any (consume.resume_looks x)
+resume_looks_mild : (x : SearchTransition Looking (Result Place Failure)) → MildTurn Any x → MildTurn Any (consume.resume_looks x)
 resume_looks_mild x p = and_mild Any Any x resume.Looking _ (λ s p. tt) p (λ a. (tt, tt))
 
 pub resume_mild : (w : Ways) (c : Command) (r : Resuming) (u : Heard') → IsMildCommand c → MildTurn Any (consume.resume_told w c r u)
@@ -202,7 +201,7 @@ asks_mild Closes n = refl
 
 -- what a consumer that is built asks for, and one that is subscribed again
 built_so : (w : Ways) (o : ConsumerOrder) (b : ConsumerBuild) (y : ConsumerNews) {q : ConsumerBuild} {d : ConsumerDeed} → MildConsumer b →
-    consume.build_told w o b y ≡ building_step.Stays q d → MildConsumer q × IsMildConsumerDeed d
+    consume.build_told w o b y ≡ transition.Stays q d → MildConsumer q × IsMildConsumerDeed d
 built_so w o b y h e = subst MildConsumers e (consumer_mild w o b y h)
 
 arc_mild : {p q : Plan} {u : Outcome} {a : Action} → Arc p u q a → MildPlan p → MildNews (news_of u) → MildOutcome u → IsMildTurn q a

@@ -1,6 +1,6 @@
 -- No plan asks to acknowledge: only a procedure that begins so does.
 use Rattle.std.proofs.Common.{◌≡◌, ℕ, ◌==◌, List, [], refl, Bool, true, false, ◌&&◌, cond, Result, Ok, Err}
-use Rattle.pulsar_laws.proofs.PlanWords.{Command, Denies, Heard as Heard', Later, Looking, Making, Naming, Says, SearchTurn, Sought, Ways, Wish}
+use Rattle.pulsar_laws.proofs.PlanWords.{Command, Denies, Heard as Heard', Later, Looking, Making, Naming, Says, SearchTransition, Sought, Ways, Wish}
 use Rattle.pulsar_laws.proofs.LinkWords.{Failure, Fault, Named, OfConnection, Words}
 use Rattle.pulsar_messages.specs.Words as words
 use Rattle.pulsar_frame.specs.Reply.{Reply as Content}
@@ -25,8 +25,8 @@ use Rattle.pulsar_searches.specs.declared.retry.Retrying.{Retrying}
 use Rattle.pulsar_searches.specs.declared.retry.Retrying.TheVariants as retry
 use Rattle.pulsar_searches.specs.declared.turn.Action.TheVariants as wish
 use Rattle.pulsar_searches.specs.declared.turn.SearchOutcome.TheVariants as told_in
-use Rattle.pulsar_searches.specs.declared.turn.Turn.TheVariants as search_turn
 use Rattle.pulsar_laws.specs.ConsumerLaws.{is_ack}
+use Rattle.pulsar_searches.specs.declared.transition.Transition.TheVariants as transition
 
 -- SEARCHES, AND COMMANDS THAT ASK FOR NO ACKNOWLEDGEMENT
 
@@ -46,28 +46,28 @@ IsMildWish (wish.Ask l request) = is_own request ≡ false
 IsMildWish (wish.Get p) = Unit {0}
 IsMildWish (wish.Wait delay) = Unit {0}
 
-abbrev pub MildTurn : {S A : Type 0} → (S → Type 0) → SearchTurn S A → Type 0
-MildTurn P (search_turn.Stays s a) = P s × IsMildWish a
-MildTurn P (search_turn.Gives a) = Unit {0}
+abbrev pub MildTurn : {S A : Type 0} → (S → Type 0) → SearchTransition S A → Type 0
+MildTurn P (transition.Stays s a) = P s × IsMildWish a
+MildTurn P (transition.Gives a) = Unit {0}
 
 abbrev pub Any : {S : Type 0} → S → Type 0
 Any s = Unit {0}
 
-pub either_mild : {S A : Type 0} (P : S → Type 0) (b : Bool) (x y : SearchTurn S A) → MildTurn P x → MildTurn P y → MildTurn P (cond b x y)
+pub either_mild : {S A : Type 0} (P : S → Type 0) (b : Bool) (x y : SearchTransition S A) → MildTurn P x → MildTurn P y → MildTurn P (cond b x y)
 either_mild P true x y p q = p
 either_mild P false x y p q = q
 
-pub and_mild : {S T A B : Type 0} (P : S → Type 0) (Q : T → Type 0) (x : SearchTurn S (Result A Failure)) (within : S → T)
-    (on : A → SearchTurn T (Result B Failure)) → ((s : S) → P s → Q (within s)) → MildTurn P x → ((a : A) → MildTurn Q (on a)) →
+pub and_mild : {S T A B : Type 0} (P : S → Type 0) (Q : T → Type 0) (x : SearchTransition S (Result A Failure)) (within : S → T)
+    (on : A → SearchTransition T (Result B Failure)) → ((s : S) → P s → Q (within s)) → MildTurn P x → ((a : A) → MildTurn Q (on a)) →
     MildTurn Q (search.and_then x within on)
-and_mild P Q (search_turn.Stays s a) within on f p q = (f s p.0, p.1)
-and_mild P Q (search_turn.Gives (Ok a)) within on f p q = q a
-and_mild P Q (search_turn.Gives (Err x)) within on f p q = tt
+and_mild P Q (transition.Stays s a) within on f p q = (f s p.0, p.1)
+and_mild P Q (transition.Gives (Ok a)) within on f p q = q a
+and_mild P Q (transition.Gives (Err x)) within on f p q = tt
 
-pub nested_mild : {S T A B : Type 0} (P : S → Type 0) (Q : T → Type 0) (x : SearchTurn S A) (within : S → T) (on : A → SearchTurn T B) →
+pub nested_mild : {S T A B : Type 0} (P : S → Type 0) (Q : T → Type 0) (x : SearchTransition S A) (within : S → T) (on : A → SearchTransition T B) →
     ((s : S) → P s → Q (within s)) → MildTurn P x → ((a : A) → MildTurn Q (on a)) → MildTurn Q (search.nested x within on)
-nested_mild P Q (search_turn.Stays s a) within on f p q = (f s p.0, p.1)
-nested_mild P Q (search_turn.Gives a) within on f p q = q a
+nested_mild P Q (transition.Stays s a) within on f p q = (f s p.0, p.1)
+nested_mild P Q (transition.Gives a) within on f p q = q a
 
 pub count_mild : (w : Ways) (t : List ℕ) (c : Counting) (u : Heard') → MildTurn Any (search.count_told w t c u)
 count_mild w t (count.Getting again n) (told_in.GotLink l) = (tt, refl)
@@ -84,7 +84,7 @@ count_mild w t (count.Resting n l) told_in.Woken = (tt, refl)
 count_mild w t (count.Resting n l) _ = tt
 
 pub count_begun : (w : Ways) (t : List ℕ) → MildTurn Any (search.count_begins w t)
-count_begun w t = either_mild Any (is_partition t) (search_turn.Gives (Ok 0)) (search.count_gets w true 0) tt (tt, tt)
+count_begun w t = either_mild Any (is_partition t) (transition.Gives (Ok 0)) (search.count_gets w true 0) tt (tt, tt)
 
 pub pointed_mild : (n : ℕ) (x : Pointed) → MildTurn Any (search.look_pointed n x)
 pointed_mild n (Redirects place authority) = (tt, tt)
@@ -110,11 +110,11 @@ pub retry_mild : (w : Ways) (t : List ℕ) (x : Retrying) (u : Heard') → MildT
 retry_mild w t retry.Resting told_in.Woken = (tt, tt)
 retry_mild w t retry.Resting _ = tt
 retry_mild w t (retry.Looking l) u =
-    nested_mild Any Any (search.look_told w t l u) retry.Looking search_turn.Gives (λ s p. tt) (look_mild w t l u) (λ a. tt)
+    nested_mild Any Any (search.look_told w t l u) retry.Looking transition.Gives (λ s p. tt) (look_mild w t l u) (λ a. tt)
 
 pub again_mild : (w : Ways) (n : ℕ) (f : Fault) → MildTurn Any (search.retry_begins w n f)
 again_mild w n f =
-    either_mild Any (is_retryable f && allow_retry w.max_retries n) (search_turn.Stays retry.Resting (wish.Wait w.retry_delay)) (search.fails (OfConnection f))
+    either_mild Any (is_retryable f && allow_retry w.max_retries n) (transition.Stays retry.Resting (wish.Wait w.retry_delay)) (search.fails (OfConnection f))
     (tt, tt)
     tt
 

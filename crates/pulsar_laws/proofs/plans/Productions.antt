@@ -1,42 +1,41 @@
 -- Where the making of a producer fails, and a send: with the fault of the news that it was told, by what a reply says, or with what it
 -- kept to tell later.
 use Rattle.std.proofs.Common.{◌≡◌, List, [], ◌∷◌, refl, Bool, true, false, cond, Option, Some, None, Result, Ok, Err}
-use Rattle.pulsar_laws.proofs.PlanWords.{BuildingProducer, Built, Command, Deed, Errand, News as Granting, Making, Heard as News, ProducerOrder, SearchTurn, Sending, Served, Ways}
+use Rattle.pulsar_laws.proofs.PlanWords.{BuildingProducer, Built, Command, Deed, Errand, Heard as News, Making, News as Granting, ProducerOrder, SearchTransition, Sending, Served, Ways}
 use Rattle.pulsar_laws.proofs.LinkWords.{Failure, Fault, Named, OfConnection}
 use Rattle.pulsar_messages.specs.Content.{ProducerMessageValues}
 use Rattle.pulsar_frame.specs.Reply.{Reply as Content, is_body}
 use Rattle.pulsar_searches.specs.Plans.{is_lost, look_told, made_gets, made_told, names_begins, names_told, verdict}
 use Rattle.pulsar_searches.specs.Replies.{unexpected}
 use Rattle.pulsar_searches.specs.declared.turn.SearchOutcome.TheVariants as news
-use Rattle.pulsar_searches.specs.declared.turn.Turn.TheVariants as search_turn
 use Rattle.pulsar_outgoing.specs.Errors.{in_producer}
 use Rattle.pulsar_producer.specs.Plans.{Builds, Sent, build_begins, build_closes, build_made, build_next, build_told, fault_told, not_drawn, not_queued, or_else, receipt, send_ends, send_makes, send_recalls, send_remakes, send_told}
 use Rattle.pulsar_producer.specs.declared.building.BuildingProducer.TheVariants as build
 use Rattle.pulsar_outgoing.specs.declared.news.News.TheVariants as granting
 use Rattle.pulsar_producer.specs.declared.deed.Deed.TheVariants.{Holds, Numbers}
-use Rattle.pulsar_producer.specs.declared.deed.Step.{Step}
-use Rattle.pulsar_producer.specs.declared.deed.Step.TheVariants as step
 use Rattle.pulsar_producer.specs.declared.sending.Sending.TheVariants as send
 use Rattle.pulsar_laws.proofs.plans.Searches.{Breaks, BySearch, FailsBy, Turns, look_fails, made_fails, names_begin, naming_fails}
+use Rattle.pulsar_searches.specs.declared.transition.Transition.TheVariants as transition
+use Rattle.pulsar_producer.specs.Transitions.{ProducerTransition}
 
 -- where a plan stays, what it keeps is such, and where it fails, its failure is
-abbrev pub Ends : {S A : Type 0} → (S → Type 0) → (Failure → Type 0) → Step S (Result A Failure) → Type 0
-Ends H P (step.Stays s deed) = H s
-Ends H P (step.Gives (Ok a)) = Unit {0}
-Ends H P (step.Gives (Err f)) = P f
+abbrev pub Ends : {S A : Type 0} → (S → Type 0) → (Failure → Type 0) → ProducerTransition S (Result A Failure) → Type 0
+Ends H P (transition.Stays s deed) = H s
+Ends H P (transition.Gives (Ok a)) = Unit {0}
+Ends H P (transition.Gives (Err f)) = P f
 
-either_ends : {S A : Type 0} (H : S → Type 0) (P : Failure → Type 0) (b : Bool) (x y : Step S (Result A Failure)) → Ends H P x → Ends H P y →
+either_ends : {S A : Type 0} (H : S → Type 0) (P : Failure → Type 0) (b : Bool) (x y : ProducerTransition S (Result A Failure)) → Ends H P x → Ends H P y →
     Ends H P (cond b x y)
 either_ends H P true x y p q = p
 either_ends H P false x y p q = q
 
-else_ends : {S T A B : Type 0} (H : T → Type 0) (P Q : Failure → Type 0) (turn : SearchTurn S (Result A Failure)) (within : S → T) (on : A →
-    Step T (Result B Failure))
-    (otherwise : Failure → Step T (Result B Failure)) → FailsBy Q turn → ((s : S) → H (within s)) → ((a : A) → Ends H P (on a)) →
+else_ends : {S T A B : Type 0} (H : T → Type 0) (P Q : Failure → Type 0) (turn : SearchTransition S (Result A Failure)) (within : S → T) (on : A →
+    ProducerTransition T (Result B Failure))
+    (otherwise : Failure → ProducerTransition T (Result B Failure)) → FailsBy Q turn → ((s : S) → H (within s)) → ((a : A) → Ends H P (on a)) →
     ((f : Failure) → Q f → Ends H P (otherwise f)) → Ends H P (or_else turn within on otherwise)
-else_ends H P Q (search_turn.Stays s action) within on otherwise q h k m = h s
-else_ends H P Q (search_turn.Gives (Ok a)) within on otherwise q h k m = k a
-else_ends H P Q (search_turn.Gives (Err f)) within on otherwise q h k m = m f q
+else_ends H P Q (transition.Stays s action) within on otherwise q h k m = h s
+else_ends H P Q (transition.Gives (Ok a)) within on otherwise q h k m = k a
+else_ends H P Q (transition.Gives (Err f)) within on otherwise q h k m = m f q
 
 -- a search, or a command, that fails at these news fails so
 abbrev pub AllowsBreaks : (Failure → Type 0) → Ways → Granting → Type 0
@@ -62,15 +61,16 @@ closes_end P (b ∷ left) f k = k
 
 pub building_begins : (P : Failure → Type 0) (w : Ways) (o : ProducerOrder) → BuildEnds P (build_begins w o)
 building_begins P w o =
-    else_ends (BuildKeeps P) P P (names_begins w o.topic) build.Naming (λ names. build_next Numbers names []) (λ f. step.Gives (Err f))
+    else_ends (BuildKeeps P) P P (names_begins w o.topic) build.Naming (λ names. build_next Numbers names []) (λ f. transition.Gives (Err f))
     (names_begin P w o.topic) (λ n. tt)
     (λ names. next_ends P Numbers names []) (λ f k. k)
 
-pub building_ends : (P : Failure → Type 0) (w : Ways) (o : ProducerOrder) (b : BuildingProducer) (y : Granting) → P (OfConnection (fault_told y)) → AllowsBreaks P w y →
+pub building_ends : (P : Failure → Type 0) (w : Ways) (o : ProducerOrder) (b : BuildingProducer) (y : Granting) → P (OfConnection (fault_told y)) →
+    AllowsBreaks P w y →
     BuildKeeps P b →
     BuildEnds P (build_told w o b y)
 building_ends P w o (build.Naming n) (granting.Told x) fault breaks k =
-    else_ends (BuildKeeps P) P (Turns w x) (names_told w o.topic n x) build.Naming (λ names. build_next Numbers names []) (λ f. step.Gives (Err f))
+    else_ends (BuildKeeps P) P (Turns w x) (names_told w o.topic n x) build.Naming (λ names. build_next Numbers names []) (λ f. transition.Gives (Err f))
     (naming_fails w o.topic n x) (λ n. tt)
     (λ names. next_ends P Numbers names []) (λ f t. breaks x refl f (BySearch t))
 building_ends P w o (build.Naming n) y fault breaks k = tt
@@ -101,7 +101,7 @@ queued_ends : (P : Failure → Type 0) (e : Errand) (kept : Option ProducerMessa
 queued_ends P e None f k = k
 queued_ends P e (Some m) f k = drawn_ends P e m f k
 
-makes_end : (P Q : Failure → Type 0) (e : Errand) (m : ProducerMessageValues) (c : Command) (turn : SearchTurn Making (Result Served Failure)) →
+makes_end : (P Q : Failure → Type 0) (e : Errand) (m : ProducerMessageValues) (c : Command) (turn : SearchTransition Making (Result Served Failure)) →
     FailsBy Q turn →
     ((f : Failure) → Q f → P f) → SendEnds P (send_makes e m c turn)
 makes_end P Q e m c turn q k = else_ends (SendKeeps P) P Q turn (send.Making m c) (send_remakes e m) (send_ends e) q (λ s. tt) (λ a. tt) k

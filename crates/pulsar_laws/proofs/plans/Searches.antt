@@ -1,7 +1,7 @@
 -- Where a search fails, and a command that is asked until it succeeds: with the fault of the news that it was told, or by what a reply says.
 use Rattle.std.proofs.Common.{◌≡◌, ◌⊎◌, inl, inr, ap, ℕ, List, [], refl, Bool, true, false, ◌&&◌, ◌||◌, cond, Option, Some, None, Result, Ok, Err, ◌==◌, ◌-◌}
 use Rattle.std.specs.Prelude.{pos}
-use Rattle.pulsar_laws.proofs.PlanWords.{Command, Denies, Later, Looking, Making, Naming, Heard as News, SearchTurn, Sought, Says as Tells, Ways}
+use Rattle.pulsar_laws.proofs.PlanWords.{Command, Denies, Heard as News, Later, Looking, Making, Naming, Says as Tells, SearchTransition, Sought, Ways}
 use Rattle.pulsar_laws.proofs.LinkWords.{Failure, Fault, Named, OfConnection, Place}
 use Rattle.pulsar_wire.specs.Field.{◌>>=◌}
 use Rattle.pulsar_wire.specs.Enumerations.{error_of}
@@ -33,8 +33,8 @@ use Rattle.pulsar_searches.specs.declared.retry.Retrying.{Retrying}
 use Rattle.pulsar_searches.specs.declared.retry.Retrying.TheVariants as retry
 use Rattle.pulsar_searches.specs.declared.turn.Action.TheVariants.{Wait}
 use Rattle.pulsar_searches.specs.declared.turn.SearchOutcome.TheVariants as news
-use Rattle.pulsar_searches.specs.declared.turn.Turn.TheVariants as search_turn
 use Rattle.pulsar_laws.specs.Laws.{DeniesSo}
+use Rattle.pulsar_searches.specs.declared.transition.Transition.TheVariants as transition
 
 -- WHAT A REPLY SAYS TO A SEARCH
 
@@ -110,20 +110,22 @@ abbrev pub Turns : Ways → News → Failure → Type 0
 Turns w n f = (f ≡ in_discovery (search.fault_of n)) ⊎ ((r : Content) × (d : DiscoveryFault) × (n ≡ news.Replied r) × (f ≡ OfDiscovery d) × DeniesSo w d r)
 
 -- where a machine fails, its failure is such
-abbrev pub FailsBy : {S A : Type 0} → (Failure → Type 0) → SearchTurn S (Result A Failure) → Type 0
-FailsBy P (search_turn.Stays s action) = Unit {0}
-FailsBy P (search_turn.Gives (Ok a)) = Unit {0}
-FailsBy P (search_turn.Gives (Err f)) = P f
+abbrev pub FailsBy : {S A : Type 0} → (Failure → Type 0) → SearchTransition S (Result A Failure) → Type 0
+FailsBy P (transition.Stays s action) = Unit {0}
+FailsBy P (transition.Gives (Ok a)) = Unit {0}
+FailsBy P (transition.Gives (Err f)) = P f
 
-either_fails : {S A : Type 0} (P : Failure → Type 0) (b : Bool) (x y : SearchTurn S (Result A Failure)) → FailsBy P x → FailsBy P y → FailsBy P (cond b x y)
+either_fails : {S A : Type 0} (P : Failure → Type 0) (b : Bool) (x y : SearchTransition S (Result A Failure)) → FailsBy P x → FailsBy P y →
+    FailsBy P (cond b x y)
 either_fails P true x y p q = p
 either_fails P false x y p q = q
 
-then_fails : {S T A B : Type 0} (P : Failure → Type 0) (turn : SearchTurn S (Result A Failure)) (within : S → T) (on : A → SearchTurn T (Result B Failure)) →
+then_fails : {S T A B : Type 0} (P : Failure → Type 0) (turn : SearchTransition S (Result A Failure)) (within : S → T) (on : A →
+    SearchTransition T (Result B Failure)) →
     FailsBy P turn → ((a : A) → FailsBy P (on a)) → FailsBy P (and_then turn within on)
-then_fails P (search_turn.Stays s action) within on p q = tt
-then_fails P (search_turn.Gives (Ok a)) within on p q = q a
-then_fails P (search_turn.Gives (Err f)) within on p q = p
+then_fails P (transition.Stays s action) within on p q = tt
+then_fails P (transition.Gives (Ok a)) within on p q = q a
+then_fails P (transition.Gives (Err f)) within on p q = p
 
 count_hears : (w : Ways) (n l : ℕ) (r : Content) (h : Heard ℕ) → HeardSo w r h → FailsBy (Turns w (news.Replied r)) (count_heard w n l h)
 count_hears w n l r (Tells count) k = tt
@@ -168,27 +170,27 @@ look_fails w t (look.Reaching place) o = inl refl
 
 left_fails : (P : Failure → Type 0) (w : Ways) (t : List ℕ) (n left : ℕ) (named : List Named) → FailsBy P (names_left w t n left named)
 left_fails P w t n left named =
-    either_fails P (left == 0) (search_turn.Gives (Ok named))
+    either_fails P (left == 0) (transition.Gives (Ok named))
     (and_then (look_begins w) (λ l. name.Part l (record { name = partition_name t (n - left); count = n; left = left - 1; found = named }))
-    (λ place. search_turn.Gives (Ok named)))
+    (λ place. transition.Gives (Ok named)))
     tt tt
 
 pub names_fail : (P : Failure → Type 0) (w : Ways) (t : List ℕ) (n : ℕ) → FailsBy P (names_of w t n)
 names_fail P w t n =
-    either_fails P (n == 0) (and_then (look_begins w) name.Whole (λ place. search_turn.Gives (Ok (name_found [] t place)))) (names_left w t n n []) tt
+    either_fails P (n == 0) (and_then (look_begins w) name.Whole (λ place. transition.Gives (Ok (name_found [] t place)))) (names_left w t n n []) tt
     (left_fails P w t n n [])
 
 pub naming_fails : (w : Ways) (t : List ℕ) (n : Naming) (o : News) → FailsBy (Turns w o) (names_told w t n o)
 naming_fails w t (name.Counting c) o = then_fails (Turns w o) (count_told w t c o) name.Counting (names_of w t) (count_fails w t c o)
     (names_fail (Turns w o) w t)
 naming_fails w t (name.Whole l) o =
-    then_fails (Turns w o) (look_told w t l o) name.Whole (λ place. search_turn.Gives (Ok (name_found [] t place))) (look_fails w t l o) (λ place. tt)
+    then_fails (Turns w o) (look_told w t l o) name.Whole (λ place. transition.Gives (Ok (name_found [] t place))) (look_fails w t l o) (λ place. tt)
 naming_fails w t (name.Part l p) o =
     then_fails (Turns w o) (look_told w p.name l o) (λ l. name.Part l p) (λ place. names_left w t p.count p.left (name_found p.found p.name place))
     (look_fails w p.name l o) (λ place. left_fails (Turns w o) w t p.count p.left (name_found p.found p.name place))
 
 pub counting_begins : (P : Failure → Type 0) (w : Ways) (t : List ℕ) → FailsBy P (search.count_begins w t)
-counting_begins P w t = either_fails P (is_partition t) (search_turn.Gives (Ok 0)) (count_gets w true 0) tt tt
+counting_begins P w t = either_fails P (is_partition t) (transition.Gives (Ok 0)) (count_gets w true 0) tt tt
 
 -- the searches that calls ask for, and where they stand
 abbrev pub is_sought : Sought → Bool
@@ -204,36 +206,36 @@ is_search (plan.Naming t n) = true
 is_search _ = false
 
 -- such a search goes on as one, or fails so
-abbrev pub Keeps : (Failure → Type 0) → SearchTurn Search (Result Answer Failure) → Type 0
-Keeps P (search_turn.Stays s action) = is_search s ≡ true
-Keeps P (search_turn.Gives (Ok a)) = Unit {0}
-Keeps P (search_turn.Gives (Err f)) = P f
+abbrev pub Keeps : (Failure → Type 0) → SearchTransition Search (Result Answer Failure) → Type 0
+Keeps P (transition.Stays s action) = is_search s ≡ true
+Keeps P (transition.Gives (Ok a)) = Unit {0}
+Keeps P (transition.Gives (Err f)) = P f
 
-then_keeps : {S A : Type 0} (P : Failure → Type 0) (turn : SearchTurn S (Result A Failure)) (within : S → Search) (on : A →
-    SearchTurn Search (Result Answer Failure)) →
+then_keeps : {S A : Type 0} (P : Failure → Type 0) (turn : SearchTransition S (Result A Failure)) (within : S → Search) (on : A →
+    SearchTransition Search (Result Answer Failure)) →
     ((s : S) → is_search (within s) ≡ true) → FailsBy P turn → ((a : A) → Keeps P (on a)) → Keeps P (and_then turn within on)
-then_keeps P (search_turn.Stays s action) within on is p q = is s
-then_keeps P (search_turn.Gives (Ok a)) within on is p q = q a
-then_keeps P (search_turn.Gives (Err f)) within on is p q = p
+then_keeps P (transition.Stays s action) within on is p q = is s
+then_keeps P (transition.Gives (Ok a)) within on is p q = q a
+then_keeps P (transition.Gives (Err f)) within on is p q = p
 
 pub keeps_begins : (P : Failure → Type 0) (w : Ways) (what : Sought) → is_sought what ≡ true → Keeps P (search.begins w what)
 keeps_begins P w (sought.CountPartitions t) is =
-    then_keeps P (search.count_begins w t) (plan.Counting t) (λ n. search_turn.Gives (Ok (answer.Count n))) (λ s. refl) (counting_begins P w t) (λ n. tt)
+    then_keeps P (search.count_begins w t) (plan.Counting t) (λ n. transition.Gives (Ok (answer.Count n))) (λ s. refl) (counting_begins P w t) (λ n. tt)
 keeps_begins P w (sought.Look t) is = refl
 keeps_begins P w (sought.Name t) is =
-    then_keeps P (search.names_begins w t) (plan.Naming t) (λ names. search_turn.Gives (Ok (answer.Addresses names))) (λ s. refl)
+    then_keeps P (search.names_begins w t) (plan.Naming t) (λ names. transition.Gives (Ok (answer.Addresses names))) (λ s. refl)
     (then_fails P (search.count_begins w t) name.Counting (names_of w t) (counting_begins P w t) (names_fail P w t)) (λ names. tt)
 keeps_begins P w (sought.Retry t n f) is = absurd cc
 keeps_begins P w (sought.Make c place) is = absurd cc
 
 pub keeps_told : (w : Ways) (s : Search) (o : News) → is_search s ≡ true → Keeps (Turns w o) (search.told w s o)
 keeps_told w (plan.Counting t c) o is =
-    then_keeps (Turns w o) (count_told w t c o) (plan.Counting t) (λ n. search_turn.Gives (Ok (answer.Count n))) (λ s. refl) (count_fails w t c o) (λ n. tt)
+    then_keeps (Turns w o) (count_told w t c o) (plan.Counting t) (λ n. transition.Gives (Ok (answer.Count n))) (λ s. refl) (count_fails w t c o) (λ n. tt)
 keeps_told w (plan.Looking t l) o is =
-    then_keeps (Turns w o) (look_told w t l o) (plan.Looking t) (λ place. search_turn.Gives (Ok (answer.Address place))) (λ s. refl) (look_fails w t l o)
+    then_keeps (Turns w o) (look_told w t l o) (plan.Looking t) (λ place. transition.Gives (Ok (answer.Address place))) (λ s. refl) (look_fails w t l o)
     (λ place. tt)
 keeps_told w (plan.Naming t n) o is =
-    then_keeps (Turns w o) (names_told w t n o) (plan.Naming t) (λ names. search_turn.Gives (Ok (answer.Addresses names))) (λ s. refl) (naming_fails w t n o)
+    then_keeps (Turns w o) (names_told w t n o) (plan.Naming t) (λ names. transition.Gives (Ok (answer.Addresses names))) (λ s. refl) (naming_fails w t n o)
     (λ names. tt)
 keeps_told w (plan.Retrying t r) o is = absurd cc
 keeps_told w (plan.Making c m) o is = absurd cc
@@ -246,16 +248,17 @@ pub data Breaks (w : Ways) (n : News) (f : Failure) : Type 0 where
   BySearch : Turns w n f → Breaks w n f
   ByReply : (r : Content) → n ≡ news.Replied r → f ≡ OfConnection (unexpected r r.body) → Breaks w n f
 
-more_fails : {S A : Type 0} (P Q : Failure → Type 0) (turn : SearchTurn S (Result A Failure)) → ((f : Failure) → P f → Q f) → FailsBy P turn → FailsBy Q turn
-more_fails P Q (search_turn.Stays s action) on p = tt
-more_fails P Q (search_turn.Gives (Ok a)) on p = tt
-more_fails P Q (search_turn.Gives (Err f)) on p = on f p
+more_fails : {S A : Type 0} (P Q : Failure → Type 0) (turn : SearchTransition S (Result A Failure)) → ((f : Failure) → P f → Q f) → FailsBy P turn →
+    FailsBy Q turn
+more_fails P Q (transition.Stays s action) on p = tt
+more_fails P Q (transition.Gives (Ok a)) on p = tt
+more_fails P Q (transition.Gives (Err f)) on p = on f p
 
-nested_fails : {S T A : Type 0} (P : Failure → Type 0) (turn : SearchTurn S (Result A Failure)) (within : S → T) → FailsBy P turn →
-    FailsBy P (nested turn within search_turn.Gives)
-nested_fails P (search_turn.Stays s action) within p = tt
-nested_fails P (search_turn.Gives (Ok a)) within p = tt
-nested_fails P (search_turn.Gives (Err f)) within p = p
+nested_fails : {S T A : Type 0} (P : Failure → Type 0) (turn : SearchTransition S (Result A Failure)) (within : S → T) → FailsBy P turn →
+    FailsBy P (nested turn within transition.Gives)
+nested_fails P (transition.Stays s action) within p = tt
+nested_fails P (transition.Gives (Ok a)) within p = tt
+nested_fails P (transition.Gives (Err f)) within p = p
 
 retry_fails : (w : Ways) (t : List ℕ) (r : Retrying) (o : News) → FailsBy (Breaks w o) (retry_told w t r o)
 retry_fails w t retry.Resting news.Woken = tt
@@ -269,7 +272,7 @@ answered_fails : (P : Failure → Type 0) (w : Ways) (n l : ℕ) (x : Result Con
 answered_fails P w n l (Ok r) h = tt
 answered_fails P w n l (Err f) h =
     then_fails P (retry_begins w n f) (λ r. make.Retrying r n) (made_gets (one_more n))
-    (either_fails P (is_retryable f && allow_retry w.max_retries n) (search_turn.Stays retry.Resting (Wait w.retry_delay)) (search.fails (OfConnection f)) tt
+    (either_fails P (is_retryable f && allow_retry w.max_retries n) (transition.Stays retry.Resting (Wait w.retry_delay)) (search.fails (OfConnection f)) tt
     (h f refl))
     (λ place. tt)
 

@@ -1,7 +1,7 @@
 -- Only the plan of a consumer serves one, and only that takes flows, and subscribes a consumer again, where it is told a reply.
 use Rattle.std.proofs.Common.{◌≡◌, inl, inr, ◌∙◌, sym, ap, subst, ℕ, List, ◌∷◌, refl, Bool, true, false, Some}
-use Rattle.pulsar_laws.proofs.ActWords.{Action, Call, Consumer, Does, Outcome, Procedure, Producer, Revive, TakeFlow, Told, Verdict, Who}
-use Rattle.pulsar_laws.proofs.PlanWords.{action_of, Deed, Plan, Stays, told, Turn}
+use Rattle.pulsar_laws.proofs.ActWords.{Action, Call, Consumer, Does, Outcome, Procedure, Producer, Revive, TakeFlow, Told, Who, OfConsumer}
+use Rattle.pulsar_laws.proofs.PlanWords.{action_of, Deed, Plan, PlanTransition, Stays, told}
 use Rattle.pulsar_laws.proofs.RunWords.{Entry, IsRun, notice, Options, Then, view}
 use Rattle.pulsar_laws.proofs.LinkWords.{Reply}
 use Rattle.pulsar_calls.specs.declared.act.Outcome.TheVariants as outcome
@@ -34,24 +34,24 @@ calls_serve_none o log t p run h =
     stands_so o (Call t) (IsRun o) (run_older o) (λ log q. is_server q ≡ false) (λ e log q m r s k. k)
     (λ log p q a r e. begun_not (begun_arc e) (starts_part o log t p r).call) (λ log b u q a r s k e. arc_not (told_arc e) k) log p run h
 
-no_flow : (d : Deed) → TakeFlow ≡ action_of d → ⊥
+no_flow : (d : Deed) → (OfConsumer TakeFlow) ≡ action_of d → ⊥
 no_flow (deed.Does (wish.Get p)) h = cc
 no_flow (deed.Does (wish.Ask l request)) h = cc
 no_flow (deed.Does (wish.Wait delay)) h = cc
 no_flow _ h = cc
 
-takes_by : (t : Turn Plan Verdict) (p q : Plan) (u : Outcome) → TurnSo p u t → t ≡ Stays q TakeFlow → is_server p ≡ true
+takes_by : (t : PlanTransition) (p q : Plan) (u : Outcome) → TurnSo p u t → t ≡ Stays q (OfConsumer TakeFlow) → is_server p ≡ true
 takes_by t p q u k e = (subst (TurnSo p u) e k).2
 
-pub flow_takers : (o : Options) (log : List Entry) (w : Who) → IsRun o (Then (Does w TakeFlow) ∷ log) → (n t : ℕ) × (w ≡ Consumer n t)
+pub flow_takers : (o : Options) (log : List Entry) (w : Who) → IsRun o (Then (Does w (OfConsumer TakeFlow)) ∷ log) → (n t : ℕ) × (w ≡ Consumer n t)
 flow_takers o log (Consumer n t) run = (n, t, refl)
-flow_takers o log (Producer n) run = let k = batcher_does o log n TakeFlow run in absurd (no_flow k.0 k.1)
-flow_takers o log (Call t) run = elim (does_from o log (Call t) TakeFlow run) [ inl k ↦ absurd (begun k) | inr k ↦ absurd (led k) ]
+flow_takers o log (Producer n) run = let k = batcher_does o log n (OfConsumer TakeFlow) run in absurd (no_flow k.0 k.1)
+flow_takers o log (Call t) run = elim (does_from o log (Call t) (OfConsumer TakeFlow) run) [ inl k ↦ absurd (begun k) | inr k ↦ absurd (led k) ]
   where
-    begun : BeginsSo o log (Call t) TakeFlow → ⊥
+    begun : BeginsSo o log (Call t) (OfConsumer TakeFlow) → ⊥
     begun k = let f : true ≡ false = (subst Plain k.leads (begins_plain k.procedure)).2 in cc
 
-    led : IsLedSo o log (Call t) TakeFlow → ⊥
+    led : IsLedSo o log (Call t) (OfConsumer TakeFlow) → ⊥
     led k =
         let r : IsRun o (Then (Told (notice (Call t) k.outcome)) ∷ k.older) = subst (IsRun o) k.is_there run.0 in
         let so : TurnSo k.before k.outcome (told k.before k.outcome) = told_on k.before k.outcome ((reached_run o k.older r.0).waits (Call t) k.before k.stood)
@@ -63,7 +63,7 @@ flow_takers o log (Call t) run = elim (does_from o log (Call t) TakeFlow run) [ 
 -- A CONSUMER IS SUBSCRIBED AGAIN
 
 abbrev is_revive : Action → Bool
-is_revive (Revive l) = true
+is_revive (OfConsumer (Revive l)) = true
 is_revive _ = false
 
 deed_not : (d : Deed) → is_revive (action_of d) ≡ true → ⊥
@@ -90,27 +90,27 @@ pub record IsRevived (o : Options) (log : List Entry) (w : Who) (l : ℕ) : Type
   pub stood : (view o older).stand w ≡ Some before
   pub is_server : is_server before ≡ true
   pub plan : Plan
-  pub leads : told before (outcome.Replied reply) ≡ Stays plan (Revive l)
+  pub leads : told before (outcome.Replied reply) ≡ Stays plan (OfConsumer (Revive l))
   pub revives : is_reviving plan ≡ true
 
-revives_by : (t : Turn Plan Verdict) (p q : Plan) (u : Outcome) (l : ℕ) → TurnSo p u t → t ≡ Stays q (Revive l) →
+revives_by : (t : PlanTransition) (p q : Plan) (u : Outcome) (l : ℕ) → TurnSo p u t → t ≡ Stays q (OfConsumer (Revive l)) →
     (is_reply u ≡ true) × (is_server p ≡ true)
 revives_by t p q u l k e = let x = (subst (TurnSo p u) e k).2 in (x.1, x.2)
 
-pub is_revived : (o : Options) (log : List Entry) (w : Who) (l : ℕ) → IsRun o (Then (Does w (Revive l)) ∷ log) → IsRevived o log w l
-is_revived o log w l run = elim (does_from o log w (Revive l) run) [ inl k ↦ absurd (begun k) | inr k ↦ led k ]
+pub is_revived : (o : Options) (log : List Entry) (w : Who) (l : ℕ) → IsRun o (Then (Does w (OfConsumer (Revive l))) ∷ log) → IsRevived o log w l
+is_revived o log w l run = elim (does_from o log w (OfConsumer (Revive l)) run) [ inl k ↦ absurd (begun k) | inr k ↦ led k ]
   where
-    begun : BeginsSo o log w (Revive l) → ⊥
+    begun : BeginsSo o log w (OfConsumer (Revive l)) → ⊥
     begun k = let f : true ≡ false = (subst Plain k.leads (begins_plain k.procedure)).2 in cc
 
-    led : IsLedSo o log w (Revive l) → IsRevived o log w l
+    led : IsLedSo o log w (OfConsumer (Revive l)) → IsRevived o log w l
     led k =
         let r : IsRun o (Then (Told (notice w k.outcome)) ∷ k.older) = subst (IsRun o) k.is_there run.0 in
         let so : TurnSo k.before k.outcome (told k.before k.outcome) = told_on k.before k.outcome ((reached_run o k.older r.0).waits w k.before k.stood) in
         let x = revives_by (told k.before k.outcome) k.before k.plan k.outcome l so k.leads in
         by k.outcome k.is_there k.leads x.0 x.1
       where
-        by : (u : Outcome) → log ≡ Then (Told (notice w u)) ∷ k.older → told k.before u ≡ Stays k.plan (Revive l) → is_reply u ≡ true →
+        by : (u : Outcome) → log ≡ Then (Told (notice w u)) ∷ k.older → told k.before u ≡ Stays k.plan (OfConsumer (Revive l)) → is_reply u ≡ true →
             is_server k.before ≡ true → IsRevived o log w l
         by (outcome.Replied r) there leads reply server = record {
           reply = r;
@@ -121,16 +121,16 @@ is_revived o log w l run = elim (does_from o log w (Revive l) run) [ inl k ↦ a
           is_server = server;
           plan = k.plan;
           leads = leads;
-          revives = arc_revived {p = k.before} {q = k.plan} {u = outcome.Replied r} {a = Revive l} (told_arc leads) refl;
+          revives = arc_revived {p = k.before} {q = k.plan} {u = outcome.Replied r} {a = OfConsumer (Revive l)} (told_arc leads) refl;
         }
         by u there leads reply server = absurd cc
 
-no_revive : (l : ℕ) (d : Deed) → Revive l ≡ action_of d → ⊥
+no_revive : (l : ℕ) (d : Deed) → OfConsumer (Revive l) ≡ action_of d → ⊥
 no_revive l d h = deed_not d (sym (ap is_revive h))
 
-pub revivers : (o : Options) (log : List Entry) (w : Who) (l : ℕ) → IsRun o (Then (Does w (Revive l)) ∷ log) → (n t : ℕ) × (w ≡ Consumer n t)
+pub revivers : (o : Options) (log : List Entry) (w : Who) (l : ℕ) → IsRun o (Then (Does w (OfConsumer (Revive l))) ∷ log) → (n t : ℕ) × (w ≡ Consumer n t)
 revivers o log (Consumer n t) l run = (n, t, refl)
-revivers o log (Producer n) l run = let k = batcher_does o log n (Revive l) run in absurd (no_revive l k.0 k.1)
+revivers o log (Producer n) l run = let k = batcher_does o log n (OfConsumer (Revive l)) run in absurd (no_revive l k.0 k.1)
 revivers o log (Call t) l run =
     let k : IsRevived o log (Call t) l = is_revived o log (Call t) l run in
     let r : IsRun o (Then (Told (notice (Call t) (outcome.Replied k.reply))) ∷ k.older) = subst (IsRun o) k.is_there run.0 in

@@ -1,7 +1,7 @@
 -- Along a run, one whose plan reports does so next, and no plan stands where a queued part of a call has not reported.
 use Rattle.std.proofs.Common.{◌≡◌, ◌∙◌, sym, ap, subst, ℕ, List, ◌∷◌, ◌++◌, refl, Bool, true, false, ◌&&◌, cond, Option, Some, None, []}
-use Rattle.pulsar_laws.proofs.ActWords.{Act, Action, Ask, Does, Find, Hold, Notice, OfTopic, Outcome, Part, PassTurn, Procedure, Rest, Shut, Starts, StopAll, Store, TakeBatch, Tell, TellAll, Told, Verdict, Who, is_same}
-use Rattle.pulsar_laws.proofs.PlanWords.{begins, Gives, Plan, Stays, told, Turn}
+use Rattle.pulsar_laws.proofs.ActWords.{Act, Action, Ask, Does, Find, Hold, Notice, OfTopic, Outcome, Part, PassTurn, Procedure, Rest, Shut, Starts, StopAll, Store, TakeBatch, Tell, TellAll, Told, Who, is_same}
+use Rattle.pulsar_laws.proofs.PlanWords.{begins, Gives, Plan, PlanTransition, Stays, told}
 use Rattle.pulsar_laws.proofs.RunWords.{agenda, Agenda, at_once, Begins, begun_same, does, Entry, first, first_of, follows, follows_some, IsRun, none_now, Options, rest, rules, stays, stays_some, tells, Then, told_some, view, View}
 use Rattle.pulsar_laws.proofs.LinkWords.{answer_at, told_at}
 use Rattle.pulsar_calls.specs.declared.act.Outcome.TheVariants as outcome
@@ -66,7 +66,7 @@ at_spot w who Stores action left is h = absurd cc
 at_spot w who Holds action left is h = holds_on w who action left is (both (is_quick action) (is_own action) h).0
 at_spot w who Nowhere action left is h = absurd cc
 
-turn_sound : (w who : Who) (turn : Turn Plan Verdict) (left : List Act) → who ≡ w → Fits turn → SoundAt (spot_of (stays turn)) w (follows who turn ++ left)
+turn_sound : (w who : Who) (turn : PlanTransition) (left : List Act) → who ≡ w → Fits turn → SoundAt (spot_of (stays turn)) w (follows who turn ++ left)
 turn_sound w who (Gives verdict) left is h = tt
 turn_sound w who (Stays plan action) left is h = at_spot w who (spot plan) action left is h
 

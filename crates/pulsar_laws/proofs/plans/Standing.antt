@@ -2,8 +2,8 @@
 -- where its procedure begins so and each outcome keeps it.
 use Rattle.std.proofs.Common.{◌≡◌, inl, inr, ◌∙◌, sym, ap, subst, ℕ, ◌≤◌, arith, List, [], ◌∷◌, refl, Bool, true, false, cond, Option, Some, None}
 use Rattle.std.proofs.lemmas.Bool.{cases_Bool}
-use Rattle.pulsar_laws.proofs.ActWords.{Act, Action, Answers, Call, Consumer, is_same, Outcome, Procedure, Producer, Starts, Told, Verdict, Who}
-use Rattle.pulsar_laws.proofs.PlanWords.{begins, Gives, Plan, Stays, told, Turn, Ways}
+use Rattle.pulsar_laws.proofs.ActWords.{Act, Action, Answers, Call, Consumer, is_same, Outcome, Procedure, Producer, Starts, Told, Who}
+use Rattle.pulsar_laws.proofs.PlanWords.{begins, Gives, Plan, PlanTransition, Stays, told, Ways}
 use Rattle.pulsar_laws.proofs.RunWords.{agenda, at_once, Begins, begun_same, counted, Each, each_append, each_first, each_map, each_rest, Entry, is_served, IsRun, notice, Options, rest, start_of, started, stays, stays_some, Then, told_some, view, View, ways_of}
 use Rattle.pulsar_calls.specs.declared.act.Procedure.TheVariants as procedure
 use Rattle.pulsar_client.proofs.Raising.{IsRaised, raises}
@@ -70,7 +70,7 @@ module _ (o : Options) (w : Who) (Ok : List Entry → Type 0) (older : (e : Entr
     P (Then (Starts w p) ∷ log) q)
     (keeps : (log : List Entry) (b : Plan) (u : Outcome) (q : Plan) (a : Action) → Ok (Then (Told (notice w u)) ∷ log) →
     (view o log).stand w ≡ Some b → P log b → told b u ≡ Stays q a → P (Then (Told (notice w u)) ∷ log) q) where
-  stays_so : (log : List Entry) (t : Turn Plan Verdict) (q : Plan) → ((x : Plan) (a : Action) → t ≡ Stays x a → P log x) → stays t ≡ Some q → P log q
+  stays_so : (log : List Entry) (t : PlanTransition) (q : Plan) → ((x : Plan) (a : Action) → t ≡ Stays x a → P log x) → stays t ≡ Some q → P log q
   stays_so log (Stays x a) q k h = subst (P log) (let e : x ≡ q = cc in e) (k x a refl)
   stays_so log (Gives v) q k h = absurd (none_some h)
 

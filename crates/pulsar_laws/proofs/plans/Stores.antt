@@ -3,8 +3,8 @@ use Rattle.std.proofs.Common.{◌≡◌, ℕ, List, [], ◌∷◌, refl, Bool, t
 use Rattle.std.specs.Prelude.{not}
 use Rattle.pulsar_calls.specs.declared.act.Procedure.TheVariants as procedure
 use Rattle.std.specs.Option.{is_some}
-use Rattle.pulsar_laws.proofs.ActWords.{Act, Action, Asked, Call, Checks, Comes, Flushes, Link, OfTopic, Outcome, Procedure, CallRefusal, Share, Starts, Store, Verdict, lacks_tickets, next_advice, shares}
-use Rattle.pulsar_laws.proofs.PlanWords.{action_of, Batches, begins, BuildingProducer as Build, Deed, Errand, Gives, News, ProducerOrder, Plan, Sending as Send, Sought, Stays, told, Turn, Ways}
+use Rattle.pulsar_laws.proofs.ActWords.{Act, Action, Asked, Call, Checks, Comes, Flushes, Link, OfTopic, Outcome, Procedure, CallRefusal, Share, Starts, Store, lacks_tickets, next_advice, shares}
+use Rattle.pulsar_laws.proofs.PlanWords.{action_of, Batches, begins, BuildingProducer as Build, Deed, Errand, Gives, News, Plan, PlanTransition, ProducerOrder, Sending as Send, Sought, Stays, told, Ways}
 use Rattle.pulsar_laws.proofs.RunWords.{asks_raw, asks_topics, Begins, builds_with, checks, Chosen, closes, Each, Entry, fails_as, flushes, flushes_all, from_base, gathers as gathers_by, In, InThisStep, IsRun, may_call, parts_of, procedure_for, produces, produces_from, searches, sends, sends_as, sends_by, share, shares_of, shares_unless, starts, stores_as, Then, unless, unless_refused, view, View, ways_of, why_no_raw, why_no_sends}
 use Rattle.pulsar_laws.proofs.LinkWords.{Place}
 use Rattle.pulsar_frame.specs.Batch.{EntryValues}
@@ -55,11 +55,11 @@ arc_none _ = refl
 pub told_none : (plan : Plan) (u : Outcome) → StaysSo NoStore (told plan u)
 told_none plan u = stays_by NoStore plan u (λ q a k. arc_none k)
 
-abbrev action_in : Action → Turn Plan Verdict → Action
+abbrev action_in : Action → PlanTransition → Action
 action_in a (Stays p b) = b
 action_in a (Gives verdict) = a
 
-none_stores : (t : Turn Plan Verdict) (plan : Plan) (n : ℕ) (x : EntryValues) → StaysSo NoStore t → t ≡ Stays plan (OfTopic n (Store x)) → ⊥
+none_stores : (t : PlanTransition) (plan : Plan) (n : ℕ) (x : EntryValues) → StaysSo NoStore t → t ≡ Stays plan (OfTopic n (Store x)) → ⊥
 none_stores t plan n x k h = let f : true ≡ false = subst (StaysSo NoStore) h k in cc
 
 -- WHO STORES

@@ -1,8 +1,8 @@
 -- A subscription is made on a link that takes what is asked there: one step of a plan.
 use Rattle.std.proofs.Common.{◌≡◌, ◌⊎◌, inl, inr, ◌∙◌, sym, ap, ℕ, List, refl, Bool, true, false, cond, Option, Some, None, Result, Ok, Err}
 use Rattle.std.specs.Prelude.{not}
-use Rattle.pulsar_laws.proofs.ActWords.{Action, Ask, Makes, Outcome, Procedure, Rest, Revive, TakeFlow, Verdict, Word}
-use Rattle.pulsar_laws.proofs.PlanWords.{action_of, Asking, Awaiting, begins, Command, Deed, Gives, is_answer, Looking, Making, Naming, Heard as News, news_in, overrides, Plan, SearchTurn, Served, Serving, Stays, Subscribing, told, Turn, Ways, Wish}
+use Rattle.pulsar_laws.proofs.ActWords.{Action, Ask, Makes, Outcome, Procedure, Rest, Revive, TakeFlow, Verdict, Word, OfConsumer}
+use Rattle.pulsar_laws.proofs.PlanWords.{action_of, Asking, Awaiting, begins, Command, Deed, Gives, Heard as News, is_answer, Looking, Making, Naming, news_in, overrides, Plan, PlanTransition, SearchTransition, Served, Serving, Stays, Subscribing, told, Ways, Wish}
 use Rattle.pulsar_laws.proofs.LinkWords.{Failure, Fault, Named, Place, Words}
 use Rattle.pulsar_frame.specs.Reply.{Reply as Content}
 use Rattle.pulsar_exchange.specs.Request.{Subscribed, subscribed}
@@ -11,7 +11,6 @@ use Rattle.pulsar_searches.specs.declared.making.Making.TheVariants as make
 use Rattle.pulsar_searches.specs.declared.retry.Retrying.{Retrying}
 use Rattle.pulsar_searches.specs.declared.turn.Action.TheVariants as wish
 use Rattle.pulsar_searches.specs.declared.turn.SearchOutcome.TheVariants as told_in
-use Rattle.pulsar_searches.specs.declared.turn.Turn.TheVariants as search_turn
 use Rattle.pulsar_producer.specs.declared.deed.Deed.TheVariants as deed
 use Rattle.pulsar_consumer.specs.Plans as consume
 use Rattle.pulsar_consumer.specs.declared.building.BuildingConsumer.{BuildingConsumer as ConsumerBuild}
@@ -31,6 +30,7 @@ use Rattle.pulsar_plans.specs.Plan.{consumer_news_of, in_recalling, in_resting, 
 use Rattle.pulsar_laws.proofs.Cases.{cond_so}
 use Rattle.pulsar_plans.proofs.Arcs.{Arc, Begun, BegunEnd, End, answers, batches_go, begins_asking, begins_none, begins_not, builds_on, by_arcs, by_begun, departs_asks, got_asks, part_sends, queued_waits, sends, stands_on}
 use Rattle.pulsar_laws.proofs.plans.Servers.{is_server}
+use Rattle.pulsar_searches.specs.declared.transition.Transition.TheVariants as transition
 
 -- THE LINK on which a plan subscribes, and that on which it has subscribed a consumer again
 
@@ -99,8 +99,8 @@ is_reply (outcome.Replied r) = true
 is_reply _ = false
 
 abbrev pub ActSo : Plan → Outcome → Action → Type 0
-ActSo p u (Revive l) = From p u l × (is_reply u ≡ true) × (is_server p ≡ true)
-ActSo p u TakeFlow = is_server p ≡ true
+ActSo p u (OfConsumer (Revive l)) = From p u l × (is_reply u ≡ true) × (is_server p ≡ true)
+ActSo p u (OfConsumer TakeFlow) = is_server p ≡ true
 ActSo p u _ = Unit {0}
 
 abbrev pub MakesSo : Plan → Outcome → Makes → Type 0
@@ -108,7 +108,7 @@ MakesSo p u (makes.Consumer j) = From p u j.link
 MakesSo p u _ = Unit {0}
 
 -- so it subscribes where it asked before, or asks there right then
-abbrev pub TurnSo : Plan → Outcome → Turn Plan Verdict → Type 0
+abbrev pub TurnSo : Plan → Outcome → PlanTransition → Type 0
 TurnSo p u (Stays q a) = Waits q × LinkSo p u (asks_on q) q a × ActSo p u a
 TurnSo p u (Gives v) = MakesSo p u v.makes
 
@@ -116,17 +116,17 @@ TurnSo p u (Gives v) = MakesSo p u v.makes
 
 -- what only the plan of a consumer does
 abbrev pub is_inner : Action → Bool
-is_inner (Revive l) = true
-is_inner TakeFlow = true
+is_inner (OfConsumer (Revive l)) = true
+is_inner (OfConsumer TakeFlow) = true
 is_inner _ = false
 
-abbrev pub Plain : Turn Plan Verdict → Type 0
+abbrev pub Plain : PlanTransition → Type 0
 Plain (Stays q a) = Waits q × (asks_on q ≡ None) × (is_inner a ≡ false)
 Plain (Gives v) = is_consumer v.makes ≡ false
 
 plain_act : (p : Plan) (u : Outcome) (a : Action) → is_inner a ≡ false → ActSo p u a
-plain_act p u (Revive l) h = absurd cc
-plain_act p u TakeFlow h = absurd cc
+plain_act p u (OfConsumer (Revive l)) h = absurd cc
+plain_act p u (OfConsumer TakeFlow) h = absurd cc
 plain_act p u _ h = tt
 
 plain_link : (p : Plan) (u : Outcome) (k : Option ℕ) (q : Plan) (a : Action) → k ≡ None → LinkSo p u k q a
@@ -137,7 +137,7 @@ plain_makes : (p : Plan) (u : Outcome) (m : Makes) → is_consumer m ≡ false �
 plain_makes p u (makes.Consumer j) h = absurd cc
 plain_makes p u _ h = tt
 
-pub plain_turn : (p : Plan) (u : Outcome) (t : Turn Plan Verdict) → Plain t → TurnSo p u t
+pub plain_turn : (p : Plan) (u : Outcome) (t : PlanTransition) → Plain t → TurnSo p u t
 plain_turn p u (Stays q a) k = (k.0, plain_link p u (asks_on q) q a k.1, plain_act p u a k.2)
 plain_turn p u (Gives v) k = plain_makes p u v.makes k
 
@@ -169,17 +169,17 @@ abbrev is_replied : News → Bool
 is_replied (told_in.Replied r) = true
 is_replied _ = false
 
-abbrev MadeSo : Option ℕ → News → SearchTurn Making (Result Served Failure) → Type 0
-MadeSo k x (search_turn.Stays m a) = WishSo (made_on m) a
-MadeSo k x (search_turn.Gives (Ok s)) = (k ≡ Some s.link) × (is_replied x ≡ true)
-MadeSo k x (search_turn.Gives (Err f)) = Unit {0}
+abbrev MadeSo : Option ℕ → News → SearchTransition Making (Result Served Failure) → Type 0
+MadeSo k x (transition.Stays m a) = WishSo (made_on m) a
+MadeSo k x (transition.Gives (Ok s)) = (k ≡ Some s.link) × (is_replied x ≡ true)
+MadeSo k x (transition.Gives (Err f)) = Unit {0}
 
 -- a retry goes on to get a link
-retried_so : (k : Option ℕ) (x : News) (n m : ℕ) (t : SearchTurn Retrying (Result Place Failure)) →
+retried_so : (k : Option ℕ) (x : News) (n m : ℕ) (t : SearchTransition Retrying (Result Place Failure)) →
     MadeSo k x (search.and_then t (λ r. make.Retrying r n) (search.made_gets m))
-retried_so k x n m (search_turn.Stays r a) = tt
-retried_so k x n m (search_turn.Gives (Ok place)) = tt
-retried_so k x n m (search_turn.Gives (Err f)) = tt
+retried_so k x n m (transition.Stays r a) = tt
+retried_so k x n m (transition.Gives (Ok place)) = tt
+retried_so k x n m (transition.Gives (Err f)) = tt
 
 made_so : (w : Ways) (c : Command) (m : Making) (x : News) → MadeSo (made_on m) x (search.made_told w c m x)
 made_so w c (make.Getting n) (told_in.GotLink l) = (c.request, refl)
@@ -211,24 +211,24 @@ module _ (w : Ways) (o : ConsumerOrder) (b : ConsumerBuild) (u : Outcome) where
   abbrev p : Plan
   p = Subscribing w o b
 
-  makes_on : (c : Command) (number : ℕ) (k : Option ℕ) (x : News) (t : SearchTurn Making (Result Served Failure)) →
+  makes_on : (c : Command) (number : ℕ) (k : Option ℕ) (x : News) (t : SearchTransition Making (Result Served Failure)) →
       ((l : ℕ) → k ≡ Some l → is_replied x ≡ true → From p u l) → MadeSo k x t → TurnSo p u (subscribes w o (consume.build_makes c number t))
-  makes_on c number k x (search_turn.Stays m a) from h = (tt, by (made_on m) h, plain_act p u (wished a) (wish_plain a))
+  makes_on c number k x (transition.Stays m a) from h = (tt, by (made_on m) h, plain_act p u (wished a) (wish_plain a))
     where
       by : (j : Option ℕ) → WishSo j a → LinkSo p u j (Subscribing w o (consumer_build.Making c m number)) (wished a)
       by None q = tt
       by (Some l) q = inr (q.0, ap wished q.1, refl)
-  makes_on c number k x (search_turn.Gives (Ok s)) from h = from s.link h.0 h.1
-  makes_on c number k x (search_turn.Gives (Err f)) from h = tt
+  makes_on c number k x (transition.Gives (Ok s)) from h = from s.link h.0 h.1
+  makes_on c number k x (transition.Gives (Err f)) from h = tt
 
   numbers_on : (n : Option Named) → TurnSo p u (subscribes w o (consume.build_numbers o n))
   numbers_on None = tt
   numbers_on (Some n) = (tt, tt, tt)
 
-  names_on : (t : SearchTurn Naming (Result (List Named) Failure)) → TurnSo p u (subscribes w o (consume.build_names o t))
-  names_on (search_turn.Stays n a) = (tt, tt, plain_act p u (wished a) (wish_plain a))
-  names_on (search_turn.Gives (Ok names)) = numbers_on (consume.only names)
-  names_on (search_turn.Gives (Err f)) = tt
+  names_on : (t : SearchTransition Naming (Result (List Named) Failure)) → TurnSo p u (subscribes w o (consume.build_names o t))
+  names_on (transition.Stays n a) = (tt, tt, plain_act p u (wished a) (wish_plain a))
+  names_on (transition.Gives (Ok names)) = numbers_on (consume.only names)
+  names_on (transition.Gives (Err f)) = tt
 
 -- it is told news, or nothing new
 told_news : (u : Outcome) (x : News) → consumer_news_of u ≡ Some (consumer_news.Told x) → is_replied x ≡ true → is_refused u ≡ false
@@ -283,21 +283,21 @@ module _ (w : Ways) (n : ℕ) (s : Service) (u : Outcome) where
   abbrev q : Plan
   q = Serving w n s
 
-  resumes_on : (c : Command) (k : Option ℕ) (x : News) (t : SearchTurn Making (Result Served Failure)) →
+  resumes_on : (c : Command) (k : Option ℕ) (x : News) (t : SearchTransition Making (Result Served Failure)) →
       ((l : ℕ) → k ≡ Some l → is_replied x ≡ true → From q u l) → (is_replied x ≡ true → is_reply u ≡ true) → MadeSo k x t →
       TurnSo q u (resubscribes w n c (consume.resume_makes t))
-  resumes_on c k x (search_turn.Stays m a) from reply h = (tt, by (made_on m) h, plain_act q u (wished a) (wish_plain a))
+  resumes_on c k x (transition.Stays m a) from reply h = (tt, by (made_on m) h, plain_act q u (wished a) (wish_plain a))
     where
       by : (j : Option ℕ) → WishSo j a → LinkSo q u j (Serving w n (service.Resuming (record { command = c; resuming = resume.Making m }))) (wished a)
       by None f = tt
       by (Some l) f = inr (f.0, ap wished f.1, refl)
-  resumes_on c k x (search_turn.Gives (Ok r)) from reply h = let f = from r.link h.0 h.1 in (tt, inl f, (f, reply h.1, refl))
-  resumes_on c k x (search_turn.Gives (Err f)) from reply h = (tt, tt, tt)
+  resumes_on c k x (transition.Gives (Ok r)) from reply h = let f = from r.link h.0 h.1 in (tt, inl f, (f, reply h.1, refl))
+  resumes_on c k x (transition.Gives (Err f)) from reply h = (tt, tt, tt)
 
-  looks_on : (c : Command) (t : SearchTurn Looking (Result Place Failure)) → TurnSo q u (resubscribes w n c (consume.resume_looks t))
-  looks_on c (search_turn.Stays l a) = (tt, tt, plain_act q u (wished a) (wish_plain a))
-  looks_on c (search_turn.Gives (Ok place)) = (tt, tt, tt)
-  looks_on c (search_turn.Gives (Err f)) = (tt, tt, tt)
+  looks_on : (c : Command) (t : SearchTransition Looking (Result Place Failure)) → TurnSo q u (resubscribes w n c (consume.resume_looks t))
+  looks_on c (transition.Stays l a) = (tt, tt, plain_act q u (wished a) (wish_plain a))
+  looks_on c (transition.Gives (Ok place)) = (tt, tt, tt)
+  looks_on c (transition.Gives (Err f)) = (tt, tt, tt)
 
   stays_on : (k : Option ℕ) → served_on s ≡ k → refuses q u ≡ false → LinkSo q u k q Rest
   stays_on None e h = tt

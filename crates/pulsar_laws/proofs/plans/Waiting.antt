@@ -2,12 +2,11 @@
 use Rattle.std.proofs.Common.{◌≡◌, ◌⊎◌, inl, inr, ◌∙◌, sym, ap, subst, ℕ, ◌==◌, List, [], ◌∷◌, refl, true, false, Option, Some, None, Result, Ok, Err}
 use Rattle.std.specs.Option.{option_map}
 use Rattle.pulsar_laws.proofs.ActWords.{Action, Outcome, Procedure, Starts, Told, Wait, Who}
-use Rattle.pulsar_laws.proofs.PlanWords.{action_of, Batches, Batching, begins, BuildingProducer as Build, Command, Deed, Errand, Heard as Heard', Later, Denies, Says, Looking, Making, Naming, news_in, News, ProducerOrder, Plan, Producing, Reporting, SearchTurn, Sending as Send, Serving, Sought, Subscribing, told, Ways}
+use Rattle.pulsar_laws.proofs.PlanWords.{action_of, Batches, Batching, begins, BuildingProducer as Build, Command, Deed, Denies, Errand, Heard as Heard', Later, Looking, Making, Naming, News, news_in, Plan, ProducerOrder, Producing, Reporting, Says, SearchTransition, Sending as Send, Serving, Sought, Subscribing, told, Ways}
 use Rattle.pulsar_laws.proofs.RunWords.{Entry, IsRun, notice, Options, Then, view, ways_of}
 use Rattle.pulsar_laws.proofs.LinkWords.{Failure, Fault, Named, Place}
 use Rattle.pulsar_searches.specs.Plans as search
 use Rattle.pulsar_searches.specs.Replies.{count_in, place_heard}
-use Rattle.pulsar_searches.specs.declared.closing.Step.TheVariants as building_step
 use Rattle.pulsar_searches.specs.declared.count.Counting.{Counting}
 use Rattle.pulsar_searches.specs.declared.count.Counting.TheVariants as count
 use Rattle.pulsar_searches.specs.declared.look.Looking.TheVariants as look
@@ -24,7 +23,6 @@ use Rattle.pulsar_searches.specs.declared.retry.Retrying.{Retrying}
 use Rattle.pulsar_searches.specs.declared.retry.Retrying.TheVariants as retry
 use Rattle.pulsar_searches.specs.declared.turn.Action.TheVariants as wish
 use Rattle.pulsar_searches.specs.declared.turn.SearchOutcome.TheVariants as news
-use Rattle.pulsar_searches.specs.declared.turn.Turn.TheVariants as search_turn
 use Rattle.pulsar_consumer.specs.Plans as consume
 use Rattle.pulsar_consumer.specs.declared.building.BuildingConsumer.{BuildingConsumer as ConsumerBuild}
 use Rattle.pulsar_consumer.specs.declared.building.BuildingConsumer.TheVariants as consumer_build
@@ -44,29 +42,30 @@ use Rattle.pulsar_laws.proofs.plans.Granted.{BeginsSo, IsLedSo, does_from}
 use Rattle.pulsar_laws.proofs.plans.Standing.{run_older, stands_so}
 use Rattle.pulsar_laws.specs.Laws.{ways_in}
 use Rattle.pulsar_laws.specs.RetryLaws.{PlansWait, WaysAreChosen}
+use Rattle.pulsar_searches.specs.declared.transition.Transition.TheVariants as transition
 
 -- SEARCHES wait so long as their ways say
 
-abbrev WaitsBy : {S A : Type 0} → Ways → SearchTurn S A → Type 0
-WaitsBy w (search_turn.Stays s (wish.Get p)) = Unit {0}
-WaitsBy w (search_turn.Stays s (wish.Ask l request)) = Unit {0}
-WaitsBy w (search_turn.Stays s (wish.Wait delay)) = delay ≡ w.retry_delay
-WaitsBy w (search_turn.Gives a) = Unit {0}
+abbrev WaitsBy : {S A : Type 0} → Ways → SearchTransition S A → Type 0
+WaitsBy w (transition.Stays s (wish.Get p)) = Unit {0}
+WaitsBy w (transition.Stays s (wish.Ask l request)) = Unit {0}
+WaitsBy w (transition.Stays s (wish.Wait delay)) = delay ≡ w.retry_delay
+WaitsBy w (transition.Gives a) = Unit {0}
 
-then_waits : {S T A B : Type 0} (w : Ways) (turn : SearchTurn S (Result A Failure)) (within : S → T) (on : A → SearchTurn T (Result B Failure)) →
+then_waits : {S T A B : Type 0} (w : Ways) (turn : SearchTransition S (Result A Failure)) (within : S → T) (on : A → SearchTransition T (Result B Failure)) →
     WaitsBy w turn → ((a : A) → WaitsBy w (on a)) → WaitsBy w (search.and_then turn within on)
-then_waits w (search_turn.Stays s (wish.Get p)) within on k m = tt
-then_waits w (search_turn.Stays s (wish.Ask l request)) within on k m = tt
-then_waits w (search_turn.Stays s (wish.Wait delay)) within on k m = k
-then_waits w (search_turn.Gives (Ok a)) within on k m = m a
-then_waits w (search_turn.Gives (Err f)) within on k m = tt
+then_waits w (transition.Stays s (wish.Get p)) within on k m = tt
+then_waits w (transition.Stays s (wish.Ask l request)) within on k m = tt
+then_waits w (transition.Stays s (wish.Wait delay)) within on k m = k
+then_waits w (transition.Gives (Ok a)) within on k m = m a
+then_waits w (transition.Gives (Err f)) within on k m = tt
 
-nested_waits : {S T A : Type 0} (w : Ways) (turn : SearchTurn S A) (within : S → T) → WaitsBy w turn →
-    WaitsBy w (search.nested turn within search_turn.Gives)
-nested_waits w (search_turn.Stays s (wish.Get p)) within k = tt
-nested_waits w (search_turn.Stays s (wish.Ask l request)) within k = tt
-nested_waits w (search_turn.Stays s (wish.Wait delay)) within k = k
-nested_waits w (search_turn.Gives a) within k = tt
+nested_waits : {S T A : Type 0} (w : Ways) (turn : SearchTransition S A) (within : S → T) → WaitsBy w turn →
+    WaitsBy w (search.nested turn within transition.Gives)
+nested_waits w (transition.Stays s (wish.Get p)) within k = tt
+nested_waits w (transition.Stays s (wish.Ask l request)) within k = tt
+nested_waits w (transition.Stays s (wish.Wait delay)) within k = k
+nested_waits w (transition.Gives a) within k = tt
 
 module _ (w : Ways) where
   count_hears : (n l : ℕ) (h : Heard ℕ) → WaitsBy w (search.count_heard w n l h)
@@ -110,7 +109,7 @@ module _ (w : Ways) where
   names_begin : (t : List ℕ) → WaitsBy w (search.names_begins w t)
   names_begin t =
       then_waits w (search.count_begins w t) name.Counting (search.names_of w t)
-      (cond_so (WaitsBy w) (search.is_partition t) (search_turn.Gives (Ok 0)) (search.count_gets w true 0) tt tt) (of_waits t)
+      (cond_so (WaitsBy w) (search.is_partition t) (transition.Gives (Ok 0)) (search.count_gets w true 0) tt tt) (of_waits t)
 
   names_waits : (t : List ℕ) (n : Naming) (o : Heard') → WaitsBy w (search.names_told w t n o)
   names_waits t (name.Counting c) o = then_waits w (search.count_told w t c o) name.Counting (search.names_of w t) (count_waits t c o) (of_waits t)
@@ -119,7 +118,7 @@ module _ (w : Ways) where
       then_waits w (search.look_told w p.name l o) (λ l. name.Part l p) _ (look_waits p.name l o) (λ place. left_waits t p.count p.left _)
 
   begin_again : (n : ℕ) (f : Fault) → WaitsBy w (search.retry_begins w n f)
-  begin_again n f = cond_so (WaitsBy w) _ (search_turn.Stays retry.Resting (wish.Wait w.retry_delay)) (search.fails _) refl tt
+  begin_again n f = cond_so (WaitsBy w) _ (transition.Stays retry.Resting (wish.Wait w.retry_delay)) (search.fails _) refl tt
 
   retry_waits : (t : List ℕ) (r : Retrying) (o : Heard') → WaitsBy w (search.retry_told w t r o)
   retry_waits t retry.Resting news.Woken = tt
@@ -139,7 +138,7 @@ module _ (w : Ways) where
   search_begin : (what : Sought) → WaitsBy w (search.begins w what)
   search_begin (sought.CountPartitions t) =
       then_waits w (search.count_begins w t) (searching.Counting t) _
-      (cond_so (WaitsBy w) (search.is_partition t) (search_turn.Gives (Ok 0)) (search.count_gets w true 0) tt tt) (λ n. tt)
+      (cond_so (WaitsBy w) (search.is_partition t) (transition.Gives (Ok 0)) (search.count_gets w true 0) tt tt) (λ n. tt)
   search_begin (sought.Look t) = tt
   search_begin (sought.Name t) = then_waits w (search.names_begins w t) (searching.Naming t) _ (names_begin t) (λ names. tt)
   search_begin (sought.Retry t n f) = then_waits w (search.retry_begins w n f) (searching.Retrying t) _ (begin_again n f) (λ place. tt)
@@ -161,20 +160,20 @@ module _ (w : Ways) where
 
   -- the building of a consumer
   abbrev BuildWaits : consume.Builds → Type 0
-  BuildWaits (building_step.Stays b (consumer_deed.Does (wish.Get p))) = Unit {0}
-  BuildWaits (building_step.Stays b (consumer_deed.Does (wish.Ask l request))) = Unit {0}
-  BuildWaits (building_step.Stays b (consumer_deed.Does (wish.Wait delay))) = delay ≡ w.retry_delay
-  BuildWaits (building_step.Stays b (consumer_deed.Numbers n)) = Unit {0}
-  BuildWaits (building_step.Stays b consumer_deed.Rests) = Unit {0}
-  BuildWaits (building_step.Gives a) = Unit {0}
+  BuildWaits (transition.Stays b (consumer_deed.Does (wish.Get p))) = Unit {0}
+  BuildWaits (transition.Stays b (consumer_deed.Does (wish.Ask l request))) = Unit {0}
+  BuildWaits (transition.Stays b (consumer_deed.Does (wish.Wait delay))) = delay ≡ w.retry_delay
+  BuildWaits (transition.Stays b (consumer_deed.Numbers n)) = Unit {0}
+  BuildWaits (transition.Stays b consumer_deed.Rests) = Unit {0}
+  BuildWaits (transition.Gives a) = Unit {0}
 
-  then_builds : {S A : Type 0} (turn : SearchTurn S (Result A Failure)) (within : S → ConsumerBuild) (on : A → consume.Builds) → WaitsBy w turn →
+  then_builds : {S A : Type 0} (turn : SearchTransition S (Result A Failure)) (within : S → ConsumerBuild) (on : A → consume.Builds) → WaitsBy w turn →
       ((a : A) → BuildWaits (on a)) → BuildWaits (consume.build_then turn within on)
-  then_builds (search_turn.Stays s (wish.Get p)) within on k m = tt
-  then_builds (search_turn.Stays s (wish.Ask l request)) within on k m = tt
-  then_builds (search_turn.Stays s (wish.Wait delay)) within on k m = k
-  then_builds (search_turn.Gives (Ok a)) within on k m = m a
-  then_builds (search_turn.Gives (Err f)) within on k m = tt
+  then_builds (transition.Stays s (wish.Get p)) within on k m = tt
+  then_builds (transition.Stays s (wish.Ask l request)) within on k m = tt
+  then_builds (transition.Stays s (wish.Wait delay)) within on k m = k
+  then_builds (transition.Gives (Ok a)) within on k m = m a
+  then_builds (transition.Gives (Err f)) within on k m = tt
 
   number_waits : (o : ConsumerOrder) (n : Option Named) → BuildWaits (consume.build_numbers o n)
   number_waits o None = tt
@@ -275,7 +274,7 @@ module _ (o : Options) where
       (λ log b u q a r s k e w is. k w ((subst (StaysSo (WaysSo (ways_at b))) e (told_ways b u)).keeps w is))
       log q run h w is
 
-  delay_by : (w : Ways) → given ≡ Some w → (w.retry_delay ≡ o.chosen.operation.retry_delay) × (w.max_retries ≡ o.chosen.operation.max_retries)
+  pub delay_by : (w : Ways) → given ≡ Some w → (w.retry_delay ≡ o.chosen.operation.retry_delay) × (w.max_retries ≡ o.chosen.operation.max_retries)
   delay_by w h = by o.chosen.base h
     where
       by : (base : Option Place) → option_map (ways_from o.chosen.operation) base ≡ Some w →

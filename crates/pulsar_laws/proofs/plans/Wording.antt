@@ -1,7 +1,7 @@
 -- What is told of consumers to those whom an act serves is a word, or that the client is stopped.
 use Rattle.std.proofs.Common.{◌≡◌, ℕ, List, [], ◌∷◌, refl, map, Bool, true, false, Option, Some, None}
 use Rattle.std.specs.Option.{option_map, option_to_list}
-use Rattle.pulsar_laws.proofs.ActWords.{Act, Answers, Ask, Comes, Does, End, FailConsumer, Makes, Notice, Outcome, Polls, Revive, ticket_of, Who, Word}
+use Rattle.pulsar_laws.proofs.ActWords.{Act, Answers, Ask, Comes, Does, End, FailConsumer, Makes, Notice, Outcome, Polls, Revive, ticket_of, Who, Word, OfConsumer}
 use Rattle.pulsar_laws.proofs.RunWords.{Each, each_append, each_flat, joins, lost_on, member_on, setup_of, stopped_on, View}
 use Rattle.pulsar_laws.proofs.LinkWords.{answer_at, arrival_at, closed_consumer, closing, is_asked, Seat, url_at}
 use Rattle.url.specs.Parts.{Parts}
@@ -58,8 +58,8 @@ lost_words v l end =
 abbrev pub is_worded : Act → Bool
 is_worded (Comes (Polls t)) = true
 is_worded (Does who (Ask l request)) = true
-is_worded (Does who (Revive l)) = true
-is_worded (Does who (FailConsumer f)) = true
+is_worded (Does who (OfConsumer (Revive l))) = true
+is_worded (Does who (OfConsumer (FailConsumer f))) = true
 is_worded (Answers who verdict) = true
 is_worded _ = false
 
@@ -68,12 +68,12 @@ joins_words v (Comes (Polls t)) h = due_word t (option_map (consumer.member_afte
 joins_words v (Does who (Ask l request)) h =
     let asked : Bool = is_asked (answer_at v.now request (v.links.live l)) in
     rows_each IsWord (closed_at v l request) v.consumers (λ t m. one_word t m (consumer.word_of_close (closed_consumer request) l asked m))
-joins_words v (Does who (Revive l)) h =
+joins_words v (Does who (OfConsumer (Revive l))) h =
     let row : Option Member = v.consumers.rows (ticket_of who) in
     let url : Option Parts = url_at (v.links.live l) in
     each_append IsWord (again_at row) (due_at (ticket_of who) (option_map (consumer.revived l url) row)) (again_words (consumer.seekers_at row))
     (due_word (ticket_of who) (option_map (consumer.revived l url) row))
-joins_words v (Does who (FailConsumer f)) h = again_words (consumer.seekers_at (v.consumers.rows (ticket_of who)))
+joins_words v (Does who (OfConsumer (FailConsumer f))) h = again_words (consumer.seekers_at (v.consumers.rows (ticket_of who)))
 joins_words v (Answers who verdict) h = made_word v.links.live who verdict.makes
 joins_words v a h = absurd cc
 

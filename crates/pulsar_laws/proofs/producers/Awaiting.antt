@@ -1,6 +1,6 @@
 -- The plan of a topic producer where it waits for what comes from others, and what it is never told.
 use Rattle.std.proofs.Common.{◌≡◌, ◌⊎◌, inl, inr, ◌∙◌, sym, ap, subst, ℕ, List, [], ◌∷◌, refl, Bool, true, false, Option, Some, None, Result, Ok}
-use Rattle.pulsar_laws.proofs.ActWords.{Act, Action, Call, Consumer, Does, FailConsumer, FindConsumer, is_same, OfTopic, Outcome, PassTurn, RecallConsumer, Rest, Revive, TakeFlow, TakeNumber, ticket_of, Told, Who, Word}
+use Rattle.pulsar_laws.proofs.ActWords.{Act, Action, Call, Consumer, Does, FailConsumer, FindConsumer, is_same, OfTopic, Outcome, PassTurn, RecallConsumer, Rest, Revive, TakeFlow, TakeNumber, ticket_of, Told, Who, Word, OfConsumer}
 use Rattle.pulsar_laws.proofs.PlanWords.{action_of, Batches, Batching, Deed, Errand, News, Plan, Sending as Send, told, Ways}
 use Rattle.pulsar_laws.proofs.RunWords.{Begins, begun_same, Cause, Entry, In, IsRun, notice, Options, Then, view, View}
 use Rattle.pulsar_laws.proofs.LinkWords.{Failure}
@@ -154,7 +154,7 @@ pub arc_asks : {p q : Plan} {u : Outcome} {a : Action} → Arc p u q a → is_ba
 arc_asks (batches_go d k) is h = batch_asks k h
 arc_asks _ is h = absurd cc
 
-pub no_find : (d : Deed) (t : ℕ) → FindConsumer t ≡ action_of d → ⊥
+pub no_find : (d : Deed) (t : ℕ) → OfConsumer (FindConsumer t) ≡ action_of d → ⊥
 no_find (deed.Does (wish.Get p)) t h = cc
 no_find (deed.Does (wish.Ask l r)) t h = cc
 no_find (deed.Does (wish.Wait delay)) t h = cc
@@ -169,23 +169,23 @@ taking_open _ h = absurd cc
 
 abbrev pub of_consumer : Action → Bool
 of_consumer (TakeNumber wanted) = true
-of_consumer (FindConsumer t) = true
-of_consumer TakeFlow = true
-of_consumer RecallConsumer = true
-of_consumer (Revive l) = true
-of_consumer (FailConsumer f) = true
+of_consumer (OfConsumer (FindConsumer t)) = true
+of_consumer (OfConsumer TakeFlow) = true
+of_consumer (OfConsumer RecallConsumer) = true
+of_consumer (OfConsumer (Revive l)) = true
+of_consumer (OfConsumer (FailConsumer f)) = true
 of_consumer _ = false
 
 pub says_of : (who : Who) (w : Word) (a : Action) (v : View) → SaysSo who w a v → of_consumer a ≡ true
 says_of who (word.Numbered n) (TakeNumber wanted) v h = refl
 says_of who word.InUse (TakeNumber wanted) v h = refl
-says_of who word.Closed (FindConsumer t) v h = refl
-says_of who (word.Flow link permits) TakeFlow v h = refl
-says_of who word.NoFlow TakeFlow v h = refl
-says_of who (word.Recalled c) RecallConsumer v h = refl
-says_of who word.Lives (Revive l) v h = refl
-says_of who word.Over (Revive l) v h = refl
-says_of who word.Over (FailConsumer f) v h = refl
+says_of who word.Closed (OfConsumer (FindConsumer t)) v h = refl
+says_of who (word.Flow link permits) (OfConsumer TakeFlow) v h = refl
+says_of who word.NoFlow (OfConsumer TakeFlow) v h = refl
+says_of who (word.Recalled c) (OfConsumer RecallConsumer) v h = refl
+says_of who word.Lives (OfConsumer (Revive l)) v h = refl
+says_of who word.Over (OfConsumer (Revive l)) v h = refl
+says_of who word.Over (OfConsumer (FailConsumer f)) v h = refl
 says_of who w a v h = absurd h
 
 pub deed_plain : (d : Deed) → of_consumer (action_of d) ≡ false
@@ -203,8 +203,8 @@ module _ (o : Options) (n : ℕ) where
       cc
 
   pub finds_none : (log : List Entry) (a : Act) → IsRun o (Then a ∷ log) → NoFind (me n) a
-  finds_none log (Does who (FindConsumer t)) run = λ e.
-      own_plain log (FindConsumer t) (subst (λ w. IsRun o (Then (Does w (FindConsumer t)) ∷ log)) (sym e) run) refl
+  finds_none log (Does who (OfConsumer (FindConsumer t))) run = λ e.
+      own_plain log (OfConsumer (FindConsumer t)) (subst (λ w. IsRun o (Then (Does w (OfConsumer (FindConsumer t))) ∷ log)) (sym e) run) refl
   finds_none log (Does who _) run = tt
   finds_none log _ run = tt
 

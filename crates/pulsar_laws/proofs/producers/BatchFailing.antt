@@ -11,7 +11,6 @@ use Rattle.pulsar_outgoing.specs.Errors.{in_producer}
 use Rattle.pulsar_producer.specs.Plans as produce
 use Rattle.pulsar_producer.specs.declared.batching.Batching.TheVariants as batching
 use Rattle.pulsar_outgoing.specs.declared.news.News.TheVariants as news
-use Rattle.pulsar_producer.specs.declared.deed.Step.TheVariants as step
 use Rattle.pulsar_producer.specs.declared.sending.Sending.TheVariants as send
 use Rattle.pulsar_calls.specs.declared.act.Outcome.TheVariants as outcome
 use Rattle.pulsar_calls.specs.declared.act.Procedure.TheVariants as procedure
@@ -25,6 +24,7 @@ use Rattle.pulsar_laws.proofs.plans.Failing.{allows_breaks, allows_reply, is_pro
 use Rattle.pulsar_laws.proofs.plans.Granted.{GivenBy, granted_by, grants_given}
 use Rattle.pulsar_laws.proofs.plans.Owned.{starts_own}
 use Rattle.pulsar_laws.proofs.plans.Productions.{Ends, SendKeeps, sending_ends}
+use Rattle.pulsar_searches.specs.declared.transition.Transition.TheVariants as transition
 
 -- what one is granted is no reply
 abbrev pub is_told_news : Outcome → Bool
@@ -111,7 +111,7 @@ module _ (o : Options) (log : List Entry) (n : ℕ) (u : Outcome) (w : Ways) (e 
 
 -- it fails so
 pub fails_so : (o : Options) (log : List Entry) (n : ℕ) (u : Outcome) (w : Ways) (e : Errand) (m : ProducerMessageValues) (s : Send) (f : Failure) →
-    IsRun o (Then (Told (notice (Producer n) u)) ∷ log) → SendKeeps (Why n log w e m) s → produce.send_told w e s (news_of u) ≡ step.Gives (Err f) →
+    IsRun o (Then (Told (notice (Producer n) u)) ∷ log) → SendKeeps (Why n log w e m) s → produce.send_told w e s (news_of u) ≡ transition.Gives (Err f) →
     Why n (Then (Told (notice (Producer n) u)) ∷ log) w e m f
 fails_so o log n u w e m s f run k h =
     let P = Why n (Then (Told (notice (Producer n) u)) ∷ log) w e m in

@@ -14,7 +14,6 @@ use Rattle.pulsar_producer.specs.Topic.{Draws}
 use Rattle.pulsar_producer.specs.declared.batching.Batching.TheVariants as batching
 use Rattle.pulsar_producer.specs.declared.deed.Deed.TheVariants as deed
 use Rattle.pulsar_outgoing.specs.declared.news.News.TheVariants as news
-use Rattle.pulsar_producer.specs.declared.deed.Step.TheVariants as step
 use Rattle.pulsar_producer.specs.declared.sending.Sending.TheVariants as send
 use Rattle.pulsar_calls.specs.declared.act.Outcome.TheVariants as outcome
 use Rattle.pulsar_producer_table.specs.declared.table.Topic.{Topic}
@@ -34,6 +33,7 @@ use Rattle.pulsar_laws.proofs.links.Receipts.{Split, run_behind, split_in}
 use Rattle.pulsar_laws.proofs.producers.TurnActs.{changed_at}
 use Rattle.pulsar_laws.proofs.producers.TurnRun.{own_in_turn, own_told_none}
 use Rattle.pulsar_run.specs.Things.{row_by}
+use Rattle.pulsar_searches.specs.declared.transition.Transition.TheVariants as transition
 
 -- it was told this version with its newest turn
 abbrev TurnTold : List Entry → ℕ → Option (List ℕ) → Type 0
@@ -87,7 +87,7 @@ module _ (o : Options) (log : List Entry) (n : ℕ) (u : Outcome) (run : IsRun o
   -- a send goes on
   pub goes_frame : (w : Ways) (e : Errand) (ns : List Member) (d : ℕ) (old s : Send) (dd : Deed) →
       (k : FrameSo o log n e (batching.Sending ns d old)) → TurnNever e (batching.Sending ns d old) →
-      produce.send_told w e old (news_of u) ≡ step.Stays s dd →
+      produce.send_told w e old (news_of u) ≡ transition.Stays s dd →
       MessageSo e k.1 (TurnTold later n) s × DeedSo e k.1 (TurnTold later n) (news_of u) s dd
   goes_frame w e ns d old s dd k never h =
       let m : MessageSo e k.1 (TurnTold later n) old = message_told e k.1 (Producer n) log u e old never k.4 in
@@ -319,7 +319,8 @@ asked_own o log n l k s name m block run i =
 draws_own : (o : Options) (log : List Entry) (n m : ℕ) → IsRun o (Then (Does (Producer n) (OfTopic m Draw)) ∷ log) → m ≡ n
 draws_own o log n m run = let x = in_send o log n (OfTopic m Draw) refl run in by x x.deed x.is_it x.so
   where
-    by : (x : InSend o log n (OfTopic m Draw)) (d : Deed) → OfTopic m Draw ≡ action_of d → DeedSo x.errand x.whole (TurnTold log n) (news_of x.outcome) x.state d → m ≡ n
+    by : (x : InSend o log n (OfTopic m Draw)) (d : Deed) → OfTopic m Draw ≡ action_of d →
+        DeedSo x.errand x.whole (TurnTold log n) (news_of x.outcome) x.state d → m ≡ n
     by x (deed.Draws j) h so = ap (drawn_at m) h ∙ so ∙ x.own
     by x (deed.Does (wish.Get p)) h so = absurd cc
     by x (deed.Does (wish.Ask l request)) h so = absurd cc

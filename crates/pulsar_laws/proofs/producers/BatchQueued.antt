@@ -8,7 +8,6 @@ use Rattle.pulsar_producer.specs.Batching.{is_sent_send}
 use Rattle.pulsar_producer.specs.Plans as produce
 use Rattle.pulsar_producer.specs.Plans.{Sent}
 use Rattle.pulsar_producer.specs.declared.batching.Batching.TheVariants as batching
-use Rattle.pulsar_producer.specs.declared.deed.Step.TheVariants as step
 use Rattle.pulsar_producer.specs.declared.sending.Sending.TheVariants as send
 use Rattle.pulsar_outgoing.specs.declared.news.News.TheVariants as news
 use Rattle.pulsar_calls.specs.declared.act.Outcome.TheVariants as outcome
@@ -23,6 +22,7 @@ use Rattle.pulsar_laws.proofs.producers.BatchFailing.{is_told_news, never_told}
 use Rattle.pulsar_laws.proofs.producers.BatchRun.{AtDeed, Batched, PromptSo, batched_run, calm_at, deed_at, is_batch_deed, never_both, self_same, turn_so}
 use Rattle.pulsar_laws.proofs.producers.BatchSent.{Few, batch_sent_once_lem, cases_in, few_run, left_some, none_yet}
 use Rattle.pulsar_laws.proofs.producers.Drawing.{here}
+use Rattle.pulsar_searches.specs.declared.transition.Transition.TheVariants as transition
 
 -- WHERE ONE COMES TO THIS STATE: it was told that its frame is queued
 
@@ -154,8 +154,8 @@ overrides_not outcome.InLine h = absurd cc
 overrides_not _ h = refl
 
 abbrev is_stay : Sent → Bool
-is_stay (step.Stays s d) = true
-is_stay (step.Gives a) = false
+is_stay (transition.Stays s d) = true
+is_stay (transition.Gives a) = false
 
 sent_stays : (w : Ways) (e : Errand) (u : Outcome) → is_told_news u ≡ false → is_stay (produce.send_told w e send.Sent (news_of u)) ≡ false →
     is_granted u ≡ false
@@ -190,8 +190,8 @@ module _ (o : Options) (log : List Entry) (n : ℕ) (ns : List Notice) (some : 1
 
       by : Comes w e s u k.0 → is_granted u ≡ false
       by (inl h) = overrides_not u h.0
-      by (inr (inl h)) = gives (step.Gives (Ok h.0)) h.1 refl
-      by (inr (inr h)) = gives (step.Gives (Err h.0)) h.1 refl
+      by (inr (inl h)) = gives (transition.Gives (Ok h.0)) h.1 refl
+      by (inr (inr h)) = gives (transition.Gives (Err h.0)) h.1 refl
 
 abbrev told_in : Outcome → Entry → Outcome
 told_in u (Then (Told x)) = x.outcome

@@ -6,8 +6,8 @@ use Rattle.pulsar_plans.proofs.Arcs.{Arc, BatchArc, batch_cuts, batch_sends, bat
 use Rattle.pulsar_laws.proofs.plans.Batchers.{batcher_stands, is_batcher}
 use Rattle.pulsar_laws.proofs.plans.Standing.{moves, run_older, stands_so}
 use Rattle.pulsar_laws.proofs.producers.Drawing.{every_run, Every, here}
-use Rattle.pulsar_laws.proofs.ActWords.{Act, Action, Does, Heard, Notice, OfTopic, Outcome, Part, Procedure, Producer, Rest, Starts, TakeBatch, TellAll, Told, Verdict, Who, is_same}
-use Rattle.pulsar_laws.proofs.PlanWords.{action_of, Batches, Batching, begins, Deed, Errand, Gives, Member, News, overrides, Plan, Sending as Send, Stays, told, told_to, Turn, Ways}
+use Rattle.pulsar_laws.proofs.ActWords.{Act, Action, Does, Heard, Notice, OfTopic, Outcome, Part, Procedure, Producer, Rest, Starts, TakeBatch, TellAll, Told, Who, is_same}
+use Rattle.pulsar_laws.proofs.PlanWords.{action_of, Batches, Batching, begins, Deed, Errand, Gives, Member, News, overrides, Plan, PlanTransition, Sending as Send, Stays, told, told_to, Ways}
 use Rattle.pulsar_laws.proofs.RunWords.{agenda, at_once, Begins, does, Entry, first, follows, follows_some, IsRun, notice, Options, performs, rest, stays, stays_some, Then, told_some, view, View}
 use Rattle.pulsar_messages.specs.Content.{ProducerMessageValues}
 use Rattle.pulsar_outgoing.specs.Batch.{batch_of, cut_report, entries_in, member_of, reports}
@@ -110,7 +110,7 @@ abbrev told_who : Who → Act → Who
 told_who w (Told n) = n.who
 told_who w _ = w
 
-abbrev turn_action : Action → Turn Plan Verdict → Action
+abbrev turn_action : Action → PlanTransition → Action
 turn_action a (Stays p b) = b
 turn_action a (Gives verdict) = a
 

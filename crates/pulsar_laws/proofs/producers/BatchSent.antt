@@ -1,8 +1,8 @@
 -- The frame of a batch is queued at most once.
 use Rattle.std.proofs.Common.{◌≡◌, ◌⊎◌, inl, inr, ◌∙◌, sym, ap, subst, ℕ, ◌+◌, ◌≤◌, arith, List, [], ◌∷◌, refl, Bool, true, false, ◌&&◌, cond, Option, Some, None, Result, Ok, Err}
 use Rattle.std.proofs.lemmas.Bool.{cases_Bool}
-use Rattle.pulsar_laws.proofs.ActWords.{Act, Action, Does, Notice, OfTopic, Outcome, Procedure, Producer, Starts, TakeBatch, Told, Verdict, Who, is_same}
-use Rattle.pulsar_laws.proofs.PlanWords.{Batches, Batching, begins, Deed, Errand, Gives, Member, News, news_of, Plan, Sending as Send, Stays, told, Turn, Ways}
+use Rattle.pulsar_laws.proofs.ActWords.{Act, Action, Does, Notice, OfTopic, Outcome, Procedure, Producer, Starts, TakeBatch, Told, Who, is_same}
+use Rattle.pulsar_laws.proofs.PlanWords.{Batches, Batching, begins, Deed, Errand, Gives, Member, News, news_of, Plan, PlanTransition, Sending as Send, Stays, told, Ways}
 use Rattle.pulsar_laws.proofs.RunWords.{Begins, begun_same, Entry, IsRun, notice, Options, stays, stays_some, Then, told_some, view}
 use Rattle.pulsar_laws.proofs.LinkWords.{Fault}
 use Rattle.pulsar_frame.specs.Reply.{Reply as Content}
@@ -11,7 +11,6 @@ use Rattle.pulsar_producer.specs.Plans as produce
 use Rattle.pulsar_producer.specs.Plans.{Sent, receipt}
 use Rattle.pulsar_producer.specs.declared.batching.Batching.TheVariants as batching
 use Rattle.pulsar_outgoing.specs.declared.news.News.TheVariants as news
-use Rattle.pulsar_producer.specs.declared.deed.Step.TheVariants as step
 use Rattle.pulsar_producer.specs.declared.sending.Sending.TheVariants as send
 use Rattle.pulsar_calls.specs.declared.act.Outcome.TheVariants as outcome
 use Rattle.pulsar_laws.specs.BatchLaws.{BatchSentOnce, asks_batch, frames_queued}
@@ -22,6 +21,7 @@ use Rattle.pulsar_laws.proofs.producers.Drawing.{here}
 use Rattle.pulsar_laws.proofs.plans.Follow.{same_is}
 use Rattle.pulsar_plans.proofs.Arcs.{StaysSo}
 use Rattle.pulsar_laws.proofs.plans.Owned.{starts_own}
+use Rattle.pulsar_searches.specs.declared.transition.Transition.TheVariants as transition
 
 -- how often it may be told so still
 abbrev pub left_in : Send → ℕ
@@ -61,8 +61,8 @@ one_left (Some _) = omega arith
 
 -- a queued one stays so
 abbrev left_step : Sent → ℕ
-left_step (step.Stays s d) = left_in s
-left_step (step.Gives a) = 0
+left_step (transition.Stays s d) = left_in s
+left_step (transition.Gives a) = 0
 
 sent_step : (w : Ways) (e : Errand) (y : News) → left_step (produce.send_told w e send.Sent y) ≡ 0
 sent_step w e (news.Told x) = received (search.verdict 7 x)
@@ -83,7 +83,7 @@ cases_in send.Sent = inl refl
 cases_in _ = inr refl
 
 goes_left : (w : Ways) (e : Errand) (old s : Send) (d : Deed) (u : Outcome) (b : Bool) → (is_queued u && asks_in old) ≡ b →
-    produce.send_told w e old (news_of u) ≡ step.Stays s d → cond b 1 0 + left_in s ≤ left_in old
+    produce.send_told w e old (news_of u) ≡ transition.Stays s d → cond b 1 0 + left_in s ≤ left_in old
 goes_left w e old s d u true q h =
     let k = queued_step w e old u q in
     let x : left_in s ≡ 0 = sym (ap left_step h) ∙ k.0 in
@@ -183,7 +183,7 @@ module _ (o : Options) (log : List Entry) (n : ℕ) (u : Outcome) (run : IsRun o
   told_few : Batched o log → Few o later n
   told_few j = by ((view o log).stand (Producer n)) refl
     where
-      turn_few : (p : Plan) (s : StandsSo o log n p) (x : Turn Plan Verdict) → StaysSo (BatchSo s.ways s.errand s.state u) x →
+      turn_few : (p : Plan) (s : StandsSo o log n p) (x : PlanTransition) → StaysSo (BatchSo s.ways s.errand s.state u) x →
           sum + left_at s.state ≤ 1 →
           cond (is_queued u && asks_batch (Some (Batching s.ways s.errand s.state))) 1 0 + (sum + left_some (stays x)) ≤ 1
       turn_few p s (Gives verdict) g k =

@@ -1,11 +1,11 @@
 -- Each number of a topic producer was drawn by the call that built it, and by no other; and that call has ended.
-use Rattle.std.proofs.Common.{◌≡◌, ◌⊎◌, inl, inr, ◌∙◌, sym, ap, subst, ℕ, ◌+◌, ◌-◌, ◌^◌, ◌<◌, ◌≤◌, ◌==◌, arith, List, [], ◌∷◌, refl, map, Bool, true, false, ◌&&◌, nat_lt, cond, Option, Some, None}
+use Rattle.std.proofs.Common.{◌≡◌, ◌⊎◌, inl, inr, ◌∙◌, sym, ap, subst, ℕ, ◌+◌, ◌-◌, ◌^◌, ◌<◌, ◌≤◌, ◌==◌, arith, List, [], ◌∷◌, ◌++◌, refl, map, Bool, true, false, ◌&&◌, nat_lt, cond, Option, Some, None}
 use Rattle.std.proofs.lemmas.Bool.{cases_Bool, eqb-true}
 use Rattle.std.proofs.lemmas.Bool.Decides.{nat_tests}
 use Rattle.std.specs.Option.{is_some}
 use Rattle.pulsar_laws.proofs.ActWords.{Act, Action, Answers, Asked, Call, Calls, Comes, Does, Heard, Makes, Nothing, Notice, Number, Outcome, Procedure, Starts, Told, Verdict, Who, is_same, lacks_tickets, shares}
-use Rattle.pulsar_laws.proofs.PlanWords.{Asking, Awaiting, begins, Built, fails, Gives, Plan, Producing, Stays, told, Turn}
-use Rattle.pulsar_laws.proofs.RunWords.{Answered, Begins, begun_same, counted, each_map, Entry, In, IsRun, may_call, notice, Options, producers_made, started, stays, stays_some, Then, told_some, view, View, rules}
+use Rattle.pulsar_laws.proofs.PlanWords.{Asking, Awaiting, begins, Built, fails, Gives, Plan, PlanTransition, Producing, Stays, told}
+use Rattle.pulsar_laws.proofs.RunWords.{Answered, Begins, begun_same, counted, each_map, Entry, In, IsRun, may_call, notice, Options, producers_listed, started, stays, stays_some, Then, told_some, view, View, rules}
 use Rattle.pulsar_laws.proofs.LinkWords.{Exhausted}
 use Rattle.pulsar_messages.specs.Content.{ProducerMessageValues}
 use Rattle.pulsar_messages.specs.Claims.{is_spent}
@@ -24,7 +24,7 @@ use Rattle.pulsar_producer_table.specs.declared.table.Topic.{Topic}
 use Rattle.pulsar_calls.specs.Content as content
 pub use Rattle.pulsar_laws.proofs.plans.Standing.{began_on}
 use Rattle.pulsar_laws.specs.Laws.{end_of}
-use Rattle.pulsar_producer_table.specs.Producers.{Producers, all_routed, called_on, free_from, made_of, names_in, next_free, number_drawn, numbered, opened_on, routed, sent_on, topic_after, why_not, with_built, with_topic, with_topics, topic_in, last_of, fresh_topic}
+use Rattle.pulsar_producer_table.specs.Producers.{Producers, all_routed, called_on, free_from, made_of, names_in, next_free, number_drawn, numbered, opened_on, routed, sent_on, topic_after, why_not, with_built, topic_in, last_of, fresh_topic}
 use Rattle.pulsar_acts.specs.View as seen
 use Rattle.pulsar_calls.specs.Who.{rank}
 use Rattle.pulsar_laws.proofs.plans.Batchers.{batcher_stands}
@@ -108,10 +108,6 @@ new_row owner f limits n (b ∷ bs) t h = by (topic_in owner f limits bs n) refl
       | inr q ↦ (let is : None ≡ Some t = rw q at k in absurd cc)
     ]
 
-next_joined : (owner f : ℕ) (limits : Limits) (bs : List Built) (ps : Producers) → (with_topics owner f limits bs ps).next ≡ ps.next
-next_joined owner f limits [] ps = refl
-next_joined owner f limits (b ∷ bs) ps = next_joined owner f limits bs (with_topic owner f limits b ps)
-
 next_built : (t : ℕ) (r : Option producer.Seen) (ps : Producers) → (with_built t r ps).next ≡ ps.next
 next_built t None ps = refl
 next_built t (Some p) ps = refl
@@ -188,11 +184,10 @@ free_more (k ∷ ks) n = elim ((k == n) && nat_lt n (2 ^ 64 - 1)) as (λ b. n �
   | false ↦ free_more ks n
 ]
 
-made_next : (v : View) (who : Who) (m : Makes) → (producers_made v.chosen who m v.producers).next ≡ v.producers.next
+made_next : (v : View) (who : Who) (m : Makes) → (producers_listed v.chosen who m v.producers).next ≡ v.producers.next
 made_next v who (Producer b) =
     next_built (rank who).1 (made_of v.chosen.seed (rank who).1 b)
-    (with_topics (rank who).1 v.chosen.first_number (limits_of b.settings) b.parts v.producers)
-    ∙ next_joined (rank who).1 v.chosen.first_number (limits_of b.settings) b.parts v.producers
+    (record v.producers { numbers = v.producers.numbers ++ map (λ q. q.number) b.parts })
 made_next v who _ = refl
 
 left_next : (who : Who) (ps : Producers) → (producers_left who ps).next ≡ ps.next
@@ -209,7 +204,7 @@ pub next_after : (v : View) (a : Act) → v.producers.next ≤ (seen.after a v).
 next_after v (Comes (Calls asked advice)) = let e = called_kept v asked advice in rw e (omega arith)
 next_after v (Does who Number) = next_more v.producers
 next_after v (Answers who verdict) =
-    let e = left_next who (producers_made v.chosen who verdict.makes v.producers) ∙ made_next v who verdict.makes in rw e (omega arith)
+    let e = left_next who (producers_listed v.chosen who verdict.makes v.producers) ∙ made_next v who verdict.makes in rw e (omega arith)
 next_after v _ = omega arith
 
 -- ALONG A LOG
@@ -226,7 +221,7 @@ sound_map Q R (Asking w) f k = k
 sound_map Q R (Awaiting w) f k = k
 sound_map Q R _ f k = tt
 
-stays_sound : (Q : ℕ → Type 0) (t : Turn Plan Verdict) (p : Plan) → TurnSound Q t → stays t ≡ Some p → IsSound Q p
+stays_sound : (Q : ℕ → Type 0) (t : PlanTransition) (p : Plan) → TurnSound Q t → stays t ≡ Some p → IsSound Q p
 stays_sound Q (Stays q action) p k h = subst (IsSound Q) (let e : q ≡ p = cc in e) k
 stays_sound Q (Gives verdict) p k h = absurd cc
 

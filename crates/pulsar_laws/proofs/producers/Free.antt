@@ -1,5 +1,5 @@
 -- The number of a new topic producer is free.
-use Rattle.std.proofs.Common.{◌≡◌, inl, inr, ◌∙◌, sym, ap, subst, ℕ, ◌+◌, ◌-◌, ◌^◌, ◌<◌, ◌≤◌, ◌==◌, arith, List, [], ◌∷◌, refl, true, false, ◌&&◌, ◌||◌, nat_lt, cond, Option, Some, None}
+use Rattle.std.proofs.Common.{◌≡◌, inl, inr, ◌∙◌, sym, ap, subst, ℕ, ◌+◌, ◌-◌, ◌^◌, ◌<◌, ◌≤◌, ◌==◌, arith, List, [], ◌∷◌, ◌++◌, refl, map, true, false, ◌&&◌, ◌||◌, nat_lt, cond, Option, Some, None}
 use Rattle.std.proofs.lemmas.Bool.{cases_Bool, eqb-true}
 use Rattle.std.proofs.lemmas.Bool.Decides.{nat_tests}
 use Rattle.std.specs.BTreeSet.{insert_key}
@@ -7,22 +7,19 @@ use Rattle.std.specs.List.{list_any}
 use Rattle.std.specs.Option.{is_some}
 use Rattle.std.specs.Ordering.{nat_cmp}
 use Rattle.pulsar_laws.proofs.ActWords.{Act, Answers, Asked, Calls, Comes, Does, Makes, Number, Told, Who, lacks_tickets, shares}
-use Rattle.pulsar_laws.proofs.PlanWords.{Built}
-use Rattle.pulsar_laws.proofs.RunWords.{Begins, begun_same, Entry, In, IsRun, may_call, notice, Options, producers_made, Then, View, view}
+use Rattle.pulsar_laws.proofs.RunWords.{Begins, begun_same, Entry, In, IsRun, may_call, notice, Options, producers_listed, Then, View, view}
 use Rattle.pulsar_messages.specs.Content.{ProducerMessageValues}
 use Rattle.pulsar_messages.specs.Claims.{is_spent}
 use Rattle.pulsar_exchange.specs.Request.{named_producer}
 use Rattle.pulsar_producer.specs.Producer as producer
-use Rattle.pulsar_outgoing.specs.Storage.{limits_of}
-use Rattle.pulsar_outgoing.specs.declared.storage.Limits.{Limits}
 use Rattle.pulsar_outgoing.specs.declared.news.News.TheVariants as news
 use Rattle.pulsar_calls.specs.declared.act.Makes.TheVariants.{Producer}
 use Rattle.pulsar_calls.specs.declared.act.Who.TheVariants as by
 use Rattle.pulsar_acts.specs.View.{producers_left}
 use Rattle.pulsar_calls.specs.declared.act.Outcome.TheVariants as outcome
 use Rattle.pulsar_calls.specs.Content as content
-use Rattle.pulsar_producer_table.specs.Producers.{Producers, all_routed, called_on, free_from, made_of, names_in, next_free, numbered, opened_on, routed, sent_on, why_not, with_built, with_topic, with_topics}
-use Rattle.pulsar_laws.proofs.Cases.{cond_so}
+use Rattle.pulsar_producer_table.specs.Producers.{Producers, all_routed, called_on, free_from, made_of, names_in, next_free, numbered, opened_on, routed, sent_on, why_not, with_built}
+use Rattle.pulsar_laws.proofs.Cases.{cond_so, cond_when}
 use Rattle.pulsar_laws.specs.ProducerLaws.{NumbersAreFree}
 use Rattle.pulsar_acts.specs.View as seen
 use Rattle.pulsar_calls.specs.Who.{rank}
@@ -65,16 +62,18 @@ free_above n (x ∷ xs) h =
     let d : (x == n) ≡ false = grind (arith, nat_tests) in
     ap (λ b. cond (b && nat_lt n (2 ^ 64 - 1)) (free_from xs (n + 1)) (free_from xs n)) d ∙ free_above n xs h.1
 
-free_low : (xs : List ℕ) (n : ℕ) → n < 2 ^ 64 → (n ≤ free_from xs n) × (free_from xs n < 2 ^ 64)
-free_low [] n lt = (omega arith, lt)
-free_low (x ∷ xs) n lt = elim (cases_Bool ((x == n) && nat_lt n (2 ^ 64 - 1))) [
-  | inl e ↦
-      (let l : n + 1 < 2 ^ 64 = grind (arith, nat_tests) in
-      let k = free_low xs (n + 1) l in
-      let a : n + 1 ≤ free_from xs (n + 1) = k.0 in
-      rw e (omega (arith, a), k.1))
-  | inr e ↦ rw e (free_low xs n lt)
-]
+-- none below is free
+free_least : (xs : List ℕ) (n : ℕ) → n ≤ free_from xs n
+free_least [] n = omega arith
+free_least (x ∷ xs) n =
+    let a : n + 1 ≤ free_from xs (n + 1) = free_least xs (n + 1) in
+    cond_so (λ m. n ≤ m) ((x == n) && nat_lt n (2 ^ 64 - 1)) (free_from xs (n + 1)) (free_from xs n) (omega (arith, a)) (free_least xs n)
+
+free_low : (xs : List ℕ) (n : ℕ) → n < 2 ^ 64 → free_from xs n < 2 ^ 64
+free_low [] n lt = lt
+free_low (x ∷ xs) n lt =
+    cond_when (λ m. m < 2 ^ 64) ((x == n) && nat_lt n (2 ^ 64 - 1)) (free_from xs (n + 1)) (free_from xs n)
+    (λ e. free_low xs (n + 1) (grind (arith, nat_tests))) (λ e. free_low xs n lt)
 
 is_free : (xs : List ℕ) (n : ℕ) → n < 2 ^ 64 → Rising xs → is_spent (free_from xs n) ≡ false → list_any (λ x. x == free_from xs n) xs ≡ false
 is_free [] n lt r s = refl
@@ -82,7 +81,7 @@ is_free (x ∷ xs) n lt r s = elim (cases_Bool ((x == n) && nat_lt n (2 ^ 64 - 1
   | inl e ↦
       (let same : free_from (x ∷ xs) n ≡ free_from xs (n + 1) = ap (λ b. cond b (free_from xs (n + 1)) (free_from xs n)) e in
       let l : n + 1 < 2 ^ 64 = grind (arith, nat_tests) in
-      let a : n + 1 ≤ free_from xs (n + 1) = (free_low xs (n + 1) l).0 in
+      let a : n + 1 ≤ free_from xs (n + 1) = free_least xs (n + 1) in
       let q : (x == free_from xs (n + 1)) ≡ false = grind (arith, nat_tests) in
       let t : is_spent (free_from xs (n + 1)) ≡ false = subst (λ m. is_spent m ≡ false) same s in
       subst (λ m. list_any (λ y. y == m) (x ∷ xs) ≡ false) (sym same)
@@ -110,7 +109,7 @@ is_free (x ∷ xs) n lt r s = elim (cases_Bool ((x == n) && nat_lt n (2 ^ 64 - 1
             let no : true ≡ false = sym g ∙ f in
             absurd cc)
         | inr q ↦
-            (let a : n ≤ free_from xs n = (free_low xs n lt).0 in grind (arith, nat_tests))
+            (let a : n ≤ free_from xs n = free_least xs n in grind (arith, nat_tests))
       ]
     ]
 
@@ -139,20 +138,15 @@ opened_low (content.Raw l words) ps h =
     elim (named_producer words) as (λ r. IsLow (names_in r ps)) [ None ↦ h | Some n ↦ (rising_insert ps.named n h.0, h.1) ]
 opened_low _ ps h = h
 
-joined_kept : (owner f : ℕ) (limits : Limits) (bs : List Built) (ps : Producers) → Kept ps (with_topics owner f limits bs ps)
-joined_kept owner f limits [] ps = (refl, refl)
-joined_kept owner f limits (b ∷ bs) ps = joined_kept owner f limits bs (with_topic owner f limits b ps)
-
 built_kept : (t : ℕ) (r : Option producer.Seen) (ps : Producers) → Kept ps (with_built t r ps)
 built_kept t None ps = (refl, refl)
 built_kept t (Some p) ps = (refl, refl)
 
-made_low : (v : View) (who : Who) (m : Makes) → IsLow v.producers → IsLow (producers_made v.chosen who m v.producers)
+made_low : (v : View) (who : Who) (m : Makes) → IsLow v.producers → IsLow (producers_listed v.chosen who m v.producers)
 made_low v who (Producer b) h =
-    let f : ℕ = v.chosen.first_number in
-    let ps : Producers = with_topics (rank who).1 f (limits_of b.settings) b.parts v.producers in
-    kept_low ps (with_built (rank who).1 (made_of v.chosen.seed (rank who).1 b) ps) (built_kept (rank who).1 (made_of v.chosen.seed (rank who).1 b) ps)
-    (kept_low v.producers ps (joined_kept (rank who).1 f (limits_of b.settings) b.parts v.producers) h)
+    let t : ℕ = (rank who).1 in
+    let ps : Producers = record v.producers { numbers = v.producers.numbers ++ map (λ q. q.number) b.parts } in
+    kept_low v.producers (with_built t (made_of v.chosen.seed t b) ps) (built_kept t (made_of v.chosen.seed t b) ps) h
 made_low v who _ h = h
 
 left_low : (who : Who) (ps : Producers) → IsLow ps → IsLow (producers_left who ps)
@@ -168,14 +162,14 @@ numbered_low ps h = (
 )
   where
     low : next_free ps < 2 ^ 64
-    low = (free_low ps.named ps.next h.1).1
+    low = free_low ps.named ps.next h.1
 
 after_low : (v : View) (a : Act) → IsLow v.producers → IsLow (seen.after a v).producers
 after_low v (Comes (Calls asked advice)) h =
     cond_so IsLow (lacks_tickets v.calls.drawn (shares asked)) v.producers (called_on (may_call v.calls) asked v.producers) h
     (cond_so IsLow (may_call v.calls) (opened_on asked v.producers) v.producers (opened_low asked v.producers h) h)
 after_low v (Does who Number) h = numbered_low v.producers h
-after_low v (Answers who verdict) h = left_low who (producers_made v.chosen who verdict.makes v.producers) (made_low v who verdict.makes h)
+after_low v (Answers who verdict) h = left_low who (producers_listed v.chosen who verdict.makes v.producers) (made_low v who verdict.makes h)
 after_low v _ h = h
 
 pub low_run : (o : Options) (log : List Entry) → o.chosen.first_number < 2 ^ 64 → IsLow (view o log).producers
@@ -205,16 +199,16 @@ no_row None none = refl
 no_row (Some x) none = absurd (none x refl)
 
 pub numbers_are_free_lem : NumbersAreFree
-numbers_are_free_lem o log n lt run h =
+numbers_are_free_lem o log n run h =
     let ps : Producers = (view o log).producers in
-    let low : IsLow ps = low_run o log lt in
     elim (cases_Bool (is_spent (next_free ps))) [
       | inl s ↦ (let f : None ≡ Some n = rw s at h in absurd cc)
       | inr s ↦
           (let f : Some (next_free ps) ≡ Some n = rw s at h in
           let same : next_free ps ≡ n = cc in
-          let at_least : ps.next ≤ next_free ps = (free_low ps.named ps.next low.1).0 in (
-            subst (λ m. list_any (λ k. k == m) ps.named ≡ false) same (is_free ps.named ps.next low.1 low.0 s),
+          let at_least : ps.next ≤ next_free ps = free_least ps.named ps.next in (
+            λ lt. (let low : IsLow ps = low_run o log lt in
+                subst (λ m. list_any (λ k. k == m) ps.named ≡ false) same (is_free ps.named ps.next low.1 low.0 s)),
             no_row (ps.topics n) (λ row e.
                 let k = here (Drawn o) log (drawn_run o log run) in
                 let b : n < ps.next = k.below n _ (k.topics n row e).0 in

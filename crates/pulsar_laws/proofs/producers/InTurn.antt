@@ -2,8 +2,8 @@
 use Rattle.std.proofs.Common.{◌≡◌, ◌⊎◌, inl, inr, ◌∙◌, sym, ap, subst, ℕ, ◌+◌, ◌≤◌, ◌==◌, arith, List, ◌∷◌, refl, Bool, true, false, cond, Option, Some, None}
 use Rattle.std.proofs.lemmas.Bool.{cases_Bool, eqb-true}
 use Rattle.std.proofs.lemmas.Bool.Decides.{nat_tests}
-use Rattle.pulsar_laws.proofs.ActWords.{Action, Call, Consumer, Does, OfTopic, Outcome, PassTurn, Procedure, Producer, Rest, Share, Starts, TakeTurn, Told, Verdict, Who, is_same, turn_of as taken_as}
-use Rattle.pulsar_laws.proofs.PlanWords.{Batches, Batching, begins, Errand, Gives, Leaving, Member, Plan, Reporting, Sending as Send, Stays, told, Turn, Visiting, Ways}
+use Rattle.pulsar_laws.proofs.ActWords.{Action, Call, Consumer, Does, OfTopic, Outcome, PassTurn, Procedure, Producer, Rest, Share, Starts, TakeTurn, Told, Who, is_same, turn_of as taken_as}
+use Rattle.pulsar_laws.proofs.PlanWords.{Batches, Batching, begins, Errand, Gives, Leaving, Member, Plan, PlanTransition, Reporting, Sending as Send, Stays, told, Visiting, Ways}
 use Rattle.pulsar_laws.proofs.RunWords.{counted, Entry, In, IsRun, notice, Options, start_of, started, stays, stays_some, Then, told_some, view}
 use Rattle.pulsar_messages.specs.Claims.{is_spent}
 use Rattle.pulsar_producer.specs.declared.batching.Batching.TheVariants as batching
@@ -171,7 +171,7 @@ abbrev is_rest : Action → Bool
 is_rest Rest = true
 is_rest _ = false
 
-abbrev rests_in : Turn Plan Verdict → Bool
+abbrev rests_in : PlanTransition → Bool
 rests_in (Stays p a) = is_rest a
 rests_in (Gives verdict) = false
 
@@ -179,7 +179,8 @@ pub stand_starts : (o : Options) (older : List Entry) (t : ℕ) (p : Procedure) 
     (view o (Then (Starts (Call t) p) ∷ older)).stand (Call t) ≡ Some q
 stand_starts o older t p q a h = ap (λ b. cond b (stays (begins p)) ((view o older).stand (Call t))) (self_same t) ∙ ap stays h
 
-pub taking : (o : Options) (log : List Entry) (t n : ℕ) → Every (AllTurns o) log → IsRun o (Then (Does (Call t) (OfTopic n TakeTurn)) ∷ log) → IsTaking o log t n
+pub taking : (o : Options) (log : List Entry) (t n : ℕ) → Every (AllTurns o) log → IsRun o (Then (Does (Call t) (OfTopic n TakeTurn)) ∷ log) →
+    IsTaking o log t n
 taking o log t n k run = elim (does_from o log (Call t) (OfTopic n TakeTurn) run) [
   | inl b ↦ begun b
   | inr l ↦ led l

@@ -1,33 +1,36 @@
 -- Those whose messages a topic producer stores, or has in a batch, wait for what becomes of them, or have ended.
-use Rattle.std.proofs.Common.{◌≡◌, inl, inr, ◌∙◌, sym, ap, subst, ℕ, ◌+◌, ◌≤◌, arith, List, [], ◌∷◌, ◌++◌, refl, map, Bool, true, false, cond, Option, Some, None, Ok, Err}
+use Rattle.std.proofs.Common.{◌≡◌, inl, inr, ◌∙◌, sym, ap, subst, ℕ, ◌+◌, ◌≤◌, arith, List, [], ◌∷◌, refl, map, Bool, true, false, cond, Option, Some, None, Ok, Err}
 use Rattle.std.proofs.lemmas.Bool.{cases_Bool}
 use Rattle.pulsar_laws.proofs.ActWords.{Act, Action, Call, Consumer, Does, Notice, OfTopic, Outcome, Procedure, Producer, Starts, Store, TakeBatch, Told, Who, is_same, turn_of}
 use Rattle.pulsar_laws.proofs.PlanWords.{action_of, Batches, Batching, begins, Deed, Errand, Member, News, news_of, Plan, Stored, Storing, told, Ways}
-use Rattle.pulsar_laws.proofs.RunWords.{Begins, begun_same, counted, Each, each_append, each_map, Entry, In, IsRun, Options, start_of, stays, stays_some, Then, told_some, view, View}
+use Rattle.pulsar_laws.proofs.RunWords.{Begins, begun_same, counted, Each, each_map, Entry, IsRun, Options, rules, start_of, stays, stays_some, Then, told_some, view, View}
 use Rattle.pulsar_frame.specs.Batch.{EntryValues}
-use Rattle.pulsar_messages.specs.Claims.{is_spent}
 use Rattle.pulsar_searches.specs.declared.turn.Action.TheVariants as wish
 use Rattle.pulsar_outgoing.specs.Batch.{member_of}
-use Rattle.pulsar_outgoing.specs.Storage.{Item, SingleMessage, Flush as FlushItem, is_ready}
+use Rattle.pulsar_outgoing.specs.Storage.{Item, SingleMessage, Flush as FlushItem}
 use Rattle.pulsar_producer.specs.Topic as topic
-use Rattle.pulsar_outgoing.specs.Storage as topic_low
+use Rattle.pulsar_producer.proofs.Tickets.{BringsSo, UsersSo, users_map, users_so}
 use Rattle.pulsar_outgoing.specs.declared.batch.Member.TheVariants as member
 use Rattle.pulsar_producer.specs.declared.batching.Batching.TheVariants as batching
 use Rattle.pulsar_producer.specs.declared.deed.Deed.TheVariants as deed
 use Rattle.pulsar_outgoing.specs.declared.news.News.TheVariants as news
 use Rattle.pulsar_calls.specs.declared.act.Outcome.TheVariants as outcome
 use Rattle.pulsar_producer_table.specs.declared.table.Topic.{Topic}
-use Rattle.pulsar_laws.proofs.Lists.{in_append, in_each}
+use Rattle.pulsar_run.specs.Things.{along}
+use Rattle.pulsar_run.proofs.Things.{holds_along}
+use Rattle.pulsar_acts.specs.Things.{topics}
+use Rattle.pulsar_laws.proofs.Lists.{each_along}
 use Rattle.pulsar_laws.proofs.plans.Standing.{stood_begun}
 use Rattle.pulsar_plans.proofs.Arcs.{Arc, BatchArc, Begun, batch_sends, batches_go, begins_batch, by_arcs, by_begun, taken_starts}
-use Rattle.pulsar_laws.proofs.Cases.{cond_so, none_some}
-use Rattle.pulsar_laws.specs.ProducerLaws.{acts_on, topic_acts}
-use Rattle.pulsar_producer_table.specs.Producers.{next_batch_at}
+use Rattle.pulsar_laws.proofs.Cases.{none_some}
+use Rattle.pulsar_laws.specs.ProducerLaws.{topic_acts}
+use Rattle.pulsar_producer_table.specs.Producers.{next_batch_at, topic_after}
 use Rattle.pulsar_laws.proofs.plans.Batchers.{batcher_does}
 use Rattle.pulsar_laws.proofs.plans.Fitting.{stores_so}
 use Rattle.pulsar_laws.proofs.plans.Granted.{GivenBy, does_fit, granted_by, grants_given, is_grant}
 use Rattle.pulsar_laws.proofs.calls.Once.{ends_once_lem}
-use Rattle.pulsar_laws.proofs.producers.Topics.{topics_alone_lem, CameFrom, acts_each, came_from, in_since}
+use Rattle.pulsar_laws.proofs.producers.Drawing.{born_joins, topics_keep}
+use Rattle.pulsar_laws.proofs.producers.Topics.{CameFrom, acts_each}
 use Rattle.pulsar_laws.proofs.plans.Servers.{server_does}
 use Rattle.pulsar_laws.proofs.plans.Consuming.{is_modest}
 use Rattle.pulsar_acts.specs.View.{topic_born}
@@ -78,7 +81,8 @@ keeps_more o log (Then (Told n)) t run k =
 keeps_more o log (Then a) t run k = let was : 1 ≤ counted (start_of t) log = k.began in record { began = omega (arith, was); waits = k.waits }
 
 -- one that stores
-pub store_keeps : (o : Options) (log : List Entry) (t n : ℕ) (entry : EntryValues) → IsRun o (Then (Does (Call t) (OfTopic n (Store entry))) ∷ log) → Keeps o log t
+pub store_keeps : (o : Options) (log : List Entry) (t n : ℕ) (entry : EntryValues) → IsRun o (Then (Does (Call t) (OfTopic n (Store entry))) ∷ log) →
+    Keeps o log t
 store_keeps o log t n entry run =
     let k = does_fit o log (Call t) (OfTopic n (Store entry)) refl run in
     let s = stores_so k.0 n entry k.1 in
@@ -110,30 +114,14 @@ none_stored v n a h = acts_each NoStore v n a none
     none (topic.Stores t entry) k = let e : true ≡ false = sym (ap stores_it k.1) ∙ h in absurd cc
     none act k = refl
 
-module _ (o : Options) (n ticket : ℕ) (entry : EntryValues) where
-  abbrev it : topic.Act
-  it = topic.Stores ticket entry
-
-  -- who stores it is a call, of that ticket
-  by : (log : List Entry) (who : Who) (m : ℕ) (x : EntryValues) → IsRun o (Then (Does who (OfTopic m (Store x))) ∷ log) → it ≡ topic.Stores (turn_of who) x →
-      Keeps o log ticket
-  by log (Call t) m x run is = let same : ticket ≡ t = cc in subst (Keeps o log) (sym same) (store_keeps o log t m x run)
-  by log (Consumer k t) m x run is = (let f : is_modest (OfTopic m (Store x)) ≡ true = server_does o log k t (OfTopic m (Store x)) run in absurd cc)
-  by log (Producer k) m x run is = let d = batcher_does o log k (OfTopic m (Store x)) run in absurd (no_store d.0 m x d.1)
-
-  act_keeps : (log : List Entry) (a : Act) → IsRun o (Then a ∷ log) → CameFrom n a it → Keeps o log ticket
-  act_keeps log a run k = by log k.0 n entry (subst (λ (x : Act). IsRun o (Then x ∷ log)) k.1 run) (ap (λ t. topic.Stores t entry) k.2)
-
-  stored_keeps : (log : List Entry) → IsRun o log → In it (acts_on o n log) → Keeps o log ticket
-  stored_keeps [] run i = absurd i
-  stored_keeps (Begins e ∷ log) run i = keeps_more o log (Begins e) ticket run (stored_keeps log run.0 i)
-  stored_keeps (Then a ∷ log) run i =
-      let v = view o log in
-      keeps_more o log (Then a) ticket run
-      (elim (in_append it (topic_acts v n a) (acts_on o n log) (in_since it (topic_born v n a) (topic_acts v n a) (acts_on o n log) i)) [
-        | inl j ↦ act_keeps log a run (in_each (CameFrom n a) it (topic_acts v n a) j (came_from v n a))
-        | inr j ↦ stored_keeps log run.0 j
-      ])
+-- who stores it is a call, of that ticket
+stored_by : (o : Options) (log : List Entry) (ticket n : ℕ) (entry : EntryValues) (who : Who) → IsRun o (Then (Does who (OfTopic n (Store entry))) ∷ log) →
+    ticket ≡ turn_of who → Keeps o log ticket
+stored_by o log ticket n entry (Call t) run is = let same : ticket ≡ t = is in subst (Keeps o log) (sym same) (store_keeps o log t n entry run)
+stored_by o log ticket n entry (Consumer k t) run is =
+    let f : is_modest (OfTopic n (Store entry)) ≡ true = server_does o log k t (OfTopic n (Store entry)) run in absurd cc
+stored_by o log ticket n entry (Producer k) run is =
+    let d = batcher_does o log k (OfTopic n (Store entry)) run in absurd (no_store d.0 n entry d.1)
 
 -- A TOPIC PRODUCER has no messages but those that were stored
 
@@ -141,59 +129,51 @@ abbrev pub OfItem : (ℕ → Type 0) → Item → Type 0
 OfItem P (SingleMessage t entry) = P t
 OfItem P (FlushItem t) = Unit {0}
 
-record KeptIn (P : ℕ → Type 0) (v : topic.Seen) : Type 0 where
-  stored : Each (OfItem P) v.storage.items
-  waits : Each (Each (OfItem P)) v.cut
+item_map : (P Q : ℕ → Type 0) → ((t : ℕ) → P t → Q t) → (x : Item) → OfItem P x → OfItem Q x
+item_map P Q f (SingleMessage t entry) p = f t p
+item_map P Q f (FlushItem t) p = tt
 
-module _ (P : ℕ → Type 0) where
-  takes_kept : (r : Option ℕ) (t : ℕ) (v : topic.Seen) → KeptIn P v → KeptIn P (topic.takes_in r t v)
-  takes_kept None t v k = record { stored = k.stored; waits = k.waits }
-  takes_kept (Some other) t v k = record { stored = k.stored; waits = k.waits }
+abbrev Anyone : ℕ → Type 0
+Anyone t = Unit {0}
 
-  cuts_kept : (v : topic.Seen) → KeptIn P v → KeptIn P (topic.cuts v)
-  cuts_kept v k = record { stored = tt; waits = each_append (Each (OfItem P)) v.cut (v.storage.items ∷ []) k.waits (k.stored, tt) }
+abbrev KeptIn : (ℕ → Type 0) → topic.Seen → Type 0
+KeptIn P v = UsersSo Anyone (OfItem P) v
 
-  stores_kept : (x : Item) (v : topic.Seen) → OfItem P x → KeptIn P v → KeptIn P (topic.stores x v)
-  stores_kept x v p k =
-      let u : topic.Seen = record v { storage = record v.storage { items = v.storage.items ++ x ∷ [] } } in
-      let more : KeptIn P u = record { stored = each_append (OfItem P) v.storage.items (x ∷ []) k.stored (p, tt); waits = k.waits } in
-      cond_so (KeptIn P) (is_ready u.storage) (topic.cuts u) u (cuts_kept u more) more
+kept_more : (o : Options) (log : List Entry) (e : Entry) (v : topic.Seen) → IsRun o (e ∷ log) → KeptIn (Keeps o log) v → KeptIn (Keeps o (e ∷ log)) v
+kept_more o log e v run k =
+    users_map Anyone Anyone (OfItem (Keeps o log)) (OfItem (Keeps o (e ∷ log))) v (λ t p. p)
+    (item_map (Keeps o log) (Keeps o (e ∷ log)) (λ t p. keeps_more o log e t run p)) k
 
-  left_kept : (c : List (List Item)) (v : topic.Seen) → Each (Each (OfItem P)) c → KeptIn P v → KeptIn P (topic.left_of c v)
-  left_kept [] v p k = record { stored = k.stored; waits = k.waits }
-  left_kept (b ∷ bs) v p k = record { stored = k.stored; waits = p.1 }
-
-  after_kept : (act : topic.Act) (v : topic.Seen) → ((t : ℕ) (entry : EntryValues) → act ≡ topic.Stores t entry → P t) → KeptIn P v →
-      KeptIn P (topic.after act v)
-  after_kept (topic.Takes t) v p k = takes_kept v.holder t v k
-  after_kept topic.Passes v p k = record { stored = k.stored; waits = k.waits }
-  after_kept topic.Draws v p k =
-      cond_so (KeptIn P) (is_spent v.next) v (record v { next = v.next + 1 }) k (record { stored = k.stored; waits = k.waits })
-  after_kept (topic.Remakes l given) v p k = record { stored = k.stored; waits = k.waits }
-  after_kept topic.Closes v p k = record { stored = tt; waits = k.waits }
-  after_kept (topic.Stores t entry) v p k = stores_kept (SingleMessage t entry) v (p t entry refl) k
-  after_kept (topic.Flushes t) v p k = cond_so (KeptIn P) (topic.is_settled v) v (topic.stores (FlushItem t) v) k (stores_kept (FlushItem t) v tt k)
-  after_kept topic.Cuts v p k = cond_so (KeptIn P) (topic_low.is_nothing v.storage.items) v (topic.cuts v) k (cuts_kept v k)
-  after_kept topic.TakesBatch v p k = left_kept v.cut v k.waits k
-  after_kept topic.Halts v p k = record { stored = tt; waits = tt }
-
-  seen_kept : (s : topic.Setup) (h : List topic.Act) → ((t : ℕ) (entry : EntryValues) → In (topic.Stores t entry) h → P t) → KeptIn P (topic.seen s h)
-  seen_kept s [] p = record { stored = tt; waits = tt }
-  seen_kept s (act ∷ h) p =
-      after_kept act (topic.seen s h) (λ t entry e. p t entry (inl (sym e))) (seen_kept s h (λ t entry i. p t entry (inr i)))
+acts_keep : (o : Options) (log : List Entry) (n : ℕ) (a : Act) → IsRun o (Then a ∷ log) →
+    Each (BringsSo Anyone (OfItem (Keeps o (Then a ∷ log)))) (topic_acts (view o log) n a)
+acts_keep o log n a run = acts_each (BringsSo Anyone (OfItem (Keeps o (Then a ∷ log)))) (view o log) n a by
+  where
+    by : (act : topic.Act) → CameFrom n a act → BringsSo Anyone (OfItem (Keeps o (Then a ∷ log))) act
+    by (topic.Stores t entry) k =
+        keeps_more o log (Then a) t run (stored_by o log t n entry k.0 (subst (λ (x : Act). IsRun o (Then x ∷ log)) k.1 run) k.2)
+    by act k = tt
 
 topic_keeps : (o : Options) (log : List Entry) (n : ℕ) (row : Topic) → IsRun o log → (view o log).producers.topics n ≡ Some row → KeptIn (Keeps o log) row.seen
 topic_keeps o log n row run h =
-    let k = topics_alone_lem o log n row run h in
-    subst (KeptIn (Keeps o log)) (sym k.3)
-    (seen_kept (Keeps o log) (record { built = k.0; first_number = o.chosen.first_number; limits = k.1 }) (acts_on o n log)
-    (λ t entry i. stored_keeps o n t entry log run i))
+    holds_along rules topics topics_keep o (λ m t past. KeptIn (Keeps o past) t.seen) born
+    (λ x past m t r is k. kept_more o past (Begins x) t.seen r k) done log n row run h
+  where
+    born : (a : Act) (past : List Entry) (m : ℕ) (t : Topic) → IsRun o (Then a ∷ past) → topic_born (view o past) m a ≡ Some t →
+        KeptIn (Keeps o (Then a ∷ past)) t.seen
+    born a past m t r is = subst (λ (x : Topic). KeptIn (Keeps o (Then a ∷ past)) x.seen) (born_joins (view o past) a m t is).is_new.is_it (tt, tt, tt)
+
+    done : (a : Act) (past : List Entry) (m : ℕ) (t : Topic) → IsRun o (Then a ∷ past) → (view o past).producers.topics m ≡ Some t →
+        KeptIn (Keeps o past) t.seen → KeptIn (Keeps o (Then a ∷ past)) (along topic_after (topic_acts (view o past) m a) t).seen
+    done a past m t r is k =
+        let P : Item → Type 0 = OfItem (Keeps o (Then a ∷ past)) in
+        each_along topic_after (BringsSo Anyone P) (λ x. UsersSo Anyone P x.seen) (λ act x. users_so Anyone P act x.seen)
+        (topic_acts (view o past) m a) t (acts_keep o past m a r) (kept_more o past (Then a) t.seen r k)
 
 -- the batch that is taken next
 batch_kept : (P : ℕ → Type 0) (row : Option Topic) (items : List Item) → ((t : Topic) → row ≡ Some t → KeptIn P t.seen) → next_batch_at row ≡ Some items →
     Each (OfItem P) items
 batch_kept P None items k h = absurd (none_some h)
-batch_kept P (Some t) items k h = first t.seen.cut (k t refl).waits h
+batch_kept P (Some t) items k h = first t.seen.cut (k t refl).2 h
   where
     first : (c : List (List Item)) → Each (Each (OfItem P)) c → topic.next_of c ≡ Some items → Each (OfItem P) items
     first [] p e = absurd (none_some e)
@@ -224,11 +204,7 @@ state_map P Q batching.Taking f k = tt
 state_map P Q batching.Settling f k = tt
 
 items_map : (P Q : ℕ → Type 0) (items : List Item) → ((t : ℕ) → P t → Q t) → Each (OfItem P) items → Each (OfItem Q) items
-items_map P Q items f k = each_map (OfItem P) (OfItem Q) items of_item k
-  where
-    of_item : (x : Item) → OfItem P x → OfItem Q x
-    of_item (SingleMessage t entry) p = f t p
-    of_item (FlushItem t) p = tt
+items_map P Q items f k = each_map (OfItem P) (OfItem Q) items (item_map P Q f) k
 
 module _ (P : ℕ → Type 0) where
   members_so : (items : List Item) → Each (OfItem P) items → Each (OfMember P) (map member_of items)

@@ -5,7 +5,7 @@ use Rattle.std.proofs.lemmas.Bool.Decides.{nat_tests}
 use Rattle.std.specs.Option.{is_some, option_map}
 use Rattle.pulsar_laws.proofs.ActWords.{Act, Action, Answers, Asked, Call, Calls, Comes, Does, Heard, is_same, lacks_tickets, Makes, Nothing, Outcome, Procedure, shares, Starts, Told, Verdict, Who, Number}
 use Rattle.pulsar_laws.proofs.PlanWords.{begins, Built, Gives, is_answer, ProducerOrder, Plan, Producing, Ways}
-use Rattle.pulsar_laws.proofs.RunWords.{Begins, begun_same, counted, Entry, IsRun, may_call, notice, Options, producers_made, start_of, started, Then, view, View}
+use Rattle.pulsar_laws.proofs.RunWords.{Begins, begun_same, counted, Entry, IsRun, may_call, notice, Options, producers_listed, start_of, started, Then, view, View}
 use Rattle.pulsar_messages.specs.Content.{ProducerMessageValues, ProducerOptionsValues}
 use Rattle.pulsar_wire.specs.Sink.{capped}
 use Rattle.pulsar_exchange.specs.Request.{named_producer}
@@ -23,7 +23,7 @@ use Rattle.pulsar_calls.specs.declared.act.Makes.TheVariants.{Producer}
 use Rattle.pulsar_calls.specs.declared.act.Procedure.TheVariants as procedure
 use Rattle.pulsar_calls.specs.declared.content.BuiltProducer.{BuiltProducer}
 use Rattle.pulsar_plans.specs.Plan.{built_of}
-use Rattle.pulsar_producer_table.specs.Producers.{Producers, all_routed, called_on, made_of, names_in, opened_on, partition_of, routed, sent_on, timeout_in, why_not, with_built, with_topic, with_topics}
+use Rattle.pulsar_producer_table.specs.Producers.{Producers, all_routed, called_on, made_of, names_in, opened_on, partition_of, routed, sent_on, timeout_in, why_not, with_built}
 use Rattle.pulsar_producer_table.specs.declared.table.Topic.{Topic}
 use Rattle.pulsar_acts.specs.View as seen
 use Rattle.pulsar_acts.specs.View.{producers_left}
@@ -184,10 +184,6 @@ left_built (one.Call t) ps = refl
 left_built (one.Consumer n t) ps = refl
 left_built (one.Producer n) ps = refl
 
-joined_built : (owner first : ℕ) (limits : Limits) (bs : List Built) (ps : Producers) → (with_topics owner first limits bs ps).built ≡ ps.built
-joined_built owner first limits [] ps = refl
-joined_built owner first limits (b ∷ bs) ps = joined_built owner first limits bs (with_topic owner first limits b ps)
-
 made_options : (name : List ℕ) (options : ProducerOptionsValues) (qs : List Partition) (last : ℕ) (p : producer.Seen) →
     producer.made name options qs last ≡ Some p → p.options ≡ options
 made_options name options qs last p h = by (routed_from qs options.routing_policy last) h
@@ -207,17 +203,17 @@ record IsMade (v : View) (a : Act) (t : ℕ) (p : producer.Seen) : Type 0 where
   options : p.options ≡ building.settings
 
 made_built : (v : View) (who : Who) (verdict : Verdict) (m : Makes) → verdict.makes ≡ m → (t : ℕ) (p : producer.Seen) →
-    (producers_made v.chosen who m v.producers).built t ≡ Some p → WasBuilt v.producers t p ⊎ IsMade v (Answers who verdict) t p
+    (producers_listed v.chosen who m v.producers).built t ≡ Some p → WasBuilt v.producers t p ⊎ IsMade v (Answers who verdict) t p
 made_built v who verdict (Producer b) e t p h = by (made_of v.chosen.seed u b) refl h
   where
     u : ℕ
     u = (rank who).1
 
     ps : Producers
-    ps = with_topics u v.chosen.first_number (limits_of b.settings) b.parts v.producers
+    ps = record v.producers { numbers = v.producers.numbers ++ map (λ q. q.number) b.parts }
 
-    old : ps.built t ≡ Some p → WasBuilt v.producers t p
-    old k = same_built v.producers t p (ap (λ f. f t) (sym (joined_built u v.chosen.first_number (limits_of b.settings) b.parts v.producers)) ∙ k)
+    old : v.producers.built t ≡ Some p → WasBuilt v.producers t p
+    old k = same_built v.producers t p k
 
     by : (r : Option producer.Seen) → made_of v.chosen.seed u b ≡ r → (with_built u r ps).built t ≡ Some p →
         WasBuilt v.producers t p ⊎ IsMade v (Answers who verdict) t p
@@ -243,7 +239,7 @@ built_from v (Comes (Calls asked advice)) t p h = inl (called_built v asked advi
 built_from v (Does who Number) t p h = inl (same_built v.producers t p h)
 built_from v (Answers who verdict) t p h =
     made_built v who verdict verdict.makes refl t p
-    (ap (λ f. f t) (sym (left_built who (producers_made v.chosen who verdict.makes v.producers))) ∙ h)
+    (ap (λ f. f t) (sym (left_built who (producers_listed v.chosen who verdict.makes v.producers))) ∙ h)
 built_from v _ t p h = inl (same_built v.producers t p h)
 
 -- ALONG A LOG

@@ -1,7 +1,7 @@
 -- The name of a topic producer is a text, since a reply of its broker said it.
 use Rattle.std.proofs.Common.{◌≡◌, inl, inr, ◌∙◌, sym, subst, ℕ, ◌+◌, ◌&&◌, not, List, [], ◌∷◌, ◌++◌, refl, map, length, Bool, true, false, cond, Option, Some, None, Result, Ok, Err}
 use Rattle.pulsar_laws.proofs.ActWords.{Act, Action, Answers, Does, Makes, Nothing, Notice, Outcome, Procedure, Remake, Share, Tell, TellAll, Told, Verdict, Who, OfTopic}
-use Rattle.pulsar_laws.proofs.PlanWords.{action_of, Asking, Awaiting, Batches, Batching, begins, BuildingProducer as Build, Built, Command, Deed, Errand, Gives, Heard, is_answer, Making, Member, Naming, News, news_of, ProducerOrder, overrides, Plan, Producing, SearchTurn, Sending as Send, Served, Stays, told, Turn, Ways}
+use Rattle.pulsar_laws.proofs.PlanWords.{action_of, Asking, Awaiting, Batches, Batching, begins, BuildingProducer as Build, Built, Command, Deed, Errand, Gives, Heard, is_answer, Making, Member, Naming, News, news_of, overrides, Plan, PlanTransition, ProducerOrder, Producing, SearchTransition, Sending as Send, Served, Stays, told, Ways}
 use Rattle.pulsar_laws.proofs.RunWords.{Begins, begun_same, Cause, Each, each_append, Entry, IsRun, notice, Options, Then, view}
 use Rattle.pulsar_laws.proofs.LinkWords.{Failure, Fault, Named, Place, Reply}
 use Rattle.pulsar_exchange.specs.Request.{subscribed}
@@ -17,7 +17,6 @@ use Rattle.pulsar_searches.specs.declared.making.Making.TheVariants as make
 use Rattle.pulsar_searches.specs.declared.retry.Retrying.{Retrying}
 use Rattle.pulsar_searches.specs.declared.turn.Action.TheVariants as wish
 use Rattle.pulsar_searches.specs.declared.turn.SearchOutcome.TheVariants as told_in
-use Rattle.pulsar_searches.specs.declared.turn.Turn.TheVariants as search_turn
 use Rattle.pulsar_wire.specs.declared.error.Reason.{Reason}
 use Rattle.pulsar_outgoing.specs.Batch.{batch_of, entries_in, member_of}
 use Rattle.pulsar_outgoing.specs.Storage.{Item, Flush as FlushItem, SingleMessage, is_nothing, is_ready, pushed}
@@ -31,7 +30,6 @@ use Rattle.pulsar_producer.specs.declared.batching.Batching.TheVariants as batch
 use Rattle.pulsar_producer.specs.declared.batching.Goes.{Goes}
 use Rattle.pulsar_producer.specs.declared.building.BuildingProducer.TheVariants as build
 use Rattle.pulsar_producer.specs.declared.deed.Deed.TheVariants as deed
-use Rattle.pulsar_producer.specs.declared.deed.Step.TheVariants as step
 use Rattle.pulsar_producer.specs.declared.sending.Sending.TheVariants as send
 use Rattle.pulsar_producer_table.specs.declared.table.Topic.{Topic}
 use Rattle.pulsar_calls.specs.declared.act.Makes.TheVariants as makes
@@ -52,6 +50,7 @@ use Rattle.pulsar_laws.proofs.producers.Texts.{IsText}
 use Rattle.pulsar_laws.proofs.producers.Topics.{all_after, row_as, topic_all, CameFrom, acts_each}
 use Rattle.pulsar_laws.specs.ProducerLaws.{topic_acts}
 use Rattle.pulsar_outgoing.specs.declared.replies.Given.{Given}
+use Rattle.pulsar_searches.specs.declared.transition.Transition.TheVariants as transition
 
 -- WHAT IS MADE by a reply has its name
 
@@ -63,14 +62,14 @@ abbrev GoodNews : News → Type 0
 GoodNews (news.Told x) = GoodHeard x
 GoodNews _ = Unit {0}
 
-abbrev MadeGood : SearchTurn Making (Result Served Failure) → Type 0
-MadeGood (search_turn.Gives (Ok s)) = NamesSo s.reply
+abbrev MadeGood : SearchTransition Making (Result Served Failure) → Type 0
+MadeGood (transition.Gives (Ok s)) = NamesSo s.reply
 MadeGood _ = Unit {0}
 
-retried_good : (n m : ℕ) (t : SearchTurn Retrying (Result Place Failure)) → MadeGood (search.and_then t (λ r. make.Retrying r n) (search.made_gets m))
-retried_good n m (search_turn.Stays r a) = tt
-retried_good n m (search_turn.Gives (Ok place)) = tt
-retried_good n m (search_turn.Gives (Err f)) = tt
+retried_good : (n m : ℕ) (t : SearchTransition Retrying (Result Place Failure)) → MadeGood (search.and_then t (λ r. make.Retrying r n) (search.made_gets m))
+retried_good n m (transition.Stays r a) = tt
+retried_good n m (transition.Gives (Ok place)) = tt
+retried_good n m (transition.Gives (Err f)) = tt
 
 answered_is : (b : Bool) (r y : Content) (f : Fault) → cond b (Ok r) (Err f) ≡ Ok y → r ≡ y
 answered_is true r y f h = cc
@@ -104,9 +103,9 @@ BuildGood (build.Making c k number left made) = AreNamed made
 BuildGood _ = Unit {0}
 
 abbrev BuildTurn : Builds → Type 0
-BuildTurn (step.Stays b d) = BuildGood b × DeedGood d
-BuildTurn (step.Gives (Ok parts)) = AreNamed parts
-BuildTurn (step.Gives (Err f)) = Unit {0}
+BuildTurn (transition.Stays b d) = BuildGood b × DeedGood d
+BuildTurn (transition.Gives (Ok parts)) = AreNamed parts
+BuildTurn (transition.Gives (Err f)) = Unit {0}
 
 next_good : (d : Deed) (names : List Named) (made : List Built) → DeedGood d → AreNamed made → BuildTurn (produce.build_next d names made)
 next_good d [] made g k = k
@@ -116,18 +115,18 @@ closes_good : (left : List Built) (f : Failure) → BuildTurn (produce.build_clo
 closes_good [] f = tt
 closes_good (b ∷ left) f = (tt, tt)
 
-names_good : (t : SearchTurn Naming (Result (List Named) Failure)) → BuildTurn (produce.build_names t)
-names_good (search_turn.Stays n a) = (tt, tt)
-names_good (search_turn.Gives (Ok names)) = next_good deed.Numbers names [] tt tt
-names_good (search_turn.Gives (Err f)) = tt
+names_good : (t : SearchTransition Naming (Result (List Named) Failure)) → BuildTurn (produce.build_names t)
+names_good (transition.Stays n a) = (tt, tt)
+names_good (transition.Gives (Ok names)) = next_good deed.Numbers names [] tt tt
+names_good (transition.Gives (Err f)) = tt
 
-makes_good : (c : Command) (i : ℕ) (left : List Named) (made : List Built) (t : SearchTurn Making (Result Served Failure)) → AreNamed made → MadeGood t →
+makes_good : (c : Command) (i : ℕ) (left : List Named) (made : List Built) (t : SearchTransition Making (Result Served Failure)) → AreNamed made → MadeGood t →
     BuildTurn (produce.build_makes c i left made t)
-makes_good c i left made (search_turn.Stays k a) h g = (h, tt)
-makes_good c i left made (search_turn.Gives (Ok s)) h g =
+makes_good c i left made (transition.Stays k a) h g = (h, tt)
+makes_good c i left made (transition.Gives (Ok s)) h g =
     next_good (deed.Holds s.link i) left (made ++ produce.built c.topic i s ∷ []) tt
     (each_append (λ b. IsText b.given.name) made (produce.built c.topic i s ∷ []) h (given_text s.reply g, tt))
-makes_good c i left made (search_turn.Gives (Err f)) h g = closes_good made f
+makes_good c i left made (transition.Gives (Err f)) h g = closes_good made f
 
 build_good : (w : Ways) (o : ProducerOrder) (b : Build) (y : News) → BuildGood b → GoodNews y → BuildTurn (produce.build_told w o b y)
 build_good w o (build.Naming n) (news.Told x) h g = names_good (search.names_told w o.topic n x)
@@ -143,8 +142,8 @@ build_good w o (build.Closing left f) _ h g = (tt, tt)
 -- A SEND
 
 abbrev SendTurn : Sent → Type 0
-SendTurn (step.Stays s d) = DeedGood d
-SendTurn (step.Gives r) = Unit {0}
+SendTurn (transition.Stays s d) = DeedGood d
+SendTurn (transition.Gives r) = Unit {0}
 
 not_drawn_good : (e : Errand) (m : ProducerMessageValues) (f : Fault) → SendTurn (produce.not_drawn e m f)
 not_drawn_good e m f = cond_so SendTurn (search.is_lost f) _ _ tt tt
@@ -153,16 +152,17 @@ not_queued_good : (e : Errand) (k : Option ProducerMessageValues) (f : Fault) �
 not_queued_good e None f = tt
 not_queued_good e (Some m) f = not_drawn_good e m f
 
-looks_good : (e : Errand) (m : ProducerMessageValues) (c : Command) (t : SearchTurn Looking (Result Place Failure)) → SendTurn (produce.send_looks e m c t)
-looks_good e m c (search_turn.Stays k a) = tt
-looks_good e m c (search_turn.Gives (Ok place)) = tt
-looks_good e m c (search_turn.Gives (Err f)) = tt
+looks_good : (e : Errand) (m : ProducerMessageValues) (c : Command) (t : SearchTransition Looking (Result Place Failure)) →
+    SendTurn (produce.send_looks e m c t)
+looks_good e m c (transition.Stays k a) = tt
+looks_good e m c (transition.Gives (Ok place)) = tt
+looks_good e m c (transition.Gives (Err f)) = tt
 
-remakes_good : (e : Errand) (m : ProducerMessageValues) (c : Command) (t : SearchTurn Making (Result Served Failure)) → MadeGood t →
+remakes_good : (e : Errand) (m : ProducerMessageValues) (c : Command) (t : SearchTransition Making (Result Served Failure)) → MadeGood t →
     SendTurn (produce.send_makes e m c t)
-remakes_good e m c (search_turn.Stays k a) g = tt
-remakes_good e m c (search_turn.Gives (Ok s)) g = given_text s.reply g
-remakes_good e m c (search_turn.Gives (Err f)) g = tt
+remakes_good e m c (transition.Stays k a) g = tt
+remakes_good e m c (transition.Gives (Ok s)) g = given_text s.reply g
+remakes_good e m c (transition.Gives (Err f)) g = tt
 
 receipt_good : (r : Result Content Fault) → SendTurn (produce.receipt r)
 receipt_good (Ok r) = tt
@@ -204,7 +204,7 @@ abbrev ActGood : Action → Type 0
 ActGood (OfTopic n (Remake r)) = IsText r.given.name
 ActGood _ = Unit {0}
 
-abbrev TurnGood : Turn Plan Verdict → Type 0
+abbrev TurnGood : PlanTransition → Type 0
 TurnGood (Stays p a) = PlanGood p × ActGood a
 TurnGood (Gives v) = MakesGood v.makes
 
@@ -216,9 +216,9 @@ deed_good (deed.Remakes n l x) g = g
 deed_good _ g = tt
 
 built_good : (w : Ways) (o : ProducerOrder) (t : Builds) → BuildTurn t → TurnGood (builds w o t)
-built_good w o (step.Stays b d) k = (k.0, deed_good d k.1)
-built_good w o (step.Gives (Ok parts)) k = k
-built_good w o (step.Gives (Err f)) k = tt
+built_good w o (transition.Stays b d) k = (k.0, deed_good d k.1)
+built_good w o (transition.Gives (Ok parts)) k = k
+built_good w o (transition.Gives (Err f)) k = tt
 
 leaves_good : (share : Option Share) (f : Failure) → TurnGood (leaves share f)
 leaves_good None f = tt
@@ -229,16 +229,16 @@ halted_good None u = tt
 halted_good (Some h) u = (tt, tt)
 
 sent_good : (w : Ways) (e : Errand) (share : Option Share) (t : Sent) → SendTurn t → TurnGood (goes_on_sending w e share t)
-sent_good w e None (step.Stays s d) k = (tt, deed_good d k)
-sent_good w e (Some h) (step.Stays s d) k = cond_so TurnGood (batches.is_sent_send s) _ _ (tt, tt) (tt, deed_good d k)
-sent_good w e share (step.Gives (Ok r)) k = tt
-sent_good w e share (step.Gives (Err f)) k = leaves_good share f
+sent_good w e None (transition.Stays s d) k = (tt, deed_good d k)
+sent_good w e (Some h) (transition.Stays s d) k = cond_so TurnGood (batches.is_sent_send s) _ _ (tt, tt) (tt, deed_good d k)
+sent_good w e share (transition.Gives (Ok r)) k = tt
+sent_good w e share (transition.Gives (Err f)) k = leaves_good share f
 
 -- the batches of a topic producer
 batch_sent : (ms : List Member) (n : ℕ) (t : Sent) → SendTurn t → DeedGood (batches.sends ms n t).deed
-batch_sent ms n (step.Stays s d) k = k
-batch_sent ms n (step.Gives (Ok r)) k = tt
-batch_sent ms n (step.Gives (Err f)) k = tt
+batch_sent ms n (transition.Stays s d) k = k
+batch_sent ms n (transition.Gives (Ok r)) k = tt
+batch_sent ms n (transition.Gives (Err f)) k = tt
 
 started_good : (e : Errand) (ms : List Member) (xs : List EntryValues) → DeedGood (batches.starts_with e ms xs).deed
 started_good e ms [] = tt

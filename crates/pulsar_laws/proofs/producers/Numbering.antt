@@ -2,7 +2,7 @@
 -- that joins has numbers that no other has.
 use Rattle.std.proofs.Common.{◌≡◌, sym, ap, subst, ℕ, List, [], ◌∷◌, ◌++◌, refl, map, Bool, true, false, cond, Option, Some, None, Ok}
 use Rattle.pulsar_laws.proofs.ActWords.{Action, Makes, Nothing, Outcome, Procedure, Verdict}
-use Rattle.pulsar_laws.proofs.PlanWords.{Asking, Awaiting, begins, BuildingProducer as Build, Built, Deed, Gives, is_answer, News, news_of, ProducerOrder, Plan, Producing, Stays, told, Turn, Ways}
+use Rattle.pulsar_laws.proofs.PlanWords.{Asking, Awaiting, begins, BuildingProducer as Build, Built, Deed, Gives, is_answer, News, news_of, Plan, PlanTransition, ProducerOrder, Producing, Stays, told, Ways}
 use Rattle.pulsar_laws.proofs.RunWords.{Each, each_append}
 use Rattle.pulsar_exchange.specs.Request.{subscribed}
 use Rattle.pulsar_exchange.specs.declared.content.Subscribed.{Subscribed}
@@ -42,7 +42,7 @@ abbrev pub MakesSound : (ℕ → Type 0) → Makes → Type 0
 MakesSound Q (Producer made) = Each Q (map number_of made.parts)
 MakesSound Q _ = Unit {0}
 
-abbrev pub TurnSound : (ℕ → Type 0) → Turn Plan Verdict → Type 0
+abbrev pub TurnSound : (ℕ → Type 0) → PlanTransition → Type 0
 TurnSound Q (Stays plan action) = IsSound Q plan
 TurnSound Q (Gives verdict) = MakesSound Q verdict.makes
 

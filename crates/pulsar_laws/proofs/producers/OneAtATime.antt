@@ -3,9 +3,9 @@ use Rattle.std.specs.Prelude.{bytes_eq}
 use Rattle.std.proofs.Common.{◌≡◌, ◌⊎◌, inl, inr, ◌∙◌, sym, ap, subst, ℕ, ◌+◌, ◌≤◌, ◌==◌, arith, List, [], ◌∷◌, ◌++◌, refl, Bool, true, false, ◌&&◌, cond, Option, Some, None, Result, Ok, Err}
 use Rattle.std.proofs.lemmas.Bool.{cases_Bool, eqb-true}
 use Rattle.std.specs.Option.{option_map}
-use Rattle.pulsar_laws.proofs.ActWords.{Act, Action, Alarm, Answers, Ask, Comes, Dials, Does, FindConsumer, Get, is_same, Notice, OfTopic, Outcome, Part, PassTurn, Procedure, Producer, Rest, Starts, StopAll, TakeBatch, Told, Verdict, Wait, Who}
-use Rattle.pulsar_laws.proofs.PlanWords.{Batching, begins, Gives, Plan, Stays, told, Turn}
-use Rattle.pulsar_laws.proofs.RunWords.{agenda, at_once, Begins, begun_same, does, Each, each_append, each_map, Entry, first_of, follows, follows_some, IsRun, link_got, notice, Options, performs, rest, rest_of, rules, stays, stays_some, Then, told_some, view, View}
+use Rattle.pulsar_laws.proofs.ActWords.{Act, Action, Alarm, Answers, Ask, Comes, Dials, Does, FindConsumer, Get, is_same, Notice, OfTopic, Outcome, Part, PassTurn, Procedure, Producer, Rest, Starts, StopAll, TakeBatch, Told, Wait, Who, OfConsumer}
+use Rattle.pulsar_laws.proofs.PlanWords.{Batching, begins, Gives, Plan, PlanTransition, Stays, told}
+use Rattle.pulsar_laws.proofs.RunWords.{agenda, at_once, Begins, begun_same, does, Each, each_append, Entry, first_of, follows_some, IsRun, notice, Options, performs, rest, rest_of, rules, stays, stays_some, Then, told_some, view, View}
 use Rattle.pulsar_laws.proofs.LinkWords.{answer_at, Base, Nobody, Pauses, place_of, Place, Runs, Seat, seat_asked, Series, Serves, Words}
 use Rattle.pulsar_addresses.specs.Address.{address_key, is_reachable}
 use Rattle.pulsar_exchange.specs.Request.{is_awaited}
@@ -25,16 +25,15 @@ use Rattle.pulsar_links.specs.LinkRules.{told_at}
 use Rattle.pulsar_links.specs.Seats.{asker_at}
 use Rattle.pulsar_acts.specs.View.{waits_for}
 use Rattle.pulsar_calls.specs.declared.act.Outcome.TheVariants as outcome
-use Rattle.pulsar_client.proofs.Raising.{IsRaised, raises}
 use Rattle.pulsar_plans.proofs.Arcs.{StaysSo, told_arc}
 use Rattle.pulsar_laws.specs.BatchLaws.{OneThingAtATime, asks_others}
 use Rattle.pulsar_laws.proofs.calls.Stopping.{never_asks}
 use Rattle.pulsar_laws.specs.Laws.{stopped}
 use Rattle.pulsar_laws.proofs.Cases.{none_some, some_is}
 use Rattle.pulsar_laws.proofs.calls.Same.{same_self, same_who}
-use Rattle.pulsar_laws.proofs.calls.Whereabouts.{ApartBy, Asker, NotWake, begun_there, goes_nowhere, got_free, moment_none, not_among, times}
+use Rattle.pulsar_laws.proofs.calls.Whereabouts.{ApartBy, Asker, NotWake, begun_there, goes_nowhere, live_absent, moment_none, not_among, times}
 use Rattle.pulsar_laws.proofs.links.OneEach.{same_key}
-use Rattle.pulsar_laws.proofs.plans.AtOnce.{AtOnce, dials, nothing, once_each, performs_once, says, stops_all}
+use Rattle.pulsar_laws.proofs.plans.AtOnce.{AtOnce, dials, nothing, performs_once, says, stops_all}
 use Rattle.pulsar_laws.proofs.plans.Batchers.{batcher_does, batcher_stands}
 use Rattle.pulsar_laws.proofs.plans.Granted.{BeginsSo, IsLedSo, does_from}
 use Rattle.pulsar_laws.proofs.plans.Holding.{holds}
@@ -45,77 +44,16 @@ use Rattle.pulsar_laws.proofs.plans.Takers.{taken_by_own}
 use Rattle.pulsar_laws.proofs.producers.Awaiting.{Soft, arc_asks, asking_open, done_soft, is_asking, is_open, is_passing, is_rest, is_sent_plan, is_taking, never_parted, never_settled, never_word, no_find, none_soft, placed_soft, queued_soft, taking_open, turn_soft}
 use Rattle.pulsar_laws.proofs.producers.BatchRun.{batched_run, deed_at, row_then}
 use Rattle.pulsar_laws.proofs.producers.Drawing.{drawn_run}
+use Rattle.pulsar_laws.proofs.producers.Others.{NotOwn, going, no_does, once_not, rest_none}
 use Rattle.pulsar_laws.proofs.producers.Owed.{brings, is_hard, me, note, other_note, owing, owing_then, took}
-use Rattle.pulsar_laws.proofs.producers.Spotting.{AtBase, AtMoment, IsAt, NoTake, Nowhere, OnLink, OnRow, Spot, asker_map, at_base, at_moment, at_place, gone, is_busy, is_stop, on_row, out, row_still, still}
+use Rattle.pulsar_laws.proofs.producers.Spotting.{AtBase, AtMoment, IsAt, NoTake, Nowhere, OnLink, OnRow, Spot, asker_map, at_base, at_moment, at_place, gone, is_busy, is_stop, on_row, out, out_most, row_still, still}
 use Rattle.pulsar_laws.proofs.producers.Topics.{all_after, row_as}
 use Rattle.pulsar_laws.proofs.producers.TurnActs.{equal_self}
 use Rattle.pulsar_laws.proofs.producers.TurnRun.{own_told_none}
 use Rattle.pulsar_laws.proofs.producers.Turns.{sum_append}
-
--- WHAT ARISES AT ONCE
+use Rattle.pulsar_acts.proofs.Linking.{asked_is}
 
 module _ (n : ℕ) where
-  abbrev pub NotOwn : Act → Type 0
-  NotOwn (Told m) = is_same (me n) m.who ≡ false
-  NotOwn (Does w a) = is_same (me n) w ≡ false
-  NotOwn a = Unit {0}
-
-  does_not : (w : Who) (x : Action) → is_same (me n) w ≡ false → Each NotOwn (does w x)
-  does_not w Rest h = tt
-  does_not w _ h = (h, tt)
-
-  follows_not : (w : Who) (t : Turn Plan Verdict) → is_same (me n) w ≡ false → Each NotOwn (follows w t)
-  follows_not w (Stays q a) h = does_not w a h
-  follows_not w (Gives v) h = (tt, tt)
-
-  some_not : (w : Who) (t : Option (Turn Plan Verdict)) → is_same (me n) w ≡ false → Each NotOwn (follows_some w t)
-  some_not w None h = tt
-  some_not w (Some t) h = follows_not w t h
-
-  abbrev is_plain : Act → Bool
-  is_plain (Comes p) = true
-  is_plain (Answers who verdict) = true
-  is_plain (Dials p starter retries) = true
-  is_plain _ = false
-
-  raised_not : (a b : Act) → is_plain a ≡ true → IsRaised a b → NotOwn b
-  raised_not (Comes p) (Told m) h r = absurd cc
-  raised_not (Answers who verdict) (Told m) h r = absurd cc
-  raised_not (Dials p starter retries) (Told m) h r = absurd cc
-  raised_not (Comes p) (Does w x) h r = absurd cc
-  raised_not (Answers who verdict) (Does w x) h r = absurd cc
-  raised_not (Dials p starter retries) (Does w x) h r = absurd cc
-  raised_not (Starts who p) b h r = absurd cc
-  raised_not (Told m) b h r = absurd cc
-  raised_not (Does w x) b h r = absurd cc
-  raised_not a (Comes p) h r = tt
-  raised_not a (Starts who p) h r = tt
-  raised_not a (Answers who verdict) h r = tt
-  raised_not a (Dials p starter retries) h r = tt
-
-  plain_not : (v : View) (a : Act) → is_plain a ≡ true → Each NotOwn (at_once v a)
-  plain_not v a h = each_map (IsRaised a) NotOwn (at_once v a) (λ b r. raised_not a b h r) (raises v a)
-
-  once_not : (o : Options) (log : List Entry) (a : Act) → IsRun o (Then a ∷ log) → NotOwn a → Each NotOwn (at_once (view o log) a)
-  once_not o log (Told m) run h = some_not m.who (told_some ((view o log).stand m.who) m.outcome) h
-  once_not o log (Does w x) run h = once_each NotOwn (λ u k b. h) (λ p. tt) (λ l. tt) (performs_once (view o log) w x)
-  once_not o log (Comes p) run h = plain_not (view o log) (Comes p) refl
-  once_not o log (Answers who verdict) run h = plain_not (view o log) (Answers who verdict) refl
-  once_not o log (Dials p starter retries) run h = plain_not (view o log) (Dials p starter retries) refl
-  once_not o log (Starts who p) run h = elim (cases_Bool (is_same (me n) who)) [
-    | inr e ↦ follows_not who (begins p) e
-    | inl e ↦
-        (let r : IsRun o (Then (Starts (me n) p) ∷ log) = subst (λ (w : Who). IsRun o (Then (Starts w p) ∷ log)) (sym (same_who (me n) who e)) run in
-        let s = starts_own o log n p r in
-        subst (λ x. Each NotOwn (follows who (begins x))) (sym s.2) tt)
-  ]
-
-  rest_none : (now : List Act) (here : List Notice) (behind : List (List Notice)) (parts : List Part) → now ≡ [] → (rest_of now here behind parts).now ≡ []
-  rest_none (a ∷ now) here behind parts h = absurd cc
-  rest_none [] (m ∷ here) behind parts h = refl
-  rest_none [] [] (c ∷ behind) parts h = rest_none [] c behind parts refl
-  rest_none [] [] [] parts h = refl
-
   -- WHERE IT IS
 
   module _ (o : Options) where
@@ -134,7 +72,7 @@ module _ (n : ℕ) where
 
     abbrev HeadSo : List Entry → Spot → List Act → Type 0
     HeadSo log s [] = Unit {0}
-    HeadSo log s (x ∷ xs) = OwnHead log s x × Each NotOwn xs
+    HeadSo log s (x ∷ xs) = OwnHead log s x × Each (NotOwn n) xs
 
     pub record Single (log : List Entry) : Type 0 where
       pub spot : Spot
@@ -143,7 +81,7 @@ module _ (n : ℕ) where
       pub calm : is_open (row log) ≡ false → Clear log spot
       pub head : HeadSo log spot (agenda o log).now
 
-    not_head : (log : List Entry) (s : Spot) (a : Act) → NotOwn a → OwnHead log s a
+    not_head : (log : List Entry) (s : Spot) (a : Act) → NotOwn n a → OwnHead log s a
     not_head log s (Told m) h = λ e. (let f : true ≡ false = sym e ∙ h in absurd cc)
     not_head log s (Does w x) h = λ e. (let f : true ≡ false = sym e ∙ h in absurd cc)
     not_head log s (Comes p) h = tt
@@ -151,19 +89,19 @@ module _ (n : ℕ) where
     not_head log s (Answers who verdict) h = tt
     not_head log s (Dials p starter retries) h = tt
 
-    each_head : (log : List Entry) (s : Spot) (xs : List Act) → Each NotOwn xs → HeadSo log s xs
+    each_head : (log : List Entry) (s : Spot) (xs : List Act) → Each (NotOwn n) xs → HeadSo log s xs
     each_head log s [] k = tt
     each_head log s (x ∷ xs) k = (not_head log s x k.0, k.1)
 
     tails : (log : List Entry) (s : Spot) (now : List Act) (here : List Notice) (behind : List (List Notice)) (parts : List Part) → HeadSo log s now →
-        Each NotOwn (rest_of now here behind parts).now
+        Each (NotOwn n) (rest_of now here behind parts).now
     tails log s (x ∷ xs) here behind parts h = h.1
-    tails log s [] here behind parts h = subst (Each NotOwn) (sym (rest_none [] here behind parts refl)) tt
+    tails log s [] here behind parts h = subst (Each (NotOwn n)) (sym (rest_none [] here behind parts refl)) tt
 
     abbrev left : List Entry → List Act
     left log = (rest (agenda o log)).now
 
-    pub left_not : (log : List Entry) → Single log → Each NotOwn (left log)
+    pub left_not : (log : List Entry) → Single log → Each (NotOwn n) (left log)
     left_not log k = let g = agenda o log in tails log k.spot g.now g.here g.behind g.parts k.head
 
     -- the first, where it is its own
@@ -172,21 +110,14 @@ module _ (n : ℕ) where
     is_first log s (x ∷ xs) here behind parts a h fits = inl (subst (OwnHead log s) (let e : x ≡ a = cc in e) h.0, refl)
     is_first log s [] here behind parts a h fits = inr refl
 
-    no_does : (here : List Notice) (behind : List (List Notice)) (parts : List Part) (w : Who) (x : Action) →
-        first_of rules [] here behind parts ≡ Some (Does w x) → ⊥
-    no_does (m ∷ here) behind parts w x h = cc
-    no_does [] (c ∷ behind) parts w x h = no_does c behind parts w x h
-    no_does [] [] (p ∷ parts) w x h = cc
-    no_does [] [] [] w x h = cc
-
-    does_head : (log : List Entry) (s : Spot) (x : Action) (xs : List Act) → Each NotOwn xs →
+    does_head : (log : List Entry) (s : Spot) (x : Action) (xs : List Act) → Each (NotOwn n) xs →
         (is_rest x ≡ false → Clear log s ⊎ ((is_passing x ≡ true) × (p : Plan) × (row log ≡ Some p) × (is_sent_plan p ≡ true))) →
         HeadSo log s (does (me n) x ++ xs)
     does_head log s Rest xs k f = each_head log s xs k
     does_head log s (Get p) xs k f = ((λ e. f refl), k)
     does_head log s _ xs k f = ((λ e. f refl), k)
 
-    follows_head : (log : List Entry) (s : Spot) (t : Option (Turn Plan Verdict)) (xs : List Act) → Each NotOwn xs →
+    follows_head : (log : List Entry) (s : Spot) (t : Option (PlanTransition)) (xs : List Act) → Each (NotOwn n) xs →
         ((q : Plan) (x : Action) → t ≡ Some (Stays q x) → is_rest x ≡ false →
         Clear log s ⊎ ((is_passing x ≡ true) × (p : Plan) × (row log ≡ Some p) × (is_sent_plan p ≡ true))) →
         HeadSo log s (follows_some (me n) t ++ xs)
@@ -195,15 +126,11 @@ module _ (n : ℕ) where
     follows_head log s (Some (Gives v)) xs k f = (tt, k)
 
     once_head : (log older : List Entry) (s : Spot) (x : Action) (xs ys : List Act) → AtOnce (view o older) (me n) x xs → is_stop (Does (me n) x) ≡ false →
-        Each NotOwn ys → Clear log s → HeadSo log s (xs ++ ys)
+        Each (NotOwn n) ys → Clear log s → HeadSo log s (xs ++ ys)
     once_head log older s x xs ys nothing stop k c = each_head log s ys k
     once_head log older s x xs ys (says g b) stop k c = ((λ e. inl c), k)
     once_head log older s x xs ys dials stop k c = (tt, k)
     once_head log older s x xs ys stops_all stop k c = absurd cc
-
-    out_most : (s : Spot) → out s ≤ 1
-    out_most Nowhere = omega arith
-    out_most _ = omega arith
 
     -- IT GOES ON
 
@@ -262,28 +189,28 @@ module _ (n : ℕ) where
           }
 
       -- others do something
-      other_took : (xs : List Act) (a : Act) → NotOwn a → took n xs a ≡ 0
+      other_took : (xs : List Act) (a : Act) → NotOwn n a → took n xs a ≡ 0
       other_took (x ∷ xs) a h = refl
       other_took [] (Told m) h = other_note n m h
       other_took [] (Comes p) h = refl
       other_took [] _ h = refl
 
-      other_apart : (a : Act) → NotOwn a → ApartBy (me n) a
+      other_apart : (a : Act) → NotOwn n a → ApartBy (me n) a
       other_apart (Does w x) h = λ e. (let f : true ≡ false = sym e ∙ h in absurd cc)
       other_apart (Comes p) h = tt
       other_apart _ h = tt
 
-      other_takes : (a : Act) → IsRun o (Then a ∷ log) → NotOwn a → NoTake n a
+      other_takes : (a : Act) → IsRun o (Then a ∷ log) → NotOwn n a → NoTake n a
       other_takes a run h w e =
           let own = taken_by_own o log w n (subst (λ (x : Act). IsRun o (Then x ∷ log)) e run) in
-          let not : is_same (me n) w ≡ false = subst NotOwn e h in
+          let not : is_same (me n) w ≡ false = subst (NotOwn n) e h in
           let f : true ≡ false = sym (same_self (me n)) ∙ ap (is_same (me n)) (sym own) ∙ not in
           cc
 
       begun_open : (p : Procedure) → OwnBatches n p → is_open (stays (begins p)) ≡ true
       begun_open p s = ap (λ x. is_open (stays (begins x))) s.2
 
-      other_row : (a : Act) → IsRun o (Then a ∷ log) → NotOwn a → is_open (row (Then a ∷ log)) ≡ false → is_open (row log) ≡ false
+      other_row : (a : Act) → IsRun o (Then a ∷ log) → NotOwn n a → is_open (row (Then a ∷ log)) ≡ false → is_open (row log) ≡ false
       other_row (Told m) run h c = sym (ap (λ b. is_open (cond b (stays_some (told_some (row log) m.outcome)) (row log))) h) ∙ c
       other_row (Starts who p) run h c = elim (cases_Bool (is_same (me n) who)) [
         | inr e ↦ sym (ap (λ b. is_open (cond b (stays (begins p)) (row log))) e) ∙ c
@@ -296,11 +223,11 @@ module _ (n : ℕ) where
       other_row (Comes p) run h c = c
       other_row _ run h c = c
 
-      other : (a : Act) → IsRun o (Then a ∷ log) → is_stop a ≡ false → NotOwn a → Single (Then a ∷ log)
+      other : (a : Act) → IsRun o (Then a ∷ log) → is_stop a ≡ false → NotOwn n a → Single (Then a ∷ log)
       other a run stop h =
           moved a run stop (other_took now a h) (other_takes a run h) (other_apart a h) (other_row a run h)
           (λ s. each_head (Then a ∷ log) s (agenda o (Then a ∷ log)).now
-          (each_append NotOwn (at_once v a) (left log) (once_not o log a run h) (left_not log k)))
+          (each_append (NotOwn n) (at_once v a) (left log) (once_not n o log a run h) (left_not log k)))
 
       -- IT IS TOLD SOMETHING
 
@@ -327,7 +254,7 @@ module _ (n : ℕ) where
         still_open keeps None e = refl
         still_open keeps (Some p) e = by (told p u) (keeps p e)
           where
-            by : (t : Turn Plan Verdict) → StaysSo Soft t → is_open (stays t) ≡ true
+            by : (t : PlanTransition) → StaysSo Soft t → is_open (stays t) ≡ true
             by (Stays q x) s = s.0
             by (Gives g) s = refl
 
@@ -529,7 +456,7 @@ module _ (n : ℕ) where
         in_got s links base moment = record {
           place = record {
             base = base;
-            asker = λ l. got_free (me n) (at_place s l) (link_got v.addresses gets) v.now l (v.links.live l)
+            asker = λ l. live_absent (me n) (at_place s l) v gets l (λ request is. absurd cc)
                 (asker_map n (λ q. ⊥) (at_place s l) (v.links.live l) (λ q h. absurd h) (at.place.asker l));
             alarm = subst (λ A. Each (NotWake (me n) A) v.alarms) (sym moment) at.place.alarm;
           };
@@ -616,7 +543,7 @@ module _ (n : ℕ) where
 
         asks_at : (s : Spot) → Asker (me n) (at_place s l) (option_map (seat_asked (me n) v.now request) (v.links.live l)) → (i : ℕ) →
             Asker (me n) (at_place s i) ((view o asked).links.live i)
-        asks_at s here i = by (i == l) refl
+        asks_at s here i = subst (Asker (me n) (at_place s i)) (sym (asked_is v (me n) l request i)) (by (i == l) refl)
           where
             by : (b : Bool) → (i == l) ≡ b →
                 Asker (me n) (at_place s i) (cond b (option_map (seat_asked (me n) v.now request) (v.links.live i)) (v.links.live i))
@@ -774,7 +701,7 @@ module _ (n : ℕ) where
       clear_on (Get p) run stop clear = get_on p run clear
       clear_on (Ask l request) run stop clear = ask_on l request run clear
       clear_on (Wait delay) run stop clear = wait_on delay run clear
-      clear_on (FindConsumer t) run stop clear = let d = batcher_does o log n (FindConsumer t) run in absurd (no_find d.0 t d.1)
+      clear_on (OfConsumer (FindConsumer t)) run stop clear = let d = batcher_does o log n (OfConsumer (FindConsumer t)) run in absurd (no_find d.0 t d.1)
       clear_on StopAll run stop clear = absurd cc
       clear_on (OfTopic m TakeBatch) run stop clear = take_on m run clear
       clear_on (OfTopic m ask) run stop clear = plain_on (OfTopic m ask) run stop clear (λ w h. absurd cc) refl
@@ -817,11 +744,6 @@ module _ (n : ℕ) where
       single_then (Dials p starter retries) run stop = other (Dials p starter retries) run stop tt
 
     -- ALONG A LOG
-
-    pub going : (a : Act) (log : List Entry) → stopped (Then a ∷ log) ≡ false → (is_stop a ≡ false) × (stopped log ≡ false)
-    going (Does who StopAll) log h = absurd cc
-    going (Does who _) log h = (refl, h)
-    going _ log h = (refl, h)
 
     pub single_run : (log : List Entry) → IsRun o log → stopped log ≡ false → Single log
     single_run [] run h = record {

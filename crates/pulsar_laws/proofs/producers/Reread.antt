@@ -1,5 +1,5 @@
 -- The frame that a topic producer asks for is read again: its sizes fit, and its numbers are in range.
-use Rattle.std.proofs.Common.{◌≡◌, inl, inr, sym, subst, ℕ, ℤ, ◌+◌, ◌^◌, ◌<◌, List, [], ◌∷◌, length, refl, arith, Bool, true, false, cond, Option, Some, None, Result, Ok, Err}
+use Rattle.std.proofs.Common.{◌≡◌, inl, inr, ◌∙◌, sym, ap, subst, ℕ, ℤ, ◌+◌, ◌^◌, ◌<◌, List, [], ◌∷◌, length, refl, arith, Bool, true, false, cond, nat_lt, Option, Some, None, pos, Result, Ok, Err}
 use Rattle.std.proofs.lemmas.Bool.{cases_Bool, ltb-true}
 use Rattle.std.proofs.lemmas.Bool.Decides.{nat_tests}
 use Rattle.std.specs.Int.{w32}
@@ -13,7 +13,15 @@ use Rattle.pulsar_wire.specs.Fits.{CommandInRange, InRange}
 use Rattle.pulsar_wire.specs.Row.{◌&◌}
 use Rattle.pulsar_wire.specs.Rows as rows
 use Rattle.pulsar_frame.specs.Frame.{FitsFrame, counted_bytes}
+use Rattle.pulsar_wire.specs.declared.error.Reason.{Reason}
+use Rattle.pulsar_frame.specs.Batch.{EntryValues}
 use Rattle.pulsar_frame.specs.Message.{MessageValues}
+use Rattle.pulsar_frame.specs.Read.{described_bytes}
+use Rattle.pulsar_frame.proofs.Payloads.{short_metadata}
+use Rattle.pulsar_frame.proofs.Written.{length-counted_bytes}
+use Rattle.pulsar_messages.specs.Content.{ProducerMessageValues}
+use Rattle.pulsar_messages.specs.Message.{with_version}
+use Rattle.pulsar_outgoing.specs.Batch.{batch_counted, batch_with, first_refusal, size_in_i32, unless_refused}
 use Rattle.pulsar_messages.specs.Messages.{body, metadata_of}
 use Rattle.pulsar_messages.specs.Claims.{is_spent}
 use Rattle.pulsar_messages.specs.Words as words
@@ -23,14 +31,15 @@ use Rattle.pulsar_session.specs.Link.{Seen, answer_of, can_wait, drawn, fits, fr
 use Rattle.pulsar_outgoing.specs.Storage.{Item, Flush, SingleMessage, is_nothing, is_ready, pushed}
 use Rattle.pulsar_producer.specs.Topic as topic
 use Rattle.pulsar_producer.specs.Topic.{Act as Deed, Takes, Passes, Draws, Remakes, Closes, Stores, Flushes, Cuts, TakesBatch, Halts, Setup, cuts, is_settled, left_of, stores, takes_in}
-use Rattle.pulsar_laws.proofs.Cases.{cond_so}
+use Rattle.pulsar_laws.proofs.Cases.{cond_so, cond_when}
 use Rattle.pulsar_laws.proofs.links.Queued.{read_so}
 use Rattle.pulsar_laws.proofs.producers.Drawing.{Drawn, drawn_run, here}
 use Rattle.pulsar_laws.proofs.producers.Free.{low_run}
 use Rattle.pulsar_laws.proofs.producers.Named.{names_are_texts}
-use Rattle.pulsar_laws.proofs.producers.Texts.{IsText}
+use Rattle.pulsar_laws.proofs.producers.Spelled.{covered}
+use Rattle.pulsar_laws.proofs.producers.Texts.{IsText, no_text}
 use Rattle.pulsar_laws.proofs.producers.Topics.{topics_alone_lem}
-use Rattle.pulsar_laws.specs.ProducerLaws.{FramesAreReadAgain, acts_on}
+use Rattle.pulsar_laws.specs.ProducerLaws.{FramesAreReadAgain, SaysInRange, acts_on}
 
 -- ITS SIZE FITS, since it was not refused
 
@@ -107,14 +116,57 @@ send_in_range : (n s : ℕ) (count : Option ℤ) → n < 2 ^ 64 → s < 2 ^ 64 �
 unfolding CommandInRange
 send_in_range n s count p q r = (refl, ((p, tt), ((q, tt), (r, tt))))
 
+short_said : (m : MessageValues) → FitsFrame m → length (described_bytes m.payload) < 2 ^ 64
+unfolding FitsFrame
+short_said m h =
+    let l : length (described_bytes m.payload) < 2 ^ 32 = short_metadata m.payload (omega (arith, h, length-counted_bytes m)) in omega (arith, l)
+
 -- THE LAW
 
+-- the count of a batch was checked, and it says nothing else
+module _ (es : List EntryValues) (whole : ProducerMessageValues) where
+  abbrev Counts : ProducerMessageValues → Type 0
+  Counts m = (c : ℤ) × FitsSigned w32 c × (m ≡ batch_with c es)
+
+  batch_said : (r : Option Reason) (c : ℤ) → FitsSigned w32 c → unless_refused r (batch_with c es) ≡ Ok whole → Counts whole
+  batch_said None c f h = (c, f, let e : batch_with c es ≡ whole = cc in sym e)
+  batch_said (Some r) c f h = absurd cc
+
+  batch_counts : (n : ℕ) → batch_counted (size_in_i32 n) es ≡ Ok whole → Counts whole
+  batch_counts n = cond_when (λ c. batch_counted c es ≡ Ok whole → Counts whole) (nat_lt n (2 ^ 31)) (Some (pos n)) None
+      (λ e. batch_said (first_refusal es) (pos n) (record { sfits = ltb-true n (2 ^ 31) e })) (λ e h. absurd cc)
+
+says_so : (es : List EntryValues) (version : Option (List ℕ)) (c : ℤ) → FitsSigned w32 c →
+    InRange rows.message_metadata (metadata_of 0 [] 0 (with_version version (batch_with c es)))
+says_so es version c f = (
+  (no_text, tt),
+  (
+    (omega arith, tt),
+    (
+      (omega arith, tt),
+      (tt, (tt, (tt, (tt, (tt, (tt, ((f, tt), (tt, (tt, (tt, (tt, (said version, (tt, (tt, tt)))))))))))))),
+    ),
+  ),
+)
+  where
+    said : (v : Option (List ℕ)) → AllByRecursion (λ (bytes : List ℕ). Unit {0}) (option_to_list v)
+    said None = tt
+    said (Some bytes) = (tt, tt)
+
+says_in_range : (m : ProducerMessageValues) → SaysInRange m → InRange rows.message_metadata (metadata_of 0 [] 0 m)
+says_in_range m (inl typed) = typed
+says_in_range m (inr (es, whole, version, h, e)) =
+    let (c, f, is) = batch_counts es whole (length es) h in
+    subst (λ x. InRange rows.message_metadata (metadata_of 0 [] 0 x)) (ap (with_version version) (sym is) ∙ sym e) (says_so es version c f)
+
 pub frames_are_read_again_lem : FramesAreReadAgain
-frames_are_read_again_lem o log id l n s name m block place row behind low run is next called answer typed =
+frames_are_read_again_lem o log id l n s name m block place row behind low early run is next called answer typed =
     let now : ℕ = (view o log).now in
     let text : IsText name = subst IsText called (names_are_texts o log n row run is) in
     let request : Words = words.Send n name s m block in
     let f = answered_fits place now request ((view o log).links.live l) answer in
+    let whole : MessageValues = message_of id now request in
+    let size : FitsFrame whole = fits_frame (message_of f.0 now request) f.1 in
     let drawn_so = here (Drawn o) log (drawn_run o log run) in
     let below : n < (view o log).producers.next = drawn_so.below n _ (drawn_so.topics n row is).0 in
     let most : (view o log).producers.next < 2 ^ 64 = (low_run o log low).1 in
@@ -123,7 +175,10 @@ frames_are_read_again_lem o log id l n s name m block place row behind low run i
     subst IsLow (sym alone.3) (seen_low (record { built = alone.0; first_number = o.chosen.first_number; limits = alone.1 }) (acts_on o n log) low) in
     let producer : n < 2 ^ 64 = omega (arith, below, most) in
     let sequence : s < 2 ^ 64 = omega (arith, all, next) in
-    let said : InRange rows.message_metadata (metadata_of 0 [] 0 m) = typed.1 in
-    read_so id now n s name m block behind (fits_frame (message_of id now request) f.1)
-    (send_in_range n s m.num_messages_in_batch producer sequence said.1.1.1.1.1.1.1.1.1.0)
-    (((text, tt), ((sequence, tt), ((typed.0, tt), said.1.1.1))), typed.2)
+    let said : InRange rows.message_metadata (metadata_of 0 [] 0 m) = says_in_range m typed.0 in
+    let range : InRange rows.message_metadata (metadata_of now name s m) = ((text, tt), ((sequence, tt), ((early, tt), said.1.1.1))) in
+    read_so id now n s name m block behind size (send_in_range n s m.num_messages_in_batch producer sequence said.1.1.1.1.1.1.1.1.1.0) (
+      range,
+      covered (record { metadata = metadata_of now name s m; bytes = m.payload }) range ((tt, tt), ((tt, tt), ((tt, tt), typed.1.1.1.1)))
+          (short_said whole size) typed.2,
+    )

@@ -1,53 +1,25 @@
 -- The numbers of the frames of a topic producer rise.
-use Rattle.std.proofs.Common.{◌≡◌, inl, inr, ◌∙◌, sym, ap, subst, ℕ, ◌+◌, ◌<◌, ◌≤◌, arith, List, [], ◌∷◌, ◌++◌, refl, Bool, true, false, cond, Option, Some, None}
+use Rattle.std.proofs.Common.{◌≡◌, inl, inr, ◌∙◌, sym, ap, subst, ℕ, ◌+◌, ◌<◌, ◌≤◌, arith, List, [], ◌∷◌, ◌++◌, refl, Bool, true, false, Some}
 use Rattle.pulsar_laws.proofs.ActWords.{Ask, Call, Does, Draw, Notice, OfTopic, Producer, Told, Who}
-use Rattle.pulsar_laws.proofs.RunWords.{Begins, begun_same, Entry, IsRun, Options, Then, view}
+use Rattle.pulsar_laws.proofs.RunWords.{Begins, begun_same, Entry, IsRun, Options, rules, Then, view}
 use Rattle.pulsar_messages.specs.Words as words
-use Rattle.pulsar_messages.specs.Claims.{is_spent}
-use Rattle.pulsar_producer.specs.Topic as topic
-use Rattle.pulsar_outgoing.specs.Storage.{Item, SingleMessage, Flush, is_ready, pushed, is_nothing}
-use Rattle.pulsar_producer.specs.Topic.{Act as Deed, Takes, Passes, Draws, Remakes, Closes, Stores, Flushes, Cuts, TakesBatch, Halts, Seen, cuts, is_settled, left_of, stores, takes_in}
+use Rattle.pulsar_producer.specs.Topic.{Act as Deed}
+use Rattle.pulsar_producer.proofs.Numbers.{next_rises}
+use Rattle.pulsar_producer_table.specs.Producers.{topic_after}
 use Rattle.pulsar_producer_table.specs.declared.table.Topic.{Topic}
-use Rattle.pulsar_laws.proofs.Cases.{cond_so}
+use Rattle.pulsar_run.specs.Things.{along}
+use Rattle.pulsar_run.proofs.Things.{along_holds}
+use Rattle.pulsar_acts.specs.Things.{topics}
 use Rattle.pulsar_laws.specs.BatchLaws.{AsksFrame, NumbersOfAllFramesRise}
 use Rattle.pulsar_laws.specs.ProducerLaws.{NumbersOfFramesRise, topic_acts}
 use Rattle.pulsar_laws.proofs.plans.Standing.{run_older}
 use Rattle.pulsar_laws.proofs.producers.BatchFrames.{drawn_for, frames_of_batches_lem}
-use Rattle.pulsar_laws.proofs.producers.Drawing.{drawn_run}
+use Rattle.pulsar_laws.proofs.producers.Drawing.{drawn_run, topics_keep}
 use Rattle.pulsar_laws.proofs.producers.Frames.{IsFramed, frames_are_of_their_sends_lem, framed, it}
 use Rattle.pulsar_laws.proofs.links.Receipts.{run_behind}
-use Rattle.pulsar_laws.proofs.producers.Topics.{all_after, row_as, topic_all}
+use Rattle.pulsar_laws.proofs.producers.Topics.{row_along}
 
 -- THE NEXT NUMBER IS NOT LESS
-
-stores_next : (x : Item) (v : Seen) → v.next ≤ (stores x v).next
-stores_next x v =
-    let w : Seen = record v { storage = pushed x v.storage } in
-    cond_so (λ z. v.next ≤ z.next) (is_ready w.storage) (cuts w) w (omega arith) (omega arith)
-
-left_next : (bs : List (List Item)) (v : Seen) → v.next ≤ (left_of bs v).next
-left_next [] v = omega arith
-left_next (b ∷ bs) v = omega arith
-
-one_next : (d : Deed) (v : Seen) → v.next ≤ (topic.after d v).next
-one_next (Takes t) v = takes v.holder
-  where
-    takes : (h : Option ℕ) → v.next ≤ (takes_in h t v).next
-    takes None = omega arith
-    takes (Some u) = omega arith
-one_next Passes v = omega arith
-one_next Draws v = elim (is_spent v.next) as (λ b. v.next ≤ (cond b v (record v { next = v.next + 1 })).next) [ true ↦ omega arith | false ↦ omega arith ]
-one_next (Remakes l g) v = omega arith
-one_next Closes v = omega arith
-one_next (Stores t e) v = stores_next (SingleMessage t e) v
-one_next (Flushes t) v = cond_so (λ z. v.next ≤ z.next) (is_settled v) v (stores (Flush t) v) (omega arith) (stores_next (Flush t) v)
-one_next Cuts v = cond_so (λ z. v.next ≤ z.next) (is_nothing v.storage.items) v (cuts v) (omega arith) (omega arith)
-one_next TakesBatch v = left_next v.cut v
-one_next Halts v = omega arith
-
-all_next : (ds : List Deed) (v : Seen) → v.next ≤ (all_after ds v).next
-all_next [] v = omega arith
-all_next (d ∷ ds) v = let a : v.next ≤ (all_after ds v).next = all_next ds v in let b = one_next d (all_after ds v) in omega (arith, a, b)
 
 -- a row that is there stays there, and its next number is not less
 record IsLater (o : Options) (log : List Entry) (n : ℕ) (row : Topic) : Type 0 where
@@ -65,10 +37,11 @@ later o (Then a ∷ newer) older n row run h =
     let k = later o newer older n row run.0 h in
     let ds : List Deed = topic_acts (view o (newer ++ older)) n a in
     record {
-      now = topic_all ds k.now;
-      is_it = row_as o (newer ++ older) (drawn_run o (newer ++ older) run.0) n k.now k.is_it a run;
-      more = (let x : row.seen.next ≤ k.now.seen.next = k.more in let y : k.now.seen.next ≤ (all_after ds k.now.seen).next = all_next ds k.now.seen in omega
-          (arith, x, y));
+      now = along topic_after ds k.now;
+      is_it = row_along o (newer ++ older) (drawn_run o (newer ++ older) run.0) n k.now k.is_it a run;
+      more =
+          along_holds rules topics topics_keep o (λ t. row.seen.next ≤ t.seen.next) ds k.now
+          (λ d t m. let r = next_rises d t.seen in omega (arith, m, r)) k.more;
     }
 
 -- WHAT STANDS BEFORE A DRAW
@@ -188,6 +161,7 @@ numbers_of_all_frames_rise_lem o newer older x y n r s run first second =
     let run1 : IsRun o log = run_older o y log run in
     let one : IsNextBehind o (x ∷ older) n r = next_behind o older x n r (run_behind o newer (x ∷ older) run1) first in
     let a : IsDrawnBefore o log n s = drawn_before o log y n s run second in
-    let b = behind_two x (Then (Told a.told)) (Then (Does a.who (OfTopic a.drawn Draw))) newer older a.behind (asks_frame x older n r first) refl refl a.there in
+    let b = behind_two x (Then (Told a.told)) (Then (Does a.who (OfTopic a.drawn Draw))) newer older a.behind
+    (asks_frame x older n r first) refl refl a.there in
     let run3 : IsRun o (Then (Told a.told) ∷ Then (Does a.who (OfTopic a.drawn Draw)) ∷ a.behind) = subst (IsRun o) a.there run1 in
     rise_from o x older a.behind n n one.row a.before r s run3.0.0 b one.is_it one.next refl a.was a.number

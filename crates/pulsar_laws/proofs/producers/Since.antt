@@ -23,7 +23,8 @@ use Rattle.pulsar_laws.proofs.plans.LastWords.{is_leaving}
 use Rattle.pulsar_laws.proofs.plans.Spots.{spot_of}
 use Rattle.pulsar_laws.proofs.producers.BatchFrames.{asked_own}
 use Rattle.pulsar_laws.proofs.producers.Awaiting.{is_passing}
-use Rattle.pulsar_laws.proofs.producers.OneAtATime.{Single, going, left_not, NotOwn, owes_none, single_run, waits_none}
+use Rattle.pulsar_laws.proofs.producers.OneAtATime.{Single, left_not, owes_none, single_run, waits_none}
+use Rattle.pulsar_laws.proofs.producers.Others.{NotOwn, going}
 use Rattle.pulsar_laws.proofs.producers.Spotting.{is_stop}
 use Rattle.pulsar_laws.proofs.Cases.{none_some, some_is}
 use Rattle.pulsar_laws.proofs.producers.Owed.{all_owed, is_hard, me, note, owed, owing, rest_owed}
@@ -83,7 +84,7 @@ module _ (o : Options) (n : ℕ) where
 
   goes_older : (e : Entry) (log : List Entry) → Goes (e ∷ log) → Goes log
   goes_older (Begins e) log ok = (ok.0.0, ok.1)
-  goes_older (Then a) log ok = (ok.0.0, (going n o a log ok.1).1)
+  goes_older (Then a) log ok = (ok.0.0, (going a log ok.1).1)
 
   -- as it does so it waits for nothing
   free_take : (a : Act) (log : List Entry) → IsRun o (Then a ∷ log) → own_take a ≡ true → Single n o log →
@@ -101,7 +102,7 @@ module _ (o : Options) (n : ℕ) where
   since_kept (Then a) log ok l seat live p w i r k = λ same. elim (cases_Bool (own_take a)) [
     | inr f ↦ last_same a log f ∙ k same
     | inl t ↦
-        absurd (free_take a log ok.0 t (single_run n o log ok.0.0 (going n o a log ok.1).1) l seat live p (i ∙ ap Some same))
+        absurd (free_take a log ok.0 t (single_run n o log ok.0.0 (going a log ok.1).1) l seat live p (i ∙ ap Some same))
   ]
 
   since_new : (log : List Entry) (l : ℕ) (w : Who) (r : Words) → Since (Then (Does w (Ask l r)) ∷ log) l w r
@@ -238,7 +239,7 @@ module _ (o : Options) (n : ℕ) where
   fresh_run (Begins e ∷ log) run h = (tt, tt, tt)
   fresh_run (Then a ∷ log) run h =
       let v : View = view o log in
-      let s = (going n o a log h).1 in
+      let s = (going a log h).1 in
       let left = left_fresh a log run s (fresh_run log run.0 s) in
       let Q : Act → Type 0 = Fresh (Then a ∷ log) in
       let g = rest (agenda o log) in (

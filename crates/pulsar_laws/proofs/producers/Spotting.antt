@@ -5,7 +5,7 @@ use Rattle.std.proofs.lemmas.Bool.{cases_Bool, cases_lt, eqb-true}
 use Rattle.std.specs.List.{filter_map, list_any}
 use Rattle.std.specs.Map.{lookup}
 use Rattle.std.specs.Option.{option_map, option_to_list}
-use Rattle.pulsar_laws.proofs.ActWords.{Act, Alarm, Answers, Ask, Batch, Call, CheckIdle, Comes, Does, Drains, End, Ends, FailConsumer, Flush, is_same, KeepAlive, LinkAct, Notice, OfTopic, opens, PassTurn, Polls, Producer, Reads, Retry, Revive, Rings, Shut, StopAll, Store, TakeBatch, Tell, TellAll, ToLink, turn_of, Wake, Who}
+use Rattle.pulsar_laws.proofs.ActWords.{Act, Alarm, Answers, Ask, Batch, Call, CheckIdle, Comes, Does, Drains, End, Ends, FailConsumer, Flush, is_same, KeepAlive, LinkAct, Notice, OfTopic, opens, PassTurn, Polls, Producer, Reads, Retry, Revive, Rings, Shut, StopAll, Store, TakeBatch, Tell, TellAll, ToLink, turn_of, Wake, Who, OfConsumer}
 use Rattle.pulsar_laws.proofs.PlanWords.{closed_notice}
 use Rattle.pulsar_laws.proofs.RunWords.{after, causes, Each, each_map, Entry, IsRun, joins, lost_on, notice, Options, readied, ready_notice, Then, Turned, turned, turn_notice, view, View}
 use Rattle.pulsar_laws.proofs.LinkWords.{Addresses, Base, Becomes, Change, closed_by, Fault, IsOver, Pause, rings, Runs, Seat, Series, tells_asker, took_end, took_some}
@@ -49,6 +49,7 @@ use Rattle.pulsar_laws.proofs.producers.Owed.{all_owed, asked_owed, brings, coun
 use Rattle.pulsar_laws.proofs.producers.Topics.{CameFrom, acts_each, all_after, row_as}
 use Rattle.pulsar_laws.proofs.producers.TurnActs.{equal_self}
 use Rattle.pulsar_laws.proofs.producers.Turns.{sum_append}
+use Rattle.pulsar_acts.proofs.Linking.{took_is}
 
 -- A SPOT: for a reply, for the link of an address, for a moment, or for a batch where none is under way
 
@@ -62,6 +63,10 @@ pub data Spot : Type 0 where
 abbrev pub out : Spot → ℕ
 out Nowhere = 0
 out _ = 1
+
+pub out_most : (s : Spot) → out s ≤ 1
+out_most Nowhere = omega arith
+out_most _ = omega arith
 
 abbrev pub at_place : Spot → ℕ → ℕ → Type 0
 at_place (OnLink l p) j q = (j ≡ l) × (q ≡ p)
@@ -410,7 +415,7 @@ module _ (o : Options) (n : ℕ) (log : List Entry) where
               record {
                 place = record {
                   base = there.place.base;
-                  asker = λ i. at i e y.1 (i == l) refl;
+                  asker = λ i. subst (NoAsker n) (sym (took_is v l x i)) (at i e y.1 (i == l) refl);
                   alarm = there.place.alarm;
                 };
                 row = there.row;
@@ -610,8 +615,8 @@ module _ (o : Options) (n : ℕ) (log : List Entry) where
   gone (Comes (Rings al)) s run plain k = rings_gone al s run k
   gone (Comes (Polls t)) s run plain k = inl (worded (Comes (Polls t)) refl refl)
   gone (Does who (Ask l request)) s run plain k = inl (worded (Does who (Ask l request)) refl refl)
-  gone (Does who (Revive l)) s run plain k = inl (worded (Does who (Revive l)) refl refl)
-  gone (Does who (FailConsumer f)) s run plain k = inl (worded (Does who (FailConsumer f)) refl refl)
+  gone (Does who (OfConsumer (Revive l))) s run plain k = inl (worded (Does who (OfConsumer (Revive l))) refl refl)
+  gone (Does who (OfConsumer (FailConsumer f))) s run plain k = inl (worded (Does who (OfConsumer (FailConsumer f))) refl refl)
   gone (Answers who verdict) s run plain k = inl (worded (Answers who verdict) refl refl)
   gone (Does who (OfTopic m (Store e))) s run plain k =
       readied_gone s (Does who (OfTopic m (Store e))) m (topic.Stores (turn_of who) e) run (λ w e. absurd cc) (λ w. refl) (omega arith)

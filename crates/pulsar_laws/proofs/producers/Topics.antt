@@ -21,8 +21,7 @@ use Rattle.pulsar_acts.specs.View.{topic_born, asked_of}
 
 -- what acts make of one, the newest first
 abbrev pub all_after : List Deed → Seen → Seen
-all_after [] v = v
-all_after (a ∷ h) v = topic.after a (all_after h v)
+all_after h v = along topic.after h v
 
 pub seen_more : (s : Setup) (as' h : List Deed) → topic.seen s (as' ++ h) ≡ all_after as' (topic.seen s h)
 seen_more s [] h = refl
@@ -67,11 +66,13 @@ module _ (o : Options) (log : List Entry) (k : Every (Drawn o) log) (n : ℕ) (t
           let j = born_joins (view o log) a n u e in
           absurd (joins_new o log k j.who j.verdict j.building n t j.makes (subst (λ (x : Act). IsRun o (Then x ∷ log)) j.is_act run) j.is_new.listed h)
 
-  pub row_as : (seen.after a (view o log)).producers.topics n ≡ Some (topic_all (topic_acts (view o log) n a) t)
-  row_as = ap (λ b. row_after topic_after b false (topic_acts (view o log) n a) ((view o log).producers.topics n)) born_none
+  pub row_along : (seen.after a (view o log)).producers.topics n ≡ Some (along topic_after (topic_acts (view o log) n a) t)
+  row_along = ap (λ b. row_after topic_after b false (topic_acts (view o log) n a) ((view o log).producers.topics n)) born_none
       ∙ ap (row_by topic_after (topic_acts (view o log) n a)) h
       ∙ row_stays topic_after (topic_acts (view o log) n a) t
-      ∙ ap (λ x. Some x) (all_is (topic_acts (view o log) n a) t)
+
+  pub row_as : (seen.after a (view o log)).producers.topics n ≡ Some (topic_all (topic_acts (view o log) n a) t)
+  row_as = row_along ∙ ap (λ x. Some x) (all_is (topic_acts (view o log) n a) t)
 
   pub some_acts : acts_on o n (Then a ∷ log) ≡ topic_acts (view o log) n a ++ acts_on o n log
   some_acts = ap (λ b. since_act b (topic_acts (view o log) n a) (acts_on o n log)) born_none

@@ -6,8 +6,8 @@ use Rattle.std.specs.BTreeSet.{insert_key}
 use Rattle.std.specs.Option.{option_map}
 use Rattle.std.specs.Ordering.{match_ordering, nat_cmp}
 use Rattle.std.specs.declared.cmp.Ordering.TheVariants.{Less, Equal, Greater}
-use Rattle.pulsar_laws.proofs.ActWords.{Act, Call, is_same, Notice, Procedure, Producer, Starts, Told, Verdict, Who}
-use Rattle.pulsar_laws.proofs.PlanWords.{Batching, begins, Gives, Leaving, Plan, Stays, told, Turn}
+use Rattle.pulsar_laws.proofs.ActWords.{Act, Call, is_same, Notice, Procedure, Producer, Starts, Told, Who}
+use Rattle.pulsar_laws.proofs.PlanWords.{Batching, begins, Gives, Leaving, Plan, PlanTransition, Stays, told}
 use Rattle.pulsar_laws.proofs.RunWords.{counted, Entry, In, IsRun, Options, start_of, stays, stays_some, Then, told_some, view}
 use Rattle.pulsar_producer.specs.Topic as topic
 use Rattle.pulsar_producer_table.specs.declared.table.Topic.{Topic}
@@ -171,7 +171,7 @@ module _ (o : Options) (log : List Entry) (n : Notice) (run : IsRun o (Then (Tol
   pends_one w e f = let a : turn_note w n ≡ 1 = note_one w e f in let b = pends w in omega (arith, a, b)
 
   -- of one that was told no turn
-  at_stays : (t m : ℕ) (p : Plan) (x : Turn Plan Verdict) → told p n.outcome ≡ x → after_told (Call t) ≡ stays x → is_turn_told n.outcome ≡ false →
+  at_stays : (t m : ℕ) (p : Plan) (x : PlanTransition) → told p n.outcome ≡ x → after_told (Call t) ≡ stays x → is_turn_told n.outcome ≡ false →
       IsAt m (Some p) → IsAt m (stays x)
   at_stays t m p (Gives verdict) e s f h = tt
   at_stays t m p (Stays q a) e s f (inl w) =
@@ -185,7 +185,7 @@ module _ (o : Options) (log : List Entry) (n : Notice) (run : IsRun o (Then (Tol
   at_told t m (Some p) e s f h =
       subst (IsAt m) (sym (it_stands (Call t) (Some p) e s)) (at_stays t m p (told p n.outcome) refl (it_stands (Call t) (Some p) e s) f h)
 
-  held_stays : (t m : ℕ) (p q : Plan) (x : Turn Plan Verdict) → told p n.outcome ≡ x → is_same (Call t) n.who ≡ true → (view o log).stand (Call t) ≡ Some p →
+  held_stays : (t m : ℕ) (p q : Plan) (x : PlanTransition) → told p n.outcome ≡ x → is_same (Call t) n.who ≡ true → (view o log).stand (Call t) ≡ Some p →
       stays x ≡ Some q →
       holds q ≡ Some m → HasTurn (view o log) (Call t) m
   held_stays t m p q (Gives verdict) e same s h d = absurd (none_some h)
@@ -229,7 +229,7 @@ module _ (o : Options) (log : List Entry) (n : Notice) (run : IsRun o (Then (Tol
   abbrev HasOwn : ℕ → Type 0
   HasOwn m = HasTurn (view o log) (Producer m) m × (pending o (Then (Told n) ∷ log) (Producer m) ≡ 0)
 
-  own_stays : (m j : ℕ) (p q : Plan) (x : Turn Plan Verdict) → told p n.outcome ≡ x → is_same (Producer m) n.who ≡ true →
+  own_stays : (m j : ℕ) (p q : Plan) (x : PlanTransition) → told p n.outcome ≡ x → is_same (Producer m) n.who ≡ true →
       (view o log).stand (Producer m) ≡ Some p → stays x ≡ Some q → holds q ≡ Some j → HasOwn m
   own_stays m j p q (Gives verdict) e same s h d = absurd (none_some h)
   own_stays m j p q (Stays r a) e same s h d =
@@ -343,7 +343,7 @@ starts_turns o log who p run k = record {
     new : (t : ℕ) → is_same (Call t) who ≡ true → 1 ≤ counted (start_of t) log → ⊥
     new t e h = not_begun o log t p (subst (λ (w : Who). IsRun o (Then (Starts w p) ∷ log)) (sym (same_is (Call t) who e)) run) h
 
-    none_held : (x : Turn Plan Verdict) → begins p ≡ x → (m : ℕ) (q : Plan) → stays x ≡ Some q → holds q ≡ Some m → ⊥
+    none_held : (x : PlanTransition) → begins p ≡ x → (m : ℕ) (q : Plan) → stays x ≡ Some q → holds q ≡ Some m → ⊥
     none_held (Gives verdict) e m q h d = none_some h
     none_held (Stays r a) e m q h d =
         let g : holding.BeginsSo r a = subst (StaysSo holding.BeginsSo) e (begins_holds p) in

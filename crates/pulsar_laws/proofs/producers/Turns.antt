@@ -4,14 +4,13 @@ use Rattle.std.proofs.Common.{◌≡◌, ◌∙◌, ap, subst, ℕ, ◌+◌, ari
 use Rattle.pulsar_laws.proofs.ActWords.{Act, Action, Comes, Does, Notice, OfTopic, Outcome, Part, PassTurn, TakeTurn, Told, Who, below, is_same}
 use Rattle.pulsar_laws.proofs.RunWords.{agenda, at_once, Each, Entry, first_of, IsRun, joins, Options, performs, put_all, rest, rest_of, rules, Then, view, View}
 use Rattle.pulsar_run.specs.Order.{put}
-use Rattle.pulsar_messages.specs.Claims.{is_spent}
 use Rattle.pulsar_producer.specs.Topic as topic
-use Rattle.pulsar_outgoing.specs.Storage.{Item, SingleMessage, Flush as Flush', is_ready, pushed, is_nothing}
-use Rattle.pulsar_producer.specs.Topic.{Act as Deed, Takes, Passes, Draws, Remakes, Closes, Stores, Flushes, Cuts, TakesBatch, Halts, Seen, cuts, cuts_ready, is_settled, left_of, stores}
+use Rattle.pulsar_producer.specs.Topic.{Act as Deed, Takes, Passes, Seen}
+use Rattle.pulsar_producer.proofs.Turns.{SameTurn, leaves_turn, turn_stays}
 use Rattle.pulsar_outgoing.specs.declared.news.News.TheVariants as news
 use Rattle.pulsar_calls.specs.declared.act.Outcome.TheVariants as outcome
 use Rattle.pulsar_laws.proofs.plans.AtOnce.{is_notice, raised_told}
-use Rattle.pulsar_laws.proofs.Cases.{cond_so}
+use Rattle.pulsar_laws.proofs.Lists.{each_along}
 use Rattle.pulsar_laws.specs.ProducerLaws.{topic_acts}
 use Rattle.pulsar_laws.proofs.producers.Drawing.{here}
 use Rattle.pulsar_laws.proofs.plans.Granted.{GivenBy, GivesSo, IsFree, JoinSo, SaysSo, clean_run, gives_so, is_given, join_free, joins_so}
@@ -159,43 +158,12 @@ pend_kept o log t a h p run =
 
 -- ROWS
 
--- acts that leave the turn where it is
-abbrev pub leaves_turn : Deed → Bool
-leaves_turn (Takes t) = false
-leaves_turn Passes = false
-leaves_turn _ = true
-
 abbrev pub LeavesTurn : Deed → Type 0
 LeavesTurn d = leaves_turn d ≡ true
 
-abbrev SameTurn : Seen → Seen → Type 0
-SameTurn v w = (w.holder ≡ v.holder) × (w.waiting ≡ v.waiting)
-
-cuts_left : (v w : Seen) → SameTurn v w → SameTurn v (cuts_ready w)
-cuts_left v w k = cond_so (SameTurn v) (is_ready w.storage) (cuts w) w k k
-
-left_left : (bs : List (List Item)) (v : Seen) → SameTurn v (left_of bs v)
-left_left [] v = (refl, refl)
-left_left (b ∷ bs) v = (refl, refl)
-
-stores_left : (x : Item) (v : Seen) → SameTurn v (stores x v)
-stores_left x v = cuts_left v (record v { storage = pushed x v.storage }) (refl, refl)
-
-one_left : (d : Deed) (v : Seen) → LeavesTurn d → SameTurn v (topic.after d v)
-one_left (Takes t) v h = absurd cc
-one_left Passes v h = absurd cc
-one_left Draws v h = cond_so (SameTurn v) (is_spent v.next) v (record v { next = v.next + 1 }) (refl, refl) (refl, refl)
-one_left (Remakes l g) v h = (refl, refl)
-one_left Closes v h = (refl, refl)
-one_left (Stores t e) v h = stores_left (SingleMessage t e) v
-one_left (Flushes t) v h = cond_so (SameTurn v) (is_settled v) v (stores (Flush' t) v) (refl, refl) (stores_left (Flush' t) v)
-one_left Cuts v h = cond_so (SameTurn v) (is_nothing v.storage.items) v (cuts v) (refl, refl) (refl, refl)
-one_left TakesBatch v h = left_left v.cut v
-one_left Halts v h = (refl, refl)
-
-pub all_left : (ds : List Deed) (v : Seen) → Each LeavesTurn ds → ((all_after ds v).holder ≡ v.holder) × ((all_after ds v).waiting ≡ v.waiting)
-all_left [] v h = (refl, refl)
-all_left (d ∷ ds) v h = let k = all_left ds v h.1 in let j = one_left d (all_after ds v) h.0 in (j.0 ∙ k.0, j.1 ∙ k.1)
+pub all_left : (ds : List Deed) (v : Seen) → Each LeavesTurn ds → SameTurn v (all_after ds v)
+all_left ds v k =
+    each_along topic.after LeavesTurn (SameTurn v) (λ d w l same. let j = turn_stays d w l in (j.0 ∙ same.0, j.1 ∙ same.1)) ds v k (refl, refl)
 
 pub acts_left : (v : View) (n : ℕ) (a : Act) → takes_it a ≡ false → passes_it a ≡ false → Each LeavesTurn (topic_acts v n a)
 acts_left v n a t p = acts_each LeavesTurn v n a left

@@ -1,17 +1,13 @@
 -- Tickets at a topic producer: whoever waits there, or is told what becomes of a batch, took a turn there, stored a message or flushed it.
 use Rattle.std.proofs.Common.{◌≡◌, inl, inr, sym, subst, ℕ, ◌+◌, List, [], ◌∷◌, refl, map, Bool, true, false, Option, Some, None}
-use Rattle.std.specs.BTreeSet.{insert_key}
-use Rattle.std.specs.Ordering.{match_ordering, nat_cmp}
-use Rattle.std.specs.declared.cmp.Ordering.{Ordering}
-use Rattle.std.specs.declared.cmp.Ordering.TheVariants.{Less, Equal, Greater}
 use Rattle.pulsar_laws.proofs.ActWords.{Act, Action, Call, Consumer, Does, Flush, Notice, OfTopic, Outcome, Procedure, Producer, Store, TakeBatch, TakeTurn, TellAll, Told, Who, turn_of}
 use Rattle.pulsar_laws.proofs.PlanWords.{action_of, Batches, Batching, BuildingProducer as Build, Deed, Errand, Fate, Member, News, news_of, ProducerOrder, Plan, Sending as Send, told_to, Ways}
-use Rattle.pulsar_laws.proofs.RunWords.{Begins, Each, each_append, Entry, In, IsRun, notice, Options, Then, View, view}
-use Rattle.pulsar_messages.specs.Claims.{is_spent}
+use Rattle.pulsar_laws.proofs.RunWords.{Begins, Each, Entry, In, IsRun, notice, Options, rules, Then, View, view}
 use Rattle.pulsar_outgoing.specs.Batch.{cut_report, member_of, reports_from}
-use Rattle.pulsar_outgoing.specs.Storage.{Item, SingleMessage, Flush as FlushItem, is_ready, pushed, is_nothing, ticket_of}
+use Rattle.pulsar_outgoing.specs.Storage.{Item, SingleMessage, Flush as FlushItem, ticket_of}
 use Rattle.pulsar_producer.specs.Topic as topic
-use Rattle.pulsar_producer.specs.Topic.{Act as TopicAct, Setup, Seen, is_settled}
+use Rattle.pulsar_producer.specs.Topic.{Act as TopicAct, Seen}
+use Rattle.pulsar_producer.proofs.Tickets.{BringsSo, UsersSo, users_so}
 use Rattle.pulsar_outgoing.specs.declared.batch.Fate.TheVariants as fate
 use Rattle.pulsar_outgoing.specs.declared.batch.Member.TheVariants as member
 use Rattle.pulsar_outgoing.specs.declared.batch.Report.{Report}
@@ -19,15 +15,18 @@ use Rattle.pulsar_producer.specs.declared.batching.Batching.TheVariants as batch
 use Rattle.pulsar_outgoing.specs.declared.news.News.TheVariants as news
 use Rattle.pulsar_calls.specs.declared.act.Outcome.TheVariants as outcome
 use Rattle.pulsar_producer_table.specs.declared.table.Topic.{Topic}
-use Rattle.pulsar_laws.proofs.Lists.{in_each}
-use Rattle.pulsar_laws.proofs.Cases.{cond_so}
+use Rattle.pulsar_run.specs.Things.{along}
+use Rattle.pulsar_run.proofs.Things.{holds_along}
+use Rattle.pulsar_acts.specs.Things.{topics}
+use Rattle.pulsar_laws.proofs.Lists.{each_along, in_each}
 use Rattle.pulsar_plans.proofs.Arcs.{BatchArc, batch_sends, batch_settles, begun_arc, taken_settles, taken_starts, told_arc, Arc, Begun, batch_cuts, batches_go, begins_build, builds_on, part_sends, sends}
 use Rattle.pulsar_laws.proofs.plans.Standing.{run_older, stands_so}
-use Rattle.pulsar_laws.specs.ProducerLaws.{acts_on, topic_acts}
-use Rattle.pulsar_producer_table.specs.Producers.{next_batch_at}
+use Rattle.pulsar_laws.specs.ProducerLaws.{topic_acts}
+use Rattle.pulsar_producer_table.specs.Producers.{next_batch_at, topic_after}
 use Rattle.pulsar_laws.proofs.plans.Granted.{GivenBy, IsGrantedBy, IsLedSo, does_from, granted_by, grants_given}
 use Rattle.pulsar_producer.proofs.Arcs.{BuildArc, SendArc, draws, naming_rests}
-use Rattle.pulsar_laws.proofs.producers.Topics.{topics_alone_lem, CameFrom, acts_each, each_since}
+use Rattle.pulsar_laws.proofs.producers.Drawing.{born_joins, topics_keep}
+use Rattle.pulsar_laws.proofs.producers.Topics.{CameFrom, acts_each}
 use Rattle.pulsar_acts.specs.View.{topic_born}
 
 -- WHO TELLS NOBODY TOGETHER: all plans but those of batches
@@ -46,66 +45,16 @@ build_alone _ = refl
 
 -- TICKETS THAT ARE SO: those of all that was done at a topic producer. Those of turns are so, and those of what is stored.
 
-each_insert : (P : ℕ → Type 0) (k : ℕ) (xs : List ℕ) → P k → Each P xs → Each P (insert_key nat_cmp xs k)
-each_insert P k [] p ps = (p, tt)
-each_insert P k (x ∷ xs) p ps = by (nat_cmp k x) (each_insert P k xs p ps.1)
-  where
-    by : (c : Ordering) → Each P (insert_key nat_cmp xs k) → Each P (match_ordering c (k ∷ x ∷ xs) (x ∷ xs) (x ∷ insert_key nat_cmp xs k))
-    by Less more = (p, ps)
-    by Equal more = ps
-    by Greater more = (ps.0, more)
-
 module _ (T P : ℕ → Type 0) where
-  -- what is done to one
-  abbrev pub ActSo : TopicAct → Type 0
-  ActSo (topic.Takes t) = T t
-  ActSo (topic.Stores t e) = P t
-  ActSo (topic.Flushes t) = P t
-  ActSo _ = Unit {0}
-
   abbrev ItemSo : Item → Type 0
   ItemSo x = P (ticket_of x)
 
-  -- what is seen of it
+  -- what is done to one, and what is seen of it
+  abbrev ActSo : TopicAct → Type 0
+  ActSo act = BringsSo T ItemSo act
+
   abbrev pub SeenSo : Seen → Type 0
-  SeenSo v = Each T v.waiting × Each ItemSo v.storage.items × Each (Each ItemSo) v.cut
-
-  takes_so : (t : ℕ) (holder : Option ℕ) (v : Seen) → T t → SeenSo v → SeenSo (topic.takes_in holder t v)
-  takes_so t None v p k = k
-  takes_so t (Some other) v p k = (each_insert T t v.waiting p k.0, k.1, k.2)
-
-  rest_so : (ts : List ℕ) → Each T ts → Each T (topic.rest_of ts)
-  rest_so [] k = tt
-  rest_so (t ∷ ts) k = k.1
-
-  cuts_so : (v : Seen) → SeenSo v → SeenSo (topic.cuts v)
-  cuts_so v k = (k.0, tt, each_append (Each ItemSo) v.cut (v.storage.items ∷ []) k.2 (k.1, tt))
-
-  stores_so : (x : Item) (v : Seen) → ItemSo x → SeenSo v → SeenSo (topic.stores x v)
-  stores_so x v p k =
-      let w : Seen = record v { storage = pushed x v.storage } in
-      let so : SeenSo w = (k.0, each_append ItemSo v.storage.items (x ∷ []) k.1 (p, tt), k.2) in
-      cond_so SeenSo (is_ready w.storage) (topic.cuts w) w (cuts_so w so) so
-
-  left_so : (cut : List (List Item)) (v : Seen) → Each (Each ItemSo) cut → SeenSo v → SeenSo (topic.left_of cut v)
-  left_so [] v c k = k
-  left_so (b ∷ bs) v c k = (k.0, k.1, c.1)
-
-  after_so : (act : TopicAct) (v : Seen) → ActSo act → SeenSo v → SeenSo (topic.after act v)
-  after_so (topic.Takes t) v p k = takes_so t v.holder v p k
-  after_so topic.Passes v p k = (rest_so v.waiting k.0, k.1, k.2)
-  after_so topic.Draws v p k = cond_so SeenSo (is_spent v.next) v (record v { next = v.next + 1 }) k k
-  after_so (topic.Remakes l g) v p k = k
-  after_so topic.Closes v p k = (k.0, tt, k.2)
-  after_so (topic.Stores t e) v p k = stores_so (SingleMessage t e) v p k
-  after_so (topic.Flushes t) v p k = cond_so SeenSo (is_settled v) v (topic.stores (FlushItem t) v) k (stores_so (FlushItem t) v p k)
-  after_so topic.Cuts v p k = cond_so SeenSo (is_nothing v.storage.items) v (topic.cuts v) k (cuts_so v k)
-  after_so topic.TakesBatch v p k = left_so v.cut v k.2 k
-  after_so topic.Halts v p k = (k.0, tt, tt)
-
-  seen_so : (s : Setup) (acts : List TopicAct) → Each ActSo acts → SeenSo (topic.seen s acts)
-  seen_so s [] k = (tt, tt, tt)
-  seen_so s (act ∷ acts) k = after_so act (topic.seen s acts) k.0 (seen_so s acts k.1)
+  SeenSo v = UsersSo T ItemSo v
 
   -- A PLAN OF BATCHES
 
@@ -210,19 +159,21 @@ module _ (T P : ℕ → Type 0) where
       so (topic.Flushes t) c = subst P (sym c.2) (subst DoesSo c.1 k)
       so d c = tt
 
-  acts_so : (o : Options) (n : ℕ) (log : List Entry) → LogSo log → Each ActSo (acts_on o n log)
-  acts_so o n [] k = tt
-  acts_so o n (Begins e ∷ log) k = acts_so o n log k
-  acts_so o n (Then a ∷ log) k =
-      each_since ActSo (topic_born (view o log) n a) (topic_acts (view o log) n a) (acts_on o n log) (acts_by (view o log) n a k.0) (acts_so o n log k.1)
-
   -- a topic producer
   pub row_so : (o : Options) (n : ℕ) (log : List Entry) (row : Topic) → IsRun o log → LogSo log → (view o log).producers.topics n ≡ Some row →
       SeenSo row.seen
   row_so o n log row run k is =
-      let a = topics_alone_lem o log n row run is in
-      let s : Setup = record { built = a.0; first_number = o.chosen.first_number; limits = a.1 } in
-      subst SeenSo (sym a.3) (seen_so s (acts_on o n log) (acts_so o n log k))
+      holds_along rules topics topics_keep o (λ m t past. LogSo past → SeenSo t.seen) born (λ x past m t r h so. so) done log n row run is k
+    where
+      born : (a : Act) (past : List Entry) (m : ℕ) (t : Topic) → IsRun o (Then a ∷ past) → topic_born (view o past) m a ≡ Some t →
+          LogSo (Then a ∷ past) → SeenSo t.seen
+      born a past m t r h l = subst (λ (x : Topic). SeenSo x.seen) (born_joins (view o past) a m t h).is_new.is_it (tt, tt, tt)
+
+      done : (a : Act) (past : List Entry) (m : ℕ) (t : Topic) → IsRun o (Then a ∷ past) → (view o past).producers.topics m ≡ Some t →
+          (LogSo past → SeenSo t.seen) → LogSo (Then a ∷ past) → SeenSo (along topic_after (topic_acts (view o past) m a) t).seen
+      done a past m t r h so l =
+          each_along topic_after ActSo (λ (x : Topic). SeenSo x.seen) (λ act x. users_so T ItemSo act x.seen) (topic_acts (view o past) m a) t
+          (acts_by (view o past) m a l.0) (so l.1)
 
   next_so : (cut : List (List Item)) → Each (Each ItemSo) cut → NewsSo (news.HasBatch (topic.next_of cut))
   next_so [] k = tt

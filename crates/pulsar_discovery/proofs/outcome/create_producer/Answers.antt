@@ -10,6 +10,6 @@ pub returns : goal.returns
 returns c =
     let o = producer_options_values c.args.options.now in
     let m = message_values c.in_ok-message.message in
-    subst (λ n. m ≡ link.message_of 0 0 (CreateProducer (string_bytes c.args.topic.now) c.args.producer_id n o)) c.name_in.ensures
-    (subst (λ t. m ≡ link.message_of 0 0 (CreateProducer t c.args.producer_id (option_copied c.name_in.result) o)) c.as_str.ensures.value
+    subst (λ n. m ≡ link.message_of 0 0 (CreateProducer (string_bytes c.args.topic.now) c.args.producer_id n o)) c.text.ensures
+    (subst (λ t. m ≡ link.message_of 0 0 (CreateProducer t c.args.producer_id (option_copied c.text.result) o)) c.as_str.ensures.value
     (c.in_ok-message.ensures 0))

@@ -12,7 +12,7 @@ returns c =
     let m = message_values c.in_ok-message.message in
     let t = string_bytes c.args.topic.now in
     let s = string_bytes c.args.subscription.now in
-    subst (λ n. m ≡ link.message_of 0 0 (Subscribe t s c.args.sub_type c.args.consumer_id n o)) c.name_in.ensures
-    (subst (λ s'. m ≡ link.message_of 0 0 (Subscribe t s' c.args.sub_type c.args.consumer_id (option_copied c.name_in.result) o)) c.as_str-2.ensures.value
-    (subst (λ t'. m ≡ link.message_of 0 0 (Subscribe t' c.as_str-2.result.now c.args.sub_type c.args.consumer_id (option_copied c.name_in.result) o)) c.as_str.ensures.value
+    subst (λ n. m ≡ link.message_of 0 0 (Subscribe t s c.args.sub_type c.args.consumer_id n o)) c.text.ensures
+    (subst (λ s'. m ≡ link.message_of 0 0 (Subscribe t s' c.args.sub_type c.args.consumer_id (option_copied c.text.result) o)) c.as_str-2.ensures.value
+    (subst (λ t'. m ≡ link.message_of 0 0 (Subscribe t' c.as_str-2.result.now c.args.sub_type c.args.consumer_id (option_copied c.text.result) o)) c.as_str.ensures.value
     (c.in_ok-message.ensures 0)))

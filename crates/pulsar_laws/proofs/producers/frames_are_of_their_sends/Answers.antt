@@ -10,5 +10,5 @@ pub returns-clause-queued : goal.returns-clause-queued
 returns-clause-queued c = λ o log l place seat request live h. queued_as_asked_lem o log l place seat request live h
 
 pub returns-clause-read : goal.returns-clause-read
-returns-clause-read c = λ o log id l n s name m block place row behind low run is next called answer typed.
-    frames_are_read_again_lem o log id l n s name m block place row behind low run is next called answer typed
+returns-clause-read c = λ o log id l n s name m block place row behind low early run is next called answer typed.
+    frames_are_read_again_lem o log id l n s name m block place row behind low early run is next called answer typed

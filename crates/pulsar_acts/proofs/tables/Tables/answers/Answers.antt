@@ -7,10 +7,10 @@ use Rattle.pulsar_acts.specs.Reading.{made_due}
 use Rattle.pulsar_calls.specs.Order.{below}
 use Rattle.pulsar_agenda.specs.Agenda.{Agenda}
 use Rattle.pulsar_agenda.specs.Agenda.{agenda_of}
-use Rattle.pulsar_acts.specs.View.{View, after, consumers_left, consumers_made, producers_left, producers_made}
+use Rattle.pulsar_acts.specs.View.{View, after, consumers_left, producers_left}
 use Rattle.pulsar_calls.specs.declared.act.Act.TheVariants.{Answers}
-use Rattle.pulsar_acts.specs.Tables.{view_of}
-use Rattle.pulsar_acts.proofs.Granting.{left_is}
+use Rattle.pulsar_acts.specs.Tables.{consumers_made, producers_made, view_of}
+use Rattle.pulsar_acts.proofs.Granting.{held_is, left_is}
 use Rattle.pulsar_acts.proofs.tables.Tables.answers.Goals as goal
 
 pub returns-clause-left : goal.returns-clause-left
@@ -42,5 +42,8 @@ returns-clause-sees c =
       consumers = consumers_left who (consumers_made x.links.live who makes x.consumers);
       producers = producers_left who (producers_made x.chosen who makes x.producers);
     }) c.in_ok-builds.ensures.sees
-    ∙ (λ i. record (after (Answers who c.args.verdict) v) { producers = left_is v.chosen who makes v.producers i }))
+    ∙ (λ i. record (after (Answers who c.args.verdict) v) {
+      consumers = held_is v.links.live who makes v.consumers i;
+      producers = left_is v.chosen who makes v.producers i;
+    }))
     c.tell_end.ensures

@@ -9,6 +9,7 @@ use Rattle.pulsar_calls.specs.Order.{below}
 use Rattle.pulsar_agenda.specs.Agenda.{Agenda}
 use Rattle.pulsar_agenda.specs.Agenda.{agenda_of}
 use Rattle.pulsar_acts.specs.Tables.{view_of}
+use Rattle.pulsar_acts.proofs.Linking.{asked_is}
 use Rattle.pulsar_acts.proofs.tables.Tables.asks.Goals as goal
 
 pub returns-clause-out : goal.returns-clause-out
@@ -43,4 +44,7 @@ returns-clause-sees c =
     let asked = c.in_ok-is_asked.ensures in
     let after = c.in_ok-notices.ensures.after ∙ (λ i. all_changed (closes (closed i) l (asked.asked i)) v.consumers) in
     on_ok_weaker c.tell.result
-    (λ told. λ i. record v { links = record { started = asked.started i; live = λ k. asked.live k i }; consumers = after i }) c.tell.ensures
+    (λ told. λ i. record v {
+      links = record { started = asked.started i; live = λ k. (asked.live k ∙ sym (asked_is v c.args.who l c.args.request k)) i };
+      consumers = after i;
+    }) c.tell.ensures

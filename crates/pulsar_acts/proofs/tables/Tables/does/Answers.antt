@@ -30,17 +30,5 @@ returns-in-TellAll-clause-sees c = rw c.in-TellAll.is c.tells_all.ensures.sees
 pub returns-in-TakeNumber-clause-sees : goal.returns-in-TakeNumber-clause-sees
 returns-in-TakeNumber-clause-sees c = rw c.in-TakeNumber.is c.takes_number.ensures.sees
 
-pub returns-in-FindConsumer-clause-sees : goal.returns-in-FindConsumer-clause-sees
-returns-in-FindConsumer-clause-sees c = rw c.in-FindConsumer.is c.finds_consumer.ensures.sees
-
-pub returns-in-TakeFlow-clause-sees : goal.returns-in-TakeFlow-clause-sees
-returns-in-TakeFlow-clause-sees c = rw c.in-TakeFlow.is c.takes_flow.ensures.sees
-
-pub returns-in-RecallConsumer-clause-sees : goal.returns-in-RecallConsumer-clause-sees
-returns-in-RecallConsumer-clause-sees c = rw c.in-RecallConsumer.is c.recalls_consumer.ensures.sees
-
-pub returns-in-Revive-clause-sees : goal.returns-in-Revive-clause-sees
-returns-in-Revive-clause-sees c = rw c.in-Revive.is c.revives.ensures.sees
-
-pub returns-in-FailConsumer-clause-sees : goal.returns-in-FailConsumer-clause-sees
-returns-in-FailConsumer-clause-sees c = rw c.in-FailConsumer.is c.fails_consumer.ensures.sees
+pub returns-in-OfConsumer-clause-sees : goal.returns-in-OfConsumer-clause-sees
+returns-in-OfConsumer-clause-sees c = rw c.in-OfConsumer.is c.asks_consumer.ensures.sees

@@ -74,13 +74,13 @@ returns-in_default-clause-sees c =
     still_sees v l x _ (open_still v.chosen v.addresses v.now l c.args.end row closed)
     (linked v l x _ _ c.in_ok-address.ensures.started c.in_ok-address.ensures.live)
     ∙ ap (λ (cs : Consumers). record v {
-      links = links_after v.chosen v.addresses v.now (Comes (ToLink l x)) v.links;
+      links = links_after v (Comes (ToLink l x));
       addresses = addresses_after v (Comes (ToLink l x));
       alarms = alarms_after v (Comes (ToLink l x));
       consumers = cs;
     }) (all_same (loses_by l None) (λ m. refl) v.consumers)
     ∙ ap (λ (cause : Option Fault). record v {
-      links = links_after v.chosen v.addresses v.now (Comes (ToLink l x)) v.links;
+      links = links_after v (Comes (ToLink l x));
       addresses = addresses_after v (Comes (ToLink l x));
       alarms = alarms_after v (Comes (ToLink l x));
       consumers = all_changed (loses_by l cause) v.consumers;
@@ -164,7 +164,7 @@ returns-clause-sees c =
       consumers = (c.in_ok-lost.ensures.after ∙ ap (λ cause. all_changed (loses_by l cause) v.consumers) (sym end.1)) i;
     })
     ∙ sym (ap (λ t. record v {
-      links = links_after o v.addresses v.now (Comes (ToLink l x)) v.links;
+      links = links_after v (Comes (ToLink l x));
       addresses = record { base = λ key. base_on t key (v.addresses.base key); pause = λ k. pause_on t k (v.addresses.pause k) };
       alarms = alarms_on o v.now t v.alarms;
       consumers = all_changed (loses_by l (closing c.args.end v.now row)) v.consumers;

@@ -2,8 +2,8 @@ use Rattle.std.proofs.Common.{◌≡◌, ◌∙◌, [], ap}
 use Rattle.pulsar_calls.specs.declared.content.Joining.{Joining}
 use Rattle.pulsar_consumer_table.specs.Consumers.{subscribed_on}
 use Rattle.pulsar_consumer_table.specs.KeptConsumers.{member_in}
-use Rattle.pulsar_acts.specs.View.{joins_as, member_on, setup_of}
-use Rattle.pulsar_acts.specs.Tables.{view_of}
+use Rattle.pulsar_acts.specs.View.{member_on, setup_of}
+use Rattle.pulsar_acts.specs.Tables.{joins_as, view_of}
 use Rattle.pulsar_acts.proofs.tables.Tables.joins.Goals as goal
 
 pub returns-clause-sees : goal.returns-clause-sees

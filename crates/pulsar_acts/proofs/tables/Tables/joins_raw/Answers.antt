@@ -3,8 +3,8 @@ use Rattle.std.proofs.lemmas.Result.{on_ok_weaker}
 use Rattle.pulsar_consumer.specs.Topic.{of_raw}
 use Rattle.pulsar_consumer_table.specs.Consumers.{subscribed_on}
 use Rattle.pulsar_consumer_table.specs.KeptConsumers.{member_in}
-use Rattle.pulsar_acts.specs.View.{joins_as, member_on}
-use Rattle.pulsar_acts.specs.Tables.{view_of}
+use Rattle.pulsar_acts.specs.View.{member_on}
+use Rattle.pulsar_acts.specs.Tables.{joins_as, view_of}
 use Rattle.pulsar_acts.proofs.tables.Tables.joins_raw.Goals as goal
 
 pub returns-clause-sees : goal.returns-clause-sees

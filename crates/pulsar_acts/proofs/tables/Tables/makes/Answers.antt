@@ -1,6 +1,5 @@
 use Rattle.std.proofs.Common.{◌∙◌, ap, sym}
-use Rattle.pulsar_acts.specs.View.{consumers_made, producers_made}
-use Rattle.pulsar_acts.specs.Tables.{view_of}
+use Rattle.pulsar_acts.specs.Tables.{consumers_made, producers_made, view_of}
 use Rattle.pulsar_acts.proofs.tables.Tables.makes.Goals as goal
 
 pub returns-in_ok-joins_raw-in-RawConsumer-clause-sees : goal.returns-in_ok-joins_raw-in-RawConsumer-clause-sees

@@ -8,7 +8,10 @@ use Rattle.pulsar_calls.specs.Content.{Shown, shown}
 use Rattle.pulsar_calls.specs.declared.act.Notice.{Notice}
 use Rattle.pulsar_calls.specs.declared.effect.Effect.{Effect}
 use Rattle.pulsar_calls.specs.Order.{below}
+use Rattle.pulsar_consumer_table.specs.Consumers.{IsPolled}
+use Rattle.pulsar_consumer_table.proofs.Asking.{changed_is}
 use Rattle.pulsar_agenda.specs.Agenda.{agenda_of}
+use Rattle.pulsar_acts.specs.Tables.{view_of}
 use Rattle.pulsar_acts.proofs.Turned.{none_left}
 use Rattle.pulsar_acts.proofs.tables.Tables.polls.Goals as goal
 
@@ -32,6 +35,11 @@ returns-in_default-clause-left c =
     let due = ap tells (sym none) ∙ c.in_ok-effect.ensures.due in
     λ i. record g { here = put_all below (due i) g.here; behind = sym (append-nil g.behind) i }
 
+pub returns-in_default-clause-sees : goal.returns-in_default-clause-sees
+returns-in_default-clause-sees c =
+    let v = view_of c.args.self.now in
+    ap (λ cs. record v { consumers = cs }) (c.in_ok-effect.ensures.after ∙ changed_is c.args.ticket (IsPolled v.now) v.consumers)
+
 pub returns-clause-out : goal.returns-clause-out
 returns-clause-out c =
     let before = map shown c.args.out.now.items in
@@ -44,3 +52,10 @@ returns-clause-left c =
     let due = sym (append-nil (option_to_list c.in-Some.notice)) ∙ ap tells (sym c.in-Some.is) ∙ c.in_ok-effect.ensures.due in
     on_ok_weaker c.join_some.result
     (λ joined. joined ∙ (λ i. record g { here = put_all below (due i) g.here; behind = sym (append-nil g.behind) i })) c.join_some.ensures
+
+pub returns-clause-sees : goal.returns-clause-sees
+returns-clause-sees c =
+    let v = view_of c.args.self.now in
+    on_ok_weaker c.join_some.result
+    (λ joined. ap (λ cs. record v { consumers = cs }) (c.in_ok-effect.ensures.after ∙ changed_is c.args.ticket (IsPolled v.now) v.consumers))
+    c.join_some.ensures

@@ -1,7 +1,9 @@
 use Rattle.std.proofs.Common.{◌∙◌, ap, sym}
 use Rattle.std.proofs.lemmas.Result.{on_ok_weaker}
 use Rattle.pulsar_calls.specs.declared.act.Outcome.TheVariants.{Refused}
+use Rattle.pulsar_calls.specs.Who.{ticket_of}
 use Rattle.pulsar_consumer_table.specs.Consumers.{numbered}
+use Rattle.pulsar_consumer_table.proofs.Asking.{numbered_is}
 use Rattle.pulsar_acts.specs.Reading.{numbering_said, tells}
 use Rattle.pulsar_agenda.specs.Agenda.{agenda_of}
 use Rattle.pulsar_acts.specs.Tables.{view_of}
@@ -20,7 +22,8 @@ returns-in-Has-clause-sees c =
     let v = view_of c.args.self.now in
     on_ok_weaker c.tell_word.result
     (λ told. ap (λ cs. record v { consumers = cs })
-    (c.in_ok-number.ensures.after ∙ ap (λ t. numbered t c.args.wanted v.consumers) c.ticket_of.ensures))
+    (c.in_ok-number.ensures.after ∙ ap (λ t. numbered t c.args.wanted v.consumers) c.ticket_of.ensures
+    ∙ numbered_is (ticket_of c.args.who) c.args.wanted v.consumers))
     c.tell_word.ensures
 
 pub returns-in-InUse-clause-left : goal.returns-in-InUse-clause-left
@@ -35,7 +38,8 @@ returns-in-InUse-clause-sees c =
     let v = view_of c.args.self.now in
     on_ok_weaker c.tell_word-in-InUse.result
     (λ told. ap (λ cs. record v { consumers = cs })
-    (c.in_ok-number.ensures.after ∙ ap (λ t. numbered t c.args.wanted v.consumers) c.ticket_of.ensures))
+    (c.in_ok-number.ensures.after ∙ ap (λ t. numbered t c.args.wanted v.consumers) c.ticket_of.ensures
+    ∙ numbered_is (ticket_of c.args.who) c.args.wanted v.consumers))
     c.tell_word-in-InUse.ensures
 
 pub returns-in_ok-cause-in-Spent-clause-left : goal.returns-in_ok-cause-in-Spent-clause-left
@@ -52,5 +56,6 @@ returns-in_ok-cause-in-Spent-clause-sees c =
     let v = view_of c.args.self.now in
     on_ok_weaker c.tell.result
     (λ told. ap (λ cs. record v { consumers = cs })
-    (c.in_ok-number.ensures.after ∙ ap (λ t. numbered t c.args.wanted v.consumers) c.ticket_of.ensures))
+    (c.in_ok-number.ensures.after ∙ ap (λ t. numbered t c.args.wanted v.consumers) c.ticket_of.ensures
+    ∙ numbered_is (ticket_of c.args.who) c.args.wanted v.consumers))
     c.tell.ensures

@@ -7,7 +7,6 @@ use Rattle.pulsar_calls.specs.declared.act.Verdict.{Verdict}
 use Rattle.pulsar_calls.specs.declared.act.Who.{Who}
 use Rattle.pulsar_calls.specs.declared.act.Who.TheVariants.{Call, Consumer, Producer}
 use Rattle.pulsar_plans.specs.declared.plan.Plan.{Plan}
-use Rattle.pulsar_plans.specs.declared.plan.Turn.{Turn}
 use Rattle.pulsar_plans.specs.Plan.{told}
 use Rattle.pulsar_calls.specs.Notices.{notice}
 use Rattle.pulsar_acts.specs.Tables.{view_of}
@@ -15,6 +14,7 @@ use Rattle.pulsar_plans.specs.Standing.{stand_of}
 use Rattle.pulsar_acts.specs.View.{stand_after, stays, stays_some, told_some}
 use Rattle.pulsar_calls.specs.Who.{is_same}
 use Rattle.pulsar_acts.proofs.tables.Tables.told.Goals as goal
+use Rattle.pulsar_plans.specs.Transitions.{PlanTransition}
 
 same : (w who : Who) → is_same w who ≡ true → w ≡ who
 same (Call t) (Call u) h = ap (λ n. Call n) (eqb-true t u (and_parts (t == u) (t == u) h).0)
@@ -24,7 +24,7 @@ same (Producer m) (Producer n) h = ap (λ n. Producer n) (eqb-true m n (and_part
 same _ _ h = absurd cc
 
 -- the plan that was taken out stands where its turn leaves it
-stands : (old taken new : Who → Option Plan) (who : Who) (plan : Plan) (o : Outcome) (turn : Turn Plan Verdict) →
+stands : (old taken new : Who → Option Plan) (who : Who) (plan : Plan) (o : Outcome) (turn : PlanTransition) →
     Some plan ≡ old who → turn ≡ told plan o → ((w : Who) → taken w ≡ cond (is_same w who) None (old w)) →
     ((w : Who) → new w ≡ cond (is_same w who) (stays turn) (taken w)) → (w : Who) → new w ≡ stand_after (Told (notice who o)) w (old w)
 stands old taken new who plan o turn was is left set w =

@@ -20,13 +20,15 @@ use Rattle.pulsar_incoming.specs.declared.polled.Ending.{Ending}
 use Rattle.pulsar_incoming.specs.declared.polled.Ending.TheVariants.{Closed, TopicEnded, Stopped}
 use Rattle.pulsar_calls.specs.declared.act.Act.{Act}
 use Rattle.pulsar_calls.specs.declared.act.Act.TheVariants.{Comes, Starts, Told, Does, Answers}
-use Rattle.pulsar_calls.specs.declared.act.Action.TheVariants.{Ask, OfConsumer}
-use Rattle.pulsar_calls.specs.declared.act.ConsumerAsk.TheVariants.{TakeFlow, Revive}
+use Rattle.pulsar_exchange.specs.Request.{closed_consumer}
+use Rattle.pulsar_calls.specs.declared.act.Action.TheVariants.{Ask, OfConsumer, StopAll}
+use Rattle.pulsar_calls.specs.declared.act.ConsumerAsk.TheVariants.{TakeFlow, Revive, Fail}
 use Rattle.pulsar_calls.specs.declared.act.Arrival.{Arrival}
 use Rattle.pulsar_calls.specs.declared.act.Arrival.TheVariants.{Nothing, Readied, Settles, Gives, Passes, Bad}
 use Rattle.pulsar_calls.specs.declared.act.Makes.{Makes}
 use Rattle.pulsar_calls.specs.declared.act.Makes.TheVariants as makes
-use Rattle.pulsar_calls.specs.declared.act.Part.TheVariants.{Polls}
+use Rattle.pulsar_calls.specs.declared.act.LinkAct.TheVariants.{Reads, Ends}
+use Rattle.pulsar_calls.specs.declared.act.Part.TheVariants.{ToLink, Polls}
 use Rattle.pulsar_calls.specs.declared.act.Procedure.{Procedure}
 use Rattle.pulsar_calls.specs.declared.act.Who.{Who}
 use Rattle.pulsar_calls.specs.declared.act.Outcome.TheVariants as outcome
@@ -36,12 +38,11 @@ use Rattle.pulsar_calls.specs.Content as content
 use Rattle.pulsar_calls.specs.Content.{Asked, Heard, Poll, Shown, Hands, Faults, FindsNothing, FindsEnd}
 use Rattle.pulsar_calls.specs.Who.{is_same, ticket_of}
 use Rattle.pulsar_consumer_table.specs.Consumers as consumer
-use Rattle.pulsar_consumer_table.specs.Consumers.{Arrives, ClientStops, CloseAsked, Deed, FlowTaken, IsPolled, IsSought, LinkEnds, Member, NotRevived, Revived, is_closed_by, member_by}
-use Rattle.pulsar_run.specs.Things.{along}
+use Rattle.pulsar_consumer_table.specs.Consumers.{Member, is_closed_by}
 use Rattle.pulsar_links.specs.Links.{line_places}
-use Rattle.pulsar_acts.specs.View.{View, member_acts, setup_of}
+use Rattle.pulsar_acts.specs.View.{View, setup_of}
 use Rattle.pulsar_machine.specs.Options.{Options}
-use Rattle.pulsar_links.specs.Seats.{Seat, answer_at, is_asked, place_of, url_at}
+use Rattle.pulsar_links.specs.Seats.{Seat, answer_at, arrival_at, closing, is_asked, place_of, url_at}
 use Rattle.pulsar_acts.specs.Rules.{call_part, notice}
 use Rattle.pulsar_acts.specs.Run.{Entry, Begins, Then, IsRun, Rests, agenda, steps, view}
 use Rattle.pulsar_calls.specs.Steps.{Step}
@@ -78,25 +79,17 @@ abbrev pub subscription_does : (link : ℕ) → Option Parts → List Done
 subscription_does l None = []
 subscription_does l (Some url) = Lives l url ∷ []
 
--- by each deed
-abbrev pub deed_does : Deed → Member → List Done
-deed_does (Arrives l a) m = arrival_does l a m.seen
-deed_does (LinkEnds l cause) m = loss_does l cause
-deed_does (CloseAsked closed l is_asked) m = close_does closed l is_asked m
-deed_does (IsPolled clock) m = Polled clock ∷ []
-deed_does (IsSought who) m = []
-deed_does FlowTaken m = Asks ∷ []
-deed_does (Revived l url) m = subscription_does l url
-deed_does (NotRevived f) m = Fails f ∷ []
-deed_does ClientStops m = Over Stopped ∷ []
-
--- by several, the newest first, and by those of an act to the consumer of a ticket
-abbrev pub deeds_do : List Deed → Member → List Done
-deeds_do [] m = []
-deeds_do (d ∷ ds) m = deed_does d (along member_by ds m) ++ deeds_do ds m
-
+-- by an act, to the consumer of a ticket
 abbrev pub does_to : View → (ticket : ℕ) → Member → Act → List Done
-does_to v t m a = deeds_do (member_acts v t a) m
+does_to v t m (Comes (ToLink l Reads)) = arrival_does l (arrival_at (v.links.live l)) m.seen
+does_to v t m (Comes (ToLink l (Ends end))) = loss_does l (closing end v.now (v.links.live l))
+does_to v t m (Comes (Polls u)) = if t == u then Polled v.now ∷ [] else []
+does_to v t m (Does who (Ask l request)) = close_does (closed_consumer request) l (is_asked (answer_at v.now request (v.links.live l))) m
+does_to v t m (Does who (OfConsumer TakeFlow)) = if t == ticket_of who then Asks ∷ [] else []
+does_to v t m (Does who (OfConsumer (Revive l))) = if t == ticket_of who then subscription_does l (url_at (v.links.live l)) else []
+does_to v t m (Does who (OfConsumer (Fail f))) = if t == ticket_of who then Fails f ∷ [] else []
+does_to v t m (Does who StopAll) = Over Stopped ∷ []
+does_to v t m _ = []
 
 -- and by the verdict that makes it: its first subscription
 abbrev pub made_as : Makes → Option Setup
@@ -221,23 +214,13 @@ arrival_ends l (Gives number reply) s = if s.number == number then frame_ends l 
 arrival_ends l Passes s = false
 arrival_ends l (Bad cause) s = false
 
-abbrev pub deed_ends : Deed → Member → Bool
-deed_ends (Arrives l a) m = arrival_ends l a m.seen
-deed_ends (LinkEnds l cause) m = is_some cause && (lives_on l m.seen && m.seen.is_raw)
-deed_ends (CloseAsked closed l is_asked) m = is_asked && is_closed_by closed l m
-deed_ends (IsPolled clock) m = false
-deed_ends (IsSought who) m = false
-deed_ends FlowTaken m = false
-deed_ends (Revived l url) m = false
-deed_ends (NotRevived f) m = true
-deed_ends ClientStops m = true
-
-abbrev pub deeds_end : List Deed → Member → Bool
-deeds_end [] m = false
-deeds_end (d ∷ ds) m = deeds_end ds m || deed_ends d (along member_by ds m)
-
 abbrev pub ends_by : View → (ticket : ℕ) → Member → Act → Bool
-ends_by v t m a = deeds_end (member_acts v t a) m
+ends_by v t m (Comes (ToLink l Reads)) = arrival_ends l (arrival_at (v.links.live l)) m.seen
+ends_by v t m (Comes (ToLink l (Ends end))) = is_some (closing end v.now (v.links.live l)) && (lives_on l m.seen && m.seen.is_raw)
+ends_by v t m (Does who (Ask l request)) = is_asked (answer_at v.now request (v.links.live l)) && is_closed_by (closed_consumer request) l m
+ends_by v t m (Does who (OfConsumer (Fail f))) = t == ticket_of who
+ends_by v t m (Does who StopAll) = true
+ends_by v t m _ = false
 
 abbrev pub ends_at : View → (ticket : ℕ) → Option Member → Act → Bool
 ends_at v t None a = false

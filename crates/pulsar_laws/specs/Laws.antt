@@ -1,11 +1,10 @@
 -- What follows from the definition of a good run, in plain words.
 use Rattle.std.specs.Prelude.{◌≡◌, ◌⊎◌, ℕ, ◌+◌, ◌-◌, ◌^◌, ◌≤◌, ◌==◌, nat_le, nat_lt, ◌&&◌, not, Bool, true, false, if◌then◌else◌, List, [], ◌∷◌, ◌++◌, Option, Some, None, Result, Err, pos}
-use Rattle.std.specs.List.{filter_map, flat_map, list_any}
+use Rattle.std.specs.List.{flat_map, list_any}
 use Rattle.std.specs.Option.{is_some, option_to_list}
 use Rattle.pulsar_run.specs.Laws.{Arises, In, InThisStep}
 use Rattle.pulsar_run.specs.Order.{AllInOrder, InOrder, arranged}
 use Rattle.pulsar_run.specs.Run.{events, steps_done}
-use Rattle.pulsar_run.specs.Things.{since}
 use Rattle.pulsar_wire.specs.declared.error.ConnectionError.{ConnectionError}
 use Rattle.pulsar_frame.specs.Frame.{cut}
 use Rattle.pulsar_frame.specs.Message.{MessageValues}
@@ -15,7 +14,7 @@ use Rattle.pulsar_requests.specs.Waits.{Pending, Waits, is_listed, later_of, req
 use Rattle.pulsar_session.specs.declared.states.Asked.{Asked as Placed}
 use Rattle.pulsar_wire.specs.Failures.{ProducerClosed, OfProducer, ConsumerClosed, OfConsumer, DiscoveryConnection, DiscoveryCanceled, DiscoveryFault, DiscoveryNotFound, DiscoveryShutdown, DnsLookup, Dummy, Exhausted, Failure, Fault, OfConnection, OfDiscovery, OfPartialSend, Query, Disconnected}
 use Rattle.pulsar_session.specs.Laws.{bytes_fed, messages_taken}
-use Rattle.pulsar_session.specs.Link.{Act as Act', Seen, Setup, came, due, ends}
+use Rattle.pulsar_session.specs.Link.{Act as Act', Asks, Feeds, Seen, Setup, came, due, ends}
 use Rattle.pulsar_messages.specs.Claims.{is_spent}
 use Rattle.pulsar_exchange.specs.Messages.{Reply, read}
 use Rattle.pulsar_exchange.specs.Request.{closed_consumer, request_number}
@@ -28,7 +27,7 @@ use Rattle.pulsar_searches.specs.declared.turn.Ways.{Ways}
 use Rattle.pulsar_frame.specs.Reply.{Reply as Content, is_body}
 use Rattle.pulsar_links.specs.Alarms.{ringing, rings}
 use Rattle.pulsar_calls.specs.declared.act.Act.{Act}
-use Rattle.pulsar_calls.specs.declared.act.Act.TheVariants.{Comes, Starts, Told, Does, Answers}
+use Rattle.pulsar_calls.specs.declared.act.Act.TheVariants.{Comes, Starts, Told, Does, Answers, Dials}
 use Rattle.pulsar_calls.specs.declared.act.Action.{Action}
 use Rattle.pulsar_calls.specs.declared.act.Action.TheVariants.{OfTopic, Get, Ask, Number, Hold, Shut, TakeNumber, Tell, TellAll, StopAll, Rest, OfConsumer}
 use Rattle.pulsar_calls.specs.declared.act.ConsumerAsk.TheVariants.{Find as FindConsumer, TakeFlow, Recall as RecallConsumer, Revive, Fail as FailConsumer}
@@ -58,7 +57,7 @@ use Rattle.pulsar_calls.specs.declared.act.Word.TheVariants as word
 use Rattle.pulsar_calls.specs.declared.content.Joining.{Joining}
 use Rattle.pulsar_links.specs.declared.addresses.Series.TheVariants.{Runs}
 use Rattle.pulsar_plans.specs.declared.plan.Plan.{Plan}
-use Rattle.pulsar_calls.specs.Content.{Asked, Ticked, Said, Shown, Queued, Write, Failed, lacks_tickets, shares, numbers_from}
+use Rattle.pulsar_calls.specs.Content.{Asked, Bytes, Ticked, Said, Shown, Queued, Write, Failed, lacks_tickets, shares, numbers_from}
 use Rattle.pulsar_calls.specs.Order.{effect_below, is_before3, below}
 use Rattle.pulsar_links.specs.Links.{arrival, call_of, closed_by, line_places, new_places}
 use Rattle.pulsar_calls.specs.Parts.{outcomes_of}
@@ -66,7 +65,6 @@ use Rattle.pulsar_producer_table.specs.Producers.{advice, turn_passed, drawn, is
 use Rattle.pulsar_producer.specs.Topic as topic
 use Rattle.pulsar_plans.specs.Plan.{begins, failure_of, fails, fault_of, reply_says, told}
 use Rattle.pulsar_acts.specs.Rules.{call_part, notice, starts, stopped_with, brings}
-use Rattle.pulsar_links.specs.Asks.{call_by}
 use Rattle.pulsar_links.specs.LinkRules.{dropped, fails_so}
 use Rattle.pulsar_acts.specs.Run.{Entry, Begins, Then, Good, IsRun, Rests, agenda, rules, steps, tickets_in, view}
 use Rattle.pulsar_calls.specs.Steps.{Step}
@@ -77,8 +75,7 @@ use Rattle.pulsar_consumer_table.specs.declared.row.LinkAnswer.TheVariants.{Gone
 use Rattle.pulsar_consumer.specs.Plans.{in_use, not_found}
 use Rattle.pulsar_incoming.specs.declared.orders.ConsumerOrder.{ConsumerOrder}
 use Rattle.pulsar_consumer.specs.Topic as reader
-use Rattle.pulsar_acts.specs.Things as things
-use Rattle.pulsar_acts.specs.View.{View, builds, link_born, member_on, pause_of, setup_of, room_of}
+use Rattle.pulsar_acts.specs.View.{View, builds, member_on, pause_of, setup, setup_of, room_of}
 use Rattle.pulsar_machine.specs.Options.{Options}
 use Rattle.pulsar_links.specs.Seats.{Base, Seat, answer_at, arrival_at, closing, is_asked, url_at}
 use Rattle.pulsar_calls.specs.Who.{in_turn, is_same, rank, ticket_of, turn_of as taken_as}
@@ -662,17 +659,20 @@ call_at x now (Some seat) = option_to_list (call_of x now seat.seen)
 
 -- the calls of the connection of a link since it was dialed, newest first
 abbrev pub calls_of : Options → ℕ → List Entry → List Act'
-calls_of o l log = filter_map call_by (since rules things.links o log l)
+calls_of o l [] = []
+calls_of o l (Begins (Bytes k piece) ∷ log) = if l == k then Feeds piece ∷ calls_of o l log else calls_of o l log
+calls_of o l (Then (Comes (ToLink k x)) ∷ log) =
+    if l == k then call_at x (view o log).now ((view o log).links.live l) ++ calls_of o l log else calls_of o l log
+calls_of o l (Then (Does who (Ask k request)) ∷ log) = if l == k then Asks (view o log).now request ∷ calls_of o l log else calls_of o l log
+calls_of o l (Then (Dials p starter retries) ∷ log) = if l == (view o log).links.started then [] else calls_of o l log
+calls_of o l (_ ∷ log) = calls_of o l log
 
 -- what it was dialed with
-abbrev pub dialed_last : Option Seat → Option Setup → Option Setup
-dialed_last None before = before
-dialed_last (Some seat) before = Some seat.seen.setup
-
 abbrev pub dialed_with : Options → ℕ → List Entry → Option Setup
 dialed_with o l [] = None
-dialed_with o l (Begins e ∷ log) = dialed_with o l log
-dialed_with o l (Then a ∷ log) = dialed_last (link_born (view o log) l a) (dialed_with o l log)
+dialed_with o l (Then (Dials p starter retries) ∷ log) =
+    if l == (view o log).links.started then Some (setup o.chosen l (view o log).now p) else dialed_with o l log
+dialed_with o l (_ ∷ log) = dialed_with o l log
 
 -- A link that has not ended is what the calls of its connection made of it, and nothing else. So all that holds of a connection over
 -- any acts holds of it: its requests are settled by the first later frame that bears their key, what is written is the first of what

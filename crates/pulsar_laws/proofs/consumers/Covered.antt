@@ -16,8 +16,9 @@ use Rattle.pulsar_calls.specs.declared.act.Word.TheVariants as word
 use Rattle.pulsar_consumer_table.specs.Consumers.{Arrives, CloseAsked, Deed, FlowTaken, LinkEnds, Member, Revived, is_closed_by}
 use Rattle.pulsar_laws.proofs.Cases.{none_some, some_is}
 use Rattle.pulsar_laws.proofs.calls.Ticketed.{consumer_ticket}
-use Rattle.pulsar_laws.specs.ConsumerLaws.{Flow, arrival_does, deed_does, deeds_do, does_to, done_since, done_to, flows_after, flows_since, frame_does, loss_does, made_with, permits_of}
+use Rattle.pulsar_laws.specs.ConsumerLaws.{Flow, arrival_does, does_to, done_since, done_to, flows_after, flows_since, frame_does, loss_does, made_with, permits_of, subscription_does}
 use Rattle.pulsar_laws.proofs.producers.Drawing.{Every, here}
+use Rattle.pulsar_laws.proofs.consumers.Deeds.{deed_does, deeds_do}
 use Rattle.pulsar_laws.proofs.consumers.Lone.{IsKept, IsMade, IsNone, RowFrom, begun_rows, consumers_alone_lem, did_so, is_revival, row_from}
 use Rattle.pulsar_laws.proofs.consumers.Members.{CameFrom}
 use Rattle.pulsar_laws.proofs.consumers.Placed.{IsPlaced, asked_there, is_placed}
@@ -88,7 +89,7 @@ does_new : (v : View) (t : ℕ) (m : Member) (a : Act) (fs : List Flow) → (mak
 does_new v t m (Does who (OfConsumer (Revive l))) fs = by (t == ticket_of who) (v.links.live l)
   where
     by : (b : Bool) (row : Option Seat) →
-        (makes_new (deeds_do (cond b (Revived l (url_at row) ∷ []) []) m) ≡ false) ⊎ (cond (b && is_some row) [] fs ≡ [])
+        (makes_new (cond b (subscription_does l (url_at row)) []) ≡ false) ⊎ (cond (b && is_some row) [] fs ≡ [])
     by true None = inl refl
     by true (Some seat) = inr refl
     by false row = inl refl
@@ -129,7 +130,7 @@ module _ (once : EndsOnce) (o : Options) (log : List Entry) (n t l m p : ℕ) (r
       (asked_there o x.older n t told_so x.was_due.member x.was_due.is_there)
       ∙ row_done (view o x.older) t (Does (Consumer n t) (OfConsumer TakeFlow)) x.was_due.member ((view o x.older).consumers.rows t)
       (done_to o t x.older) x.was_due.is_there
-      ∙ ap (λ b. deeds_do (cond b (FlowTaken ∷ []) []) x.was_due.member ++ done_to o t x.older) (eq-eqb t t refl)
+      ∙ ap (λ b. (cond b (Asks ∷ []) []) ++ done_to o t x.older) (eq-eqb t t refl)
 
   -- its permits count as taken
   pub taken_then : (s : Setup) → made_with t log ≡ Some s → asked_since s (done_to o t log) ≡ asked_since s (done_to o t x.older) + p

@@ -33,10 +33,11 @@ use Rattle.pulsar_acts.specs.View.{consumers_left, consumers_listed, listed_as, 
 use Rattle.pulsar_links.specs.LinkRules.{answered_on}
 use Rattle.pulsar_laws.proofs.Cases.{none_some, some_is}
 use Rattle.pulsar_laws.proofs.Lists.{in_right, into_flat}
-use Rattle.pulsar_laws.proofs.consumers.Lone.{applied, applied_append, deeds_did, did_so, joins_here, none_after}
+use Rattle.pulsar_laws.proofs.consumers.Lone.{applied, applied_append, arrival_done, did_so, joins_here, none_after, subscription_done}
 use Rattle.pulsar_laws.proofs.calls.Same.{same_self}
 use Rattle.pulsar_laws.proofs.consumers.Members.{CameFrom, either_number, lost_gone, polled_number, row_made}
-use Rattle.pulsar_laws.specs.ConsumerLaws.{deed_does, deeds_do, does_to}
+use Rattle.pulsar_laws.specs.ConsumerLaws.{does_to, subscription_does}
+use Rattle.pulsar_laws.proofs.consumers.Deeds.{deed_does, deeds_do}
 
 -- THE TICKETS of all consumers are known
 
@@ -331,25 +332,25 @@ module _ (o : Options) (log : List Entry) (t : ℕ) (m : Member) (there : (view 
         inl (inr (inr (inl (opened_in (word_notice t m word.Due) (front ++ heard_on v l) (in_right (word_notice t m word.Due) front (heard_on v l) all))))))
   ]
 
-  polls_due : (u : ℕ) → is_due (applied (deeds_do (cond (t == u) (IsPolled v.now ∷ []) []) m) m.seen) ≡ true → Rises (Comes (Polls u))
+  polls_due : (u : ℕ) → is_due (applied (cond (t == u) (Polled v.now ∷ []) []) m.seen) ≡ true → Rises (Comes (Polls u))
   polls_due u h = elim (cases_Bool (t == u)) [
-    | inr e ↦ inr (sym (ap (λ b. is_due (applied (deeds_do (cond b (IsPolled v.now ∷ []) []) m) m.seen)) e) ∙ h)
+    | inr e ↦ inr (sym (ap (λ b. is_due (applied (cond b (Polled v.now ∷ []) []) m.seen)) e) ∙ h)
     | inl e ↦
         (let n : Member = member_after (Polled v.now) m in
-        let d : is_due n.seen ≡ true = sym (ap (λ b. is_due (applied (deeds_do (cond b (IsPolled v.now ∷ []) []) m) m.seen)) e) ∙ h in
+        let d : is_due n.seen ≡ true = sym (ap (λ b. is_due (applied (cond b (Polled v.now ∷ []) []) m.seen)) e) ∙ h in
         let i : In (due_to_plan m.seen.number t) (map Told (due_at t (option_map (member_after (Polled v.now)) (v.consumers.rows t)))) =
         subst (λ row. In (due_to_plan m.seen.number t) (map Told (due_at t (option_map (member_after (Polled v.now)) row)))) (sym there)
         (renamed n (due_at t (Some n)) (polled_number v.now m.seen) (due_there t n d)) in
         inl (subst (λ x. Arises rules o (due_to_plan m.seen.number t) (Then (Comes (Polls x))) log) (eqb-true t u e) (inr (inl i))))
   ]
 
-  pub revived_due : (who : Who) (l : ℕ) → (t == ticket_of who) ≡ true → is_due (applied (deeds_do (Revived l (url_at (v.links.live l)) ∷ []) m) m.seen) ≡ true →
+  pub revived_due : (who : Who) (l : ℕ) → (t == ticket_of who) ≡ true → is_due (applied (subscription_does l (url_at (v.links.live l))) m.seen) ≡ true →
       Arises rules o (due_to_plan m.seen.number t) (Then (Does who (OfConsumer (Revive l)))) log
   revived_due who l e h =
       let url : Option Parts = url_at (v.links.live l) in
       let n : Member = revived l url m in
       let i : In (due_to_plan m.seen.number t) (map Told (due_at t (Some n))) =
-      renamed n (due_at t (Some n)) (seen_number url) (due_there t n (ap is_due (deeds_did (Revived l url ∷ []) m) ∙ h)) in
+      renamed n (due_at t (Some n)) (seen_number url) (due_there t n (ap is_due (subscription_done l url m) ∙ h)) in
       let j : In (due_to_plan m.seen.number t) (map Told (again_at (v.consumers.rows t) ++ due_at t (option_map (revived l url) (v.consumers.rows t)))) =
       due_append m.seen.number t (again_at (v.consumers.rows t)) (due_at t (option_map (revived l url) (v.consumers.rows t)))
       (subst (λ row. In (due_to_plan m.seen.number t) (map Told (due_at t (option_map (revived l url) row)))) (sym there) i) in
@@ -358,17 +359,17 @@ module _ (o : Options) (log : List Entry) (t : ℕ) (m : Member) (there : (view 
       (eqb-true t (ticket_of who) e) j))
     where
       seen_number : (url : Option Parts) → (revived l url m).seen.number ≡ m.seen.number
-      seen_number url = ap (λ (s : Seen). s.number) (deeds_did (Revived l url ∷ []) m) ∙ applied_number (deeds_do (Revived l url ∷ []) m) m.seen
+      seen_number url = ap (λ (s : Seen). s.number) (subscription_done l url m) ∙ applied_number (subscription_does l url) m.seen
 
-  revive_due : (who : Who) (l : ℕ) → is_due (applied (deeds_do (cond (t == ticket_of who) (Revived l (url_at (v.links.live l)) ∷ []) []) m) m.seen) ≡ true →
+  revive_due : (who : Who) (l : ℕ) → is_due (applied (cond (t == ticket_of who) (subscription_does l (url_at (v.links.live l))) []) m.seen) ≡ true →
       Rises (Does who (OfConsumer (Revive l)))
   revive_due who l h = elim (cases_Bool (t == ticket_of who)) [
-    | inr e ↦ inr (sym (ap (λ b. is_due (applied (deeds_do (cond b (Revived l (url_at (v.links.live l)) ∷ []) []) m) m.seen)) e) ∙ h)
-    | inl e ↦ inl (revived_due who l e (sym (ap (λ b. is_due (applied (deeds_do (cond b (Revived l (url_at (v.links.live l)) ∷ []) []) m) m.seen)) e) ∙ h))
+    | inr e ↦ inr (sym (ap (λ b. is_due (applied (cond b (subscription_does l (url_at (v.links.live l))) []) m.seen)) e) ∙ h)
+    | inl e ↦ inl (revived_due who l e (sym (ap (λ b. is_due (applied (cond b (subscription_does l (url_at (v.links.live l))) []) m.seen)) e) ∙ h))
   ]
 
   pub rises : (a : Act) → is_waker a ≡ true → is_due (applied (does_to v t m a) m.seen) ≡ true → Rises a
-  rises (Comes (ToLink l Reads)) w h = reads_due l (ap is_due (deeds_did (Arrives l (arrival_at (v.links.live l)) ∷ []) m) ∙ h)
+  rises (Comes (ToLink l Reads)) w h = reads_due l (ap is_due (arrival_done l (arrival_at (v.links.live l)) m) ∙ h)
   rises (Comes (Polls u)) w h = polls_due u h
   rises (Does who (OfConsumer (Revive l))) w h = revive_due who l h
   rises a w h = absurd cc

@@ -22,8 +22,9 @@ use Rattle.pulsar_run.specs.Things.{along}
 use Rattle.pulsar_acts.specs.View.{member_acts}
 use Rattle.pulsar_laws.proofs.Cases.{none_some, some_is}
 use Rattle.pulsar_laws.proofs.calls.Ticketed.{consumer_ticket, older_ticket}
-use Rattle.pulsar_laws.specs.ConsumerLaws.{ConsumersEnd, ConsumersRemain, PermitsAreKept, arrival_does, arrival_ends, deed_does, deed_ends, deeds_do, deeds_end, does_to, done_to, ends_at, ends_by, frame_does, frame_ends, has_ended, loss_does, made_with, subscription_does}
+use Rattle.pulsar_laws.specs.ConsumerLaws.{ConsumersEnd, ConsumersRemain, PermitsAreKept, arrival_does, arrival_ends, does_to, done_to, ends_at, ends_by, frame_does, frame_ends, has_ended, loss_does, made_with, subscription_does}
 use Rattle.pulsar_laws.proofs.consumers.Finished.{half_is_left}
+use Rattle.pulsar_laws.proofs.consumers.Deeds.{deed_does, deed_ends, deeds_do, deeds_end, same_does, same_ends}
 use Rattle.pulsar_laws.proofs.consumers.Lone.{IsKept, IsMade, IsNone, RowFrom, applied, applied_append, begun_rows, consumers_alone_lem, deeds_did, row_from}
 
 or_false : (b : Bool) → b ≡ (b || false)
@@ -145,7 +146,10 @@ deeds_ended (d ∷ ds) m =
     ∙ or_next (is_ended m.seen) (deeds_end ds m) (deed_ends d n)
 
 pub does_end : (v : View) (t : ℕ) (m : Member) (a : Act) → EndsSo (does_to v t m a) m.seen (ends_by v t m a)
-does_end v t m a = deeds_ended (member_acts v t a) m
+does_end v t m a =
+    ap (λ xs. is_ended (applied xs m.seen)) (same_does v t m a)
+    ∙ deeds_ended (member_acts v t a) m
+    ∙ ap (λ b. is_ended m.seen || b) (sym (same_ends v t m a))
 
 -- ALONG A LOG
 

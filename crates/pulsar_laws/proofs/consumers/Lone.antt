@@ -20,8 +20,9 @@ use Rattle.pulsar_run.specs.Things.{along, row_after as row_of, row_by}
 use Rattle.pulsar_run.proofs.Things.{row_stays}
 use Rattle.pulsar_laws.proofs.Cases.{none_some}
 use Rattle.pulsar_laws.proofs.calls.Ticketed.{consumer_ticket}
-use Rattle.pulsar_laws.specs.ConsumerLaws.{ConsumersAlone, arrival_does, deed_does, deeds_do, does_to, done_since, done_to, frame_does, loss_does, made_as, made_with, making_does, subscription_does}
+use Rattle.pulsar_laws.specs.ConsumerLaws.{ConsumersAlone, arrival_does, does_to, done_since, done_to, frame_does, loss_does, made_as, made_with, making_does, subscription_does}
 use Rattle.pulsar_laws.specs.Laws.{end_of}
+use Rattle.pulsar_laws.proofs.consumers.Deeds.{deed_does, deeds_do, same_does}
 use Rattle.pulsar_laws.proofs.consumers.Members.{CameFrom, came_from, row_made}
 
 -- WHAT ACTS MAKE OF WHAT IS SEEN
@@ -62,7 +63,7 @@ loss_done : (l : ℕ) (cause : Option Fault) (m : Member) → IsDone (loses_by l
 loss_done l None m = refl
 loss_done l (Some cause) m = refl
 
-subscription_done : (l : ℕ) (url : Option Parts) (m : Member) → IsDone (subscribed_on l url m) (subscription_does l url) m.seen
+pub subscription_done : (l : ℕ) (url : Option Parts) (m : Member) → IsDone (subscribed_on l url m) (subscription_does l url) m.seen
 subscription_done l None m = refl
 subscription_done l (Some url) m = refl
 
@@ -97,7 +98,7 @@ deeds_did (d ∷ ds) m =
 pub did_so : (Q : List Done → Seen → Type 0) → ((s : Seen) → Q [] s) →
     ((xs ys : List Done) (s : Seen) → Q ys s → Q xs (applied ys s) → Q (xs ++ ys) s) → (v : View) (t : ℕ) (a : Act) →
     ((d : Deed) → CameFrom v t a d → (m : Member) → Q (deed_does d m) m.seen) → (m : Member) → Q (does_to v t m a) m.seen
-did_so Q none more v t a one m = all (member_acts v t a) (came_from v t a)
+did_so Q none more v t a one m = subst (λ xs. Q xs m.seen) (sym (same_does v t m a)) (all (member_acts v t a) (came_from v t a))
   where
     all : (ds : List Deed) → Each (CameFrom v t a) ds → Q (deeds_do ds m) m.seen
     all [] c = none m.seen
@@ -144,7 +145,7 @@ row_after v t m h a other =
     record {
       row = along member_by (member_acts v t a) m;
       is_it = by_acts v t a (Some m) other h ∙ row_stays member_by (member_acts v t a) m;
-      seen = deeds_did (member_acts v t a) m;
+      seen = deeds_did (member_acts v t a) m ∙ ap (λ xs. applied xs m.seen) (sym (same_does v t m a));
     }
 
 -- NO CONSUMER OF A CALL THAT HAS NOT ENDED

@@ -23,7 +23,7 @@ use Rattle.pulsar_laws.proofs.consumers.Lone.{IsKept, IsMade, IsNone, RowFrom, r
 use Rattle.pulsar_laws.proofs.consumers.Members.{lost_gone}
 use Rattle.pulsar_laws.proofs.consumers.Riding.{IsFresh, link_from}
 use Rattle.pulsar_laws.proofs.consumers.Rows.{actor_row, EndedRow, ended_next, ends_here, Numbered, stays_ended}
-use Rattle.pulsar_laws.specs.ConsumerLaws.{arrival_ends, deeds_end, frame_ends}
+use Rattle.pulsar_laws.specs.ConsumerLaws.{arrival_ends, frame_ends}
 use Rattle.pulsar_laws.specs.Laws.{ClosesSo, HearsSo}
 
 -- WHO IT IS
@@ -239,12 +239,10 @@ module _ (once : EndsOnce) (o : Options) (n t : ℕ) where
   over_here log a run (inl (OfConsumer (Revive l), is, said)) =
       ended_seen log a run (OfConsumer (Revive l)) is (λ e. absurd cc)
       (λ m there r. ended_next once o log (Does who (OfConsumer (Revive l))) t m r there
-      (ap (λ b. is_ended m.seen || deeds_end (cond b (Revived l (url_at ((view o log).links.live l)) ∷ []) []) m) (eq-eqb t t refl)
-      ∙ ap (λ b. b || false) (sym (ap consumer.is_ended_at there) ∙ said)))
+      (ap (λ b. b || false) (sym (ap consumer.is_ended_at there) ∙ said)))
   over_here log a run (inl (OfConsumer (FailConsumer f), is, said)) =
       ended_seen log a run (OfConsumer (FailConsumer f)) is (λ e. absurd cc)
-      (λ m there r. ends_here once o log (Does who (OfConsumer (FailConsumer f))) t m r there
-      (ap (λ b. deeds_end (cond b (NotRevived f ∷ []) []) m) (eq-eqb t t refl)))
+      (λ m there r. ends_here once o log (Does who (OfConsumer (FailConsumer f))) t m r there (eq-eqb t t refl))
   over_here log a run (inl (action, is, said)) = absurd said
   over_here log a run (inr (inl k)) = heard_ended log a word.Over refl run k
   over_here log a run (inr (inr (inl (l, u, end, m, is, serves, h)))) = absurd (loss_over l _ m word.Over refl h)

@@ -35,7 +35,8 @@ use Rattle.pulsar_incoming.specs.declared.polled.Ending.TheVariants.{Closed, Top
 use Rattle.pulsar_incoming.specs.declared.polled.Polled.{Polled as Answer}
 use Rattle.pulsar_consumer.proofs.Histories.{polls_give_arrivals, polls_give_the_next}
 use Rattle.pulsar_consumer_table.specs.Consumers.{Arrives, ClientStops, CloseAsked, Deed, FlowTaken, IsPolled, IsSought, LinkEnds, Member, NotRevived, Revived, is_closed_by, polled, polled_so}
-use Rattle.pulsar_laws.specs.ConsumerLaws.{PollsAreAnswered, PollsFollow, arrival_does, deed_does, deeds_do, does_to, done_to, frame_does, given_by, items_given, loss_does, made_with, shows_next, subscription_does}
+use Rattle.pulsar_laws.specs.ConsumerLaws.{PollsAreAnswered, PollsFollow, arrival_does, does_to, done_to, frame_does, given_by, items_given, loss_does, made_with, shows_next, subscription_does}
+use Rattle.pulsar_laws.proofs.consumers.Deeds.{deed_does, deeds_do}
 use Rattle.pulsar_laws.proofs.consumers.Lone.{IsKept, IsMade, IsNone, RowFrom, StandsSo, begun_rows, consumers_alone_lem, did_so, row_from}
 use Rattle.pulsar_laws.proofs.consumers.Members.{CameFrom}
 use Rattle.pulsar_consumer.specs.Topic as reader
@@ -315,13 +316,13 @@ module _ (once : EndsOnce) (o : Options) (t : ℕ) (un : is_spent t ≡ false) w
             w.2
             ∙ ap (λ x. items_given t (steps o log) ++ x) gave
             ∙ ap (λ x. x ++ item_in (reader.polled (seen s (done_to o t log)))) before
-            ∙ ap (λ b. given s (deeds_do (cond b (IsPolled (view o log).now ∷ []) []) m ++ done_to o t log)) (sym same))
+            ∙ ap (λ b. given s ((cond b (Polled (view o log).now ∷ []) []) ++ done_to o t log)) (sym same))
         | inr other ↦
             (w.2
             ∙ ap (λ x. items_given t (steps o log) ++ x) (other_item t u w.0.seen.topic (reader.polled w.0.seen) other)
             ∙ append-nil (items_given t (steps o log))
             ∙ before
-            ∙ ap (λ b. given s (deeds_do (cond b (IsPolled (view o log).now ∷ []) []) m ++ done_to o t log)) (sym other))
+            ∙ ap (λ b. given s ((cond b (Polled (view o log).now ∷ []) []) ++ done_to o t log)) (sym other))
       ]
   kept_given a log m e run s is before true h = absurd cc
 

@@ -22,8 +22,9 @@ use Rattle.pulsar_calls.specs.declared.content.Joining.{Joining}
 use Rattle.pulsar_consumer_table.specs.Consumers.{Arrives, ClientStops, CloseAsked, Deed, FlowTaken, IsPolled, IsSought, LinkEnds, Member, NotRevived, Revived, is_closed_by, subscribed_on}
 use Rattle.pulsar_laws.proofs.Cases.{none_some, some_is}
 use Rattle.pulsar_laws.proofs.calls.Ticketed.{consumer_ticket}
-use Rattle.pulsar_laws.specs.ConsumerLaws.{arrival_does, deed_does, deeds_do, does_to, done_since, done_to, frame_does, loss_does, made_as, made_with, making_does, subscription_does}
+use Rattle.pulsar_laws.specs.ConsumerLaws.{arrival_does, does_to, done_since, done_to, frame_does, loss_does, made_as, made_with, making_does, subscription_does}
 use Rattle.pulsar_laws.proofs.consumers.Ended.{after_made}
+use Rattle.pulsar_laws.proofs.consumers.Deeds.{deed_does, deeds_do}
 use Rattle.pulsar_laws.proofs.consumers.Lone.{IsKept, IsMade, IsNone, RowFrom, applied, applied_append, begun_rows, did_so, is_revival, none_after, row_from}
 use Rattle.pulsar_laws.proofs.consumers.Members.{CameFrom}
 use Rattle.pulsar_laws.proofs.links.Ready.{IsAt, IsReady, WasReady, more_ready}
@@ -341,18 +342,18 @@ module _ (o : Options) (log : List Entry) (t : ℕ) where
   tame_by (Does who (OfConsumer (Revive l))) m = elim (cases_Bool (t == ticket_of who)) [
     | inl e ↦ on_row ((view o log).links.live l) refl e
     | inr e ↦
-        inl (subst (λ b. Tame (deeds_do (cond b (Revived l (url_at ((view o log).links.live l)) ∷ []) []) m) m.seen) (sym e) (tame_none m.seen))
+        inl (subst (λ b. Tame (cond b (subscription_does l (url_at ((view o log).links.live l))) []) m.seen) (sym e) (tame_none m.seen))
   ]
     where
-      none : (b : Bool) → Tame (deeds_do (cond b (Revived l None ∷ []) []) m) m.seen
+      none : (b : Bool) → Tame (cond b (subscription_does l None) []) m.seen
       none true = tame_none m.seen
       none false = tame_none m.seen
 
       on_row : (row : Option Seat) → (view o log).links.live l ≡ row → (t == ticket_of who) ≡ true →
-          Tame (deeds_do (cond (t == ticket_of who) (Revived l (url_at ((view o log).links.live l)) ∷ []) []) m) m.seen
+          Tame (cond (t == ticket_of who) (subscription_does l (url_at ((view o log).links.live l))) []) m.seen
           ⊎ Revives (Does who (OfConsumer (Revive l)))
       on_row None f e =
-          inl (subst (λ r. Tame (deeds_do (cond (t == ticket_of who) (Revived l (url_at r) ∷ []) []) m) m.seen) (sym f) (none (t == ticket_of who)))
+          inl (subst (λ r. Tame (cond (t == ticket_of who) (subscription_does l (url_at r)) []) m.seen) (sym f) (none (t == ticket_of who)))
       on_row (Some seat) f e = inr (who, l, refl, (λ i. e i && is_some (f i)))
   tame_by a m = inl (tame_other (view o log) t a refl m)
 
@@ -364,7 +365,7 @@ module _ (o : Options) (log : List Entry) (t : ℕ) where
       again_rides o log (Does who (OfConsumer (Revive l))) t m n was is l (revives_ready o log who l run) (λ end k at. absurd cc) (λ k h. by
       (t == ticket_of who) k h)
     where
-      by : (b : Bool) (k : ℕ) → link_of (applied (deeds_do (cond b (Revived l (url_at ((view o log).links.live l)) ∷ []) []) m) m.seen) ≡ Some k →
+      by : (b : Bool) (k : ℕ) → link_of (applied (cond b (subscription_does l (url_at ((view o log).links.live l))) []) m.seen) ≡ Some k →
           (link_of m.seen ≡ Some k) ⊎ ((k ≡ l) × IsLive (view o log) l)
       by true k h =
           subscription_link l ((view o log).links.live l) m.seen k

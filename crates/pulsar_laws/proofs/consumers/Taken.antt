@@ -11,9 +11,10 @@ use Rattle.pulsar_calls.specs.declared.act.Word.TheVariants as word
 use Rattle.pulsar_consumer_table.specs.Consumers.{Arrives, CloseAsked, Deed, FlowTaken, LinkEnds, Member, Revived, flow_at, flow_on, is_closed_by}
 use Rattle.pulsar_laws.proofs.Cases.{none_some, some_is}
 use Rattle.pulsar_laws.proofs.calls.Ticketed.{consumer_ticket}
-use Rattle.pulsar_laws.specs.ConsumerLaws.{Flow, FlowsAreCounted, arrival_does, deed_does, deeds_do, does_to, done_to, flows_after, flows_since, frame_does, loss_does, made_with, permits_of, subscription_does}
+use Rattle.pulsar_laws.specs.ConsumerLaws.{Flow, FlowsAreCounted, arrival_does, does_to, done_to, flows_after, flows_since, frame_does, loss_does, made_with, permits_of, subscription_does}
 use Rattle.pulsar_laws.proofs.producers.Drawing.{Every, here}
 use Rattle.pulsar_laws.proofs.consumers.Flows.{flows_are_asked_lem}
+use Rattle.pulsar_laws.proofs.consumers.Deeds.{deed_does, deeds_do}
 use Rattle.pulsar_laws.proofs.consumers.Lone.{applied, did_so, IsKept, IsMade, IsNone, RowFrom, begun_rows, consumers_alone_lem, row_from}
 use Rattle.pulsar_laws.proofs.consumers.Members.{CameFrom}
 use Rattle.pulsar_laws.proofs.consumers.Placed.{IsPlaced, is_placed}
@@ -231,7 +232,7 @@ module _ (once : EndsOnce) (o : Options) (log : List Entry) (t : ℕ) (k : Every
           ap (λ y. first_due (seen y (done_to o t log)).engine.live) (sym same) ∙ ap (λ y. first_due y.engine.live) (sym c.2)
           ∙ flow_none m (ap flow_at (sym is) ∙ none) in
           let a : asked_since s (does_to v t m (Does w (OfConsumer TakeFlow)) ++ done_to o t log) ≡ asked_since s (done_to o t log) + 0 =
-          ap (λ b. asked_since s (deeds_do (cond b (FlowTaken ∷ []) []) m ++ done_to o t log)) d
+          ap (λ b. asked_since s ((cond b (Asks ∷ []) []) ++ done_to o t log)) d
           ∙ ap (λ y. asked_since s (done_to o t log) + unwrap_or y 0) due in
           omega (arith, le, a)
 
@@ -279,7 +280,7 @@ module _ (once : EndsOnce) (o : Options) (log : List Entry) (t : ℕ) (k : Every
       url = seat.address.url
 
       does : does_to v t m (Does who (OfConsumer (Revive j))) ≡ Lives j url ∷ []
-      does = (λ i. deeds_do (cond (d i) (Revived j (url_at (e i)) ∷ []) []) m)
+      does = (λ i. (cond (d i) (subscription_does j (url_at (e i))) []))
 
       by : (b : Bool) → is_ended m.seen ≡ b → asked_since s (does_to v t m (Does who (OfConsumer (Revive j))) ++ done_to o t log) ≡ 0
       by true ended =
@@ -300,7 +301,7 @@ module _ (once : EndsOnce) (o : Options) (log : List Entry) (t : ℕ) (k : Every
           ap (λ xs. asked_since s (xs ++ done_to o t log)) does ∙ ap (λ b. cond b (asked_since s (done_to o t log)) 0) e
 
   revives_takes : (m : Member) (j : ℕ) (b : Bool) (row : Option Seat) → (b && is_some row) ≡ false →
-      takes_in (deeds_do (cond b (Revived j (url_at row) ∷ []) []) m) ≡ false
+      takes_in (cond b (subscription_does j (url_at row)) []) ≡ false
   revives_takes m j true None h = refl
   revives_takes m j true (Some seat) h = absurd cc
   revives_takes m j false row h = refl
@@ -345,7 +346,7 @@ module _ (once : EndsOnce) (o : Options) (log : List Entry) (t : ℕ) (k : Every
     | inl d ↦ took_settled who l s m run from is made d
     | inr d ↦
         quiet_settled (Does who (OfConsumer TakeFlow)) l s m from is made (λ w i e f. absurd cc)
-        (ap (λ b. takes_in (deeds_do (cond b (FlowTaken ∷ []) []) m)) d) refl
+        (ap (λ b. takes_in (cond b (Asks ∷ []) [])) d) refl
         (never (Does who (OfConsumer TakeFlow)) run refl)
   ]
   kept_settled (Does who (OfConsumer (Revive j))) l s m n run from is made seen_so on = elim (cases_Bool (t == ticket_of who && is_some (v.links.live j))) [

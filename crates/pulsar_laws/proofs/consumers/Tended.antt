@@ -22,7 +22,7 @@ use Rattle.pulsar_laws.proofs.consumers.Placed.{Takes, takes_run, told_flow}
 use Rattle.pulsar_laws.proofs.consumers.Rested.{IsMadeBy, arc_rests, begins_made, due_is_taken, is_resting, revived_run}
 use Rattle.pulsar_laws.proofs.consumers.Taken.{flow_none}
 use Rattle.pulsar_plans.proofs.Arcs.{told_arc}
-use Rattle.pulsar_laws.specs.ConsumerLaws.{deeds_do, does_to}
+use Rattle.pulsar_laws.specs.ConsumerLaws.{does_to, subscription_does}
 
 abbrev said : Act → Outcome
 said (Told n) = n.outcome
@@ -114,8 +114,8 @@ module _ (once : EndsOnce) (o : Options) (log : List Entry) (t : ℕ) (was : Ten
             let number : m.seen.number ≡ n.seen.number =
             sym (ap (λ (s : Seen). s.number) seen ∙ applied_number (does_to (view o older) t m (Does who (OfConsumer (Revive l)))) m.seen) in
             let own : (t == t) ≡ true = eq-eqb t t refl in
-            let d : is_due (applied (deeds_do (Revived l (url_at ((view o older).links.live l)) ∷ []) m) m.seen) ≡ true =
-            sym (ap (λ b. is_due (applied (deeds_do (cond b (Revived l (url_at ((view o older).links.live l)) ∷ []) []) m) m.seen)) own)
+            let d : is_due (applied (subscription_does l (url_at ((view o older).links.live l))) m.seen) ≡ true =
+            sym (ap (λ b. is_due (applied (cond b (subscription_does l (url_at ((view o older).links.live l))) []) m.seen)) own)
             ∙ sym (ap is_due seen) ∙ due in
             subst (λ k. Tells o k t (Then (Does who (OfConsumer (Revive l))) ∷ older)) number
             (arises (due_to_plan m.seen.number t) o (Then (Does who (OfConsumer (Revive l)))) older (revived_due o older t m e who l own d))

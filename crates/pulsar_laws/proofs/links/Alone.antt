@@ -1,10 +1,12 @@
 -- A link that has not ended is what the calls of its connection made of it; and it is not over.
-use Rattle.std.proofs.Common.{◌≡◌, ◌∙◌, sym, ap, subst, ℕ, List, ◌∷◌, ◌++◌, refl, drop, Bool, true, false, cond, ◌==◌, Option, Some, None, []}
+use Rattle.std.proofs.Common.{◌≡◌, ◌∙◌, sym, ap, subst, ℕ, List, ◌∷◌, ◌++◌, refl, drop, map, Bool, true, false, cond, ◌==◌, Option, Some, None, []}
+use Rattle.std.proofs.lemmas.Bool.{eqb-true}
+use Rattle.std.proofs.lemmas.List.Elements.{filter_map-append}
 use Rattle.std.specs.List.{cons_option, filter_map}
-use Rattle.std.specs.Option.{option_map}
-use Rattle.pulsar_laws.proofs.ActWords.{Act, Bytes, Heard}
-use Rattle.pulsar_laws.proofs.RunWords.{Begins, calls_of, Entry, Options, rules, Then, view, View}
-use Rattle.pulsar_laws.proofs.LinkWords.{is_numbered, Seat, seat_fed, SendPing}
+use Rattle.std.specs.Option.{option_map, option_to_list}
+use Rattle.pulsar_laws.proofs.ActWords.{Act, Ask, Bytes, Comes, Dials, Does, Get, Heard, LinkAct, ToLink}
+use Rattle.pulsar_laws.proofs.RunWords.{Begins, calls_of, chosen_same, dialed, Entry, link_got, Options, rules, Then, view, View}
+use Rattle.pulsar_laws.proofs.LinkWords.{closed_by, is_numbered, Seat, seat_fed, SendPing}
 use Rattle.pulsar_frame.specs.Frame.{Front, Whole, front}
 use Rattle.pulsar_requests.specs.Waits.{places}
 use Rattle.pulsar_session.specs.declared.states.Stage.{Stage}
@@ -12,14 +14,15 @@ use Rattle.pulsar_session.specs.declared.states.Stage.TheVariants.{Handshaking, 
 use Rattle.pulsar_session.specs.Answers.{is}
 use Rattle.pulsar_session.specs.Link.{Act as Act', Opens, Feeds, Takes, Asks, Drains, Closes, Seen, Setup, answered_to, greeted, is_open, is_over, moved_up, number_for, settled_by, taken_in, ticked}
 use Rattle.pulsar_session.proofs.Still.{asked_of, moving, opening, unless}
-use Rattle.pulsar_run.specs.Things.{row_by, since, since_act}
-use Rattle.pulsar_links.specs.Asks.{Deed, IsAsked, IsClosed, IsDrained, IsFed, IsGot, IsOpened, IsPinged, IsRead, call_by, seat_by}
+use Rattle.pulsar_run.specs.Things.{row_after, row_by, since, since_act}
+use Rattle.pulsar_links.specs.Asks.{Deed, IsAsked, IsClosed, IsDrained, IsFed, IsGot, IsOpened, IsPinged, IsRead, call_by, comes_by, got_by, seat_by}
 use Rattle.pulsar_acts.specs.Things.{links}
-use Rattle.pulsar_acts.specs.View.{link_heard, setup}
-use Rattle.pulsar_laws.specs.Laws.{LinksAlone, dialed_last, dialed_with}
+use Rattle.pulsar_acts.specs.View.{link_acts, link_born, link_gone, link_heard, setup}
+use Rattle.pulsar_laws.specs.Laws.{LinksAlone, call_at, dialed_with}
 use Rattle.pulsar_laws.proofs.Cases.{none_some, some_is}
 use Rattle.pulsar_laws.proofs.links.Rows.{CameFrom, after_so, links_keep}
 use Rattle.pulsar_session.specs.Link as session
+use Rattle.pulsar_calls.specs.declared.act.LinkAct.TheVariants as comes
 
 -- ONLY A CLOSE ENDS A CONNECTION
 
@@ -88,30 +91,147 @@ fed_more start calls piece None k seat h = absurd (none_some h)
 fed_more start calls piece (Some r) k seat h =
     subst (λ (t : Seat). Made start (Feeds piece ∷ calls) t.seen) (some_is h) (more start calls r.seen (k r refl) (Feeds piece) refl)
 
+-- WHAT IT WAS DIALED WITH, AND THE CALLS OF ITS CONNECTION, by what was done to it
+
+abbrev dialed_last : Option Seat → Option Setup → Option Setup
+dialed_last None before = before
+dialed_last (Some seat) before = Some seat.seen.setup
+
+module _ (o : Options) (l : ℕ) where
+  abbrev past : List Entry → List Deed
+  past log = since rules links o log l
+
+  dialed_so : (log : List Entry) (a : Act) → dialed_with o l (Then a ∷ log) ≡ dialed_last (link_born (view o log) l a) (dialed_with o l log)
+  dialed_so log (Dials p starter retries) = by (l == n) refl
+    where
+      v : View
+      v = view o log
+
+      n : ℕ
+      n = v.links.started
+
+      by : (b : Bool) → (l == n) ≡ b →
+          cond b (Some (setup o.chosen l v.now p)) (dialed_with o l log) ≡ dialed_last (cond b (Some (dialed v.chosen n v.now p)) None) (dialed_with o l log)
+      by true e = ap (λ c. Some (setup c l v.now p)) (sym (chosen_same o log)) ∙ ap (λ k. Some (setup v.chosen k v.now p)) (eqb-true l n e)
+      by false e = refl
+  dialed_so log a = refl
+
+  came_so : (x : LinkAct) (now : ℕ) (seat : Seat) (calls : List Act') →
+      call_at x now (Some seat) ++ calls ≡ filter_map call_by (comes_by x now (Some seat)) ++ calls
+  came_so comes.Opens now seat calls = refl
+  came_so comes.Reads now seat calls = refl
+  came_so (comes.Drains most) now seat calls = refl
+  came_so comes.Pings now seat calls = refl
+  came_so (comes.Ends end) now seat calls =
+      elim (closed_by end now seat.seen) as
+      (λ c. option_to_list (option_map Closes c) ++ calls ≡ filter_map call_by (map IsClosed (option_to_list c)) ++ calls)
+      [ None ↦ refl | Some cause ↦ refl ]
+
+  got_so : (link : Option ℕ) (now : ℕ) → filter_map call_by (got_by l link now) ≡ []
+  got_so None now = refl
+  got_so (Some k) now = elim (l == k) as (λ b. filter_map call_by (cond b (IsGot now ∷ []) []) ≡ []) [ true ↦ refl | false ↦ refl ]
+
+  -- by an act that leaves it there
+  one_more : (log : List Entry) (a : Act) (seat : Seat) → (view o log).links.live l ≡ Some seat → link_born (view o log) l a ≡ None →
+      calls_of o l (Then a ∷ log) ≡ filter_map call_by (link_acts (view o log) l a) ++ calls_of o l log
+  one_more log (Comes (ToLink k x)) seat h born =
+      let now : ℕ = (view o log).now in
+      ap (λ row. cond (l == k) (call_at x now row ++ calls_of o l log) (calls_of o l log)) h
+      ∙ by (l == k)
+      ∙ ap (λ row. filter_map call_by (cond (l == k) (comes_by x now row) []) ++ calls_of o l log) (sym h)
+    where
+      by : (b : Bool) → cond b (call_at x (view o log).now (Some seat) ++ calls_of o l log) (calls_of o l log)
+          ≡ filter_map call_by (cond b (comes_by x (view o log).now (Some seat)) []) ++ calls_of o l log
+      by true = came_so x (view o log).now seat (calls_of o l log)
+      by false = refl
+  one_more log (Does who (Get p)) seat h born =
+      let v : View = view o log in ap (λ cs. cs ++ calls_of o l log) (sym (got_so (link_got v.addresses (Does who (Get p))) v.now))
+  one_more log (Does who (Ask k request)) seat h born =
+      elim (l == k) as
+      (λ b. cond b (Asks (view o log).now request ∷ calls_of o l log) (calls_of o l log)
+      ≡ filter_map call_by (cond b (IsAsked who (view o log).now request ∷ []) []) ++ calls_of o l log) [ true ↦ refl | false ↦ refl ]
+  one_more log (Dials p starter retries) seat h born = by (l == (view o log).links.started) born
+    where
+      by : (b : Bool) → cond b (Some (dialed (view o log).chosen (view o log).links.started (view o log).now p)) None ≡ None →
+          cond b [] (calls_of o l log) ≡ calls_of o l log
+      by true e = absurd (none_some (sym e))
+      by false e = refl
+  one_more log a seat h born = refl
+
+  heard_one : (e : Heard) (log : List Entry) → calls_of o l (Begins e ∷ log) ≡ filter_map call_by (link_heard l e) ++ calls_of o l log
+  heard_one (Bytes k piece) log =
+      elim (l == k) as (λ b. cond b (Feeds piece ∷ calls_of o l log) (calls_of o l log) ≡ filter_map call_by (cond b (IsFed piece ∷ []) []) ++ calls_of o l log)
+      [ true ↦ refl | false ↦ refl ]
+  heard_one e log = refl
+
+  -- and by one that makes it there are none
+  born_calls : (log : List Entry) (a : Act) (new : Seat) → link_born (view o log) l a ≡ Some new → calls_of o l (Then a ∷ log) ≡ []
+  born_calls log (Dials p starter retries) new h = by (l == (view o log).links.started) h
+    where
+      by : (b : Bool) → cond b (Some (dialed (view o log).chosen (view o log).links.started (view o log).now p)) None ≡ Some new →
+          cond b [] (calls_of o l log) ≡ []
+      by true e = refl
+      by false e = absurd (none_some e)
+  born_calls log a new h = absurd (none_some h)
+
+  -- one that is there was there before
+  done_before : (es : List Deed) (row : Option Seat) (seat : Seat) → row_by seat_by es row ≡ Some seat → (old : Seat) × (row ≡ Some old)
+  done_before [] row seat h = (seat, h)
+  done_before (e ∷ es) None seat h = absurd (none_some h)
+  done_before (e ∷ es) (Some old) seat h = (old, refl)
+
+  kept_before : (gone : Bool) (es : List Deed) (row : Option Seat) (seat : Seat) → row_after seat_by None gone es row ≡ Some seat →
+      (old : Seat) × (row ≡ Some old)
+  kept_before true es row seat h = absurd (none_some h)
+  kept_before false es row seat h = done_before es row seat h
+
+  abbrev pub calls_done : List Entry → List Act'
+  calls_done log = filter_map call_by (past log)
+
+  same_calls : (log : List Entry) (seat : Seat) → (view o log).links.live l ≡ Some seat → calls_of o l log ≡ calls_done log
+  same_calls [] seat h = refl
+  same_calls (Begins e ∷ log) seat h =
+      let k = done_before (link_heard l e) ((view o log).links.live l) seat (sym (links_keep.begins e (view o log) l) ∙ h) in
+      heard_one e log
+      ∙ ap (λ cs. filter_map call_by (link_heard l e) ++ cs) (same_calls log k.0 k.1)
+      ∙ sym (filter_map-append call_by (link_heard l e) (past log))
+  same_calls (Then a ∷ log) seat h = by (link_born (view o log) l a) refl
+    where
+      v : View
+      v = view o log
+
+      by : (born : Option Seat) → link_born v l a ≡ born → calls_of o l (Then a ∷ log) ≡ calls_done (Then a ∷ log)
+      by (Some new) e = born_calls log a new e ∙ ap (λ b. filter_map call_by (since_act b (link_acts v l a) (past log))) (sym e)
+      by None e =
+          let k = kept_before (link_gone v l a) (link_acts v l a) (v.links.live l) seat
+          (ap (λ b. row_after seat_by b (link_gone v l a) (link_acts v l a) (v.links.live l)) (sym e) ∙ h) in
+          one_more log a k.0 k.1 e
+          ∙ ap (λ cs. filter_map call_by (link_acts v l a) ++ cs) (same_calls log k.0 k.1)
+          ∙ sym (filter_map-append call_by (link_acts v l a) (past log))
+          ∙ ap (λ b. filter_map call_by (since_act b (link_acts v l a) (past log))) (sym e)
+
 -- ALONG A LOG
 
 module _ (o : Options) where
-  abbrev past : List Entry → ℕ → List Deed
-  past log l = since rules links o log l
-
-  heard_more : (log : List Entry) (l : ℕ) (e : Heard) (row : Option Seat) → Is (dialed_with o l log) (calls_of o l log) row →
-      Is (dialed_with o l log) (filter_map call_by (link_heard l e ++ past log l)) (row_by seat_by (link_heard l e) row)
+  heard_more : (log : List Entry) (l : ℕ) (e : Heard) (row : Option Seat) → Is (dialed_with o l log) (calls_done o l log) row →
+      Is (dialed_with o l log) (filter_map call_by (link_heard l e ++ past o l log)) (row_by seat_by (link_heard l e) row)
   heard_more log l (Bytes k piece) row h =
       elim (l == k) as
-      (λ b. Is (dialed_with o l log) (filter_map call_by (cond b (IsFed piece ∷ []) [] ++ past log l)) (row_by seat_by (cond b (IsFed piece ∷ []) []) row))
-      [ true ↦ fed_more (dialed_with o l log) (calls_of o l log) piece row h | false ↦ h ]
+      (λ b. Is (dialed_with o l log) (filter_map call_by (cond b (IsFed piece ∷ []) [] ++ past o l log)) (row_by seat_by (cond b (IsFed piece ∷ []) []) row))
+      [ true ↦ fed_more (dialed_with o l log) (calls_done o l log) piece row h | false ↦ h ]
   heard_more log l e row h = h
 
-  pub alone : (log : List Entry) (l : ℕ) → Is (dialed_with o l log) (calls_of o l log) ((view o log).links.live l)
-  alone [] l = λ seat h. absurd (none_some h)
-  alone (Begins e ∷ log) l =
+  pub alone_by_deed : (log : List Entry) (l : ℕ) → Is (dialed_with o l log) (calls_done o l log) ((view o log).links.live l)
+  alone_by_deed [] l = λ seat h. absurd (none_some h)
+  alone_by_deed (Begins e ∷ log) l =
       let v : View = view o log in
-      subst (Is (dialed_with o l log) (filter_map call_by (link_heard l e ++ past log l))) (sym (links_keep.begins e v l))
-      (heard_more log l e (v.links.live l) (alone log l))
-  alone (Then a ∷ log) l =
+      subst (Is (dialed_with o l log) (filter_map call_by (link_heard l e ++ past o l log))) (sym (links_keep.begins e v l))
+      (heard_more log l e (v.links.live l) (alone_by_deed log l))
+  alone_by_deed (Then a ∷ log) l =
       let v : View = view o log in
       let start : Option Setup = dialed_with o l log in
-      after_so (λ born acts row. Is (dialed_last born start) (filter_map call_by (since_act born acts (past log l))) row) v l a
+      subst (λ d. Is d (calls_done o l (Then a ∷ log)) ((view o (Then a ∷ log)).links.live l)) (sym (dialed_so o l log a))
+      (after_so (λ born acts row. Is (dialed_last born start) (filter_map call_by (since_act born acts (past o l log))) row) v l a
       (λ new d seat h.
       subst (λ (t : Seat). Made (Some new.seen.setup) [] t.seen) (some_is h)
       (subst (λ (t : Seat). Made (Some t.seen.setup) [] t.seen) d.is_it (record {
@@ -120,10 +240,13 @@ module _ (o : Options) where
         same = refl;
         live = refl;
       })))
-      (λ end seat h. absurd (none_some h)) (alone log l) (λ d c none seat h. absurd (none_some h))
+      (λ end seat h. absurd (none_some h)) (alone_by_deed log l) (λ d c none seat h. absurd (none_some h))
       (λ d c old e seat h.
-      subst (λ (t : Seat). Made start (cons_option (call_by d) (calls_of o l log)) t.seen) (some_is h)
-      (did_more v l a start (calls_of o l log) old (alone log l old e) d c))
+      subst (λ (t : Seat). Made start (cons_option (call_by d) (calls_done o l log)) t.seen) (some_is h)
+      (did_more v l a start (calls_done o l log) old (alone_by_deed log l old e) d c)))
+
+  pub alone : (log : List Entry) (l : ℕ) → Is (dialed_with o l log) (calls_of o l log) ((view o log).links.live l)
+  alone log l seat h = subst (λ calls. Made (dialed_with o l log) calls seat.seen) (sym (same_calls o l log seat h)) (alone_by_deed log l seat h)
 
 pub links_alone_lem : LinksAlone
 links_alone_lem o log l seat h = let k : Made (dialed_with o l log) (calls_of o l log) seat.seen = alone o log l seat h in (k.setup, k.dialed, k.same)

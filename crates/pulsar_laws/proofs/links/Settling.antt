@@ -38,15 +38,15 @@ use Rattle.pulsar_consumer_table.specs.Consumers.{Member, polled, polled_so}
 use Rattle.pulsar_incoming.specs.declared.polled.Polled.{Polled}
 use Rattle.pulsar_incoming.specs.declared.polled.Polled.TheVariants as poll
 use Rattle.pulsar_acts.specs.Effects.{ends as ends_said, retries, retries_on}
-use Rattle.pulsar_acts.specs.View.{link_acts, link_heard}
+use Rattle.pulsar_acts.specs.View.{link_acts, link_heard, setup}
 use Rattle.pulsar_run.specs.Run.{in_order, steps_done, with_effects}
-use Rattle.pulsar_laws.specs.Laws.{call_at, dialed_last, dialed_with}
+use Rattle.pulsar_laws.specs.Laws.{call_at, dialed_with}
 use Rattle.pulsar_run.specs.Things.{since, since_act}
 use Rattle.pulsar_acts.specs.Things.{links}
 use Rattle.pulsar_links.specs.Asks.{Deed, IsClosed, call_by, comes_by}
 use Rattle.pulsar_laws.specs.LinkLaws.{SettledAsTold, SettledOnce, and_then, settled_at, settled_so, settles_at, told_at, told_of}
 use Rattle.pulsar_laws.proofs.Cases.{cond_so, none_some, some_is}
-use Rattle.pulsar_laws.proofs.links.Alone.{Made, alone}
+use Rattle.pulsar_laws.proofs.links.Alone.{Made, alone, alone_by_deed, calls_done}
 use Rattle.pulsar_laws.proofs.links.Ending.{undialed}
 use Rattle.pulsar_laws.proofs.links.Late.{late_same}
 use Rattle.pulsar_laws.proofs.links.OfLink.{IsOf, given_of}
@@ -377,7 +377,7 @@ module _ (l place : ℕ) where
 
   abbrev Few : Options → List Entry → Type 0
   Few o log =
-      ((s : Setup) → dialed_with o l log ≡ Some s → length (all o log) ≤ length (told_ever s place (calls_of o l log) []))
+      ((s : Setup) → dialed_with o l log ≡ Some s → length (all o log) ≤ length (told_ever s place (calls_done o l log) []))
       × (dialed_with o l log ≡ None → length (all o log) ≤ 0)
 
   -- more calls tell no less
@@ -436,19 +436,19 @@ module _ (l place : ℕ) where
   link_few o log x (Some seat) h k = (
     λ s d.
         let now : ℕ = (view o log).now in
-        let m : Made (dialed_with o l log) (calls_of o l log) seat.seen = alone o log l seat h in
+        let m : Made (dialed_with o l log) (calls_done o l log) seat.seen = alone_by_deed o log l seat h in
         let same : m.setup ≡ s = some_is (sym m.dialed ∙ d) in
-        let f : length (all o log) ≤ length (told_ever s place (calls_of o l log) []) = k.0 s d in
-        let g : length (told_at x now place (Some seat)) + length (told_ever s place (calls_of o l log) [])
-        ≤ length (told_ever s place (call_at x now (Some seat) ++ calls_of o l log) []) =
-        call_few s (calls_of o l log) seat.seen (settled_so x now seat.seen place) (call_of x now seat.seen)
-        (m.same ∙ ap (λ t. session.seen t (calls_of o l log)) same) in
+        let f : length (all o log) ≤ length (told_ever s place (calls_done o l log) []) = k.0 s d in
+        let g : length (told_at x now place (Some seat)) + length (told_ever s place (calls_done o l log) [])
+        ≤ length (told_ever s place (call_at x now (Some seat) ++ calls_done o l log) []) =
+        call_few s (calls_done o l log) seat.seen (settled_so x now seat.seen place) (call_of x now seat.seen)
+        (m.same ∙ ap (λ t. session.seen t (calls_done o l log)) same) in
         let most : length (told_at x now place (Some seat)) + length (all o log) ≤ length (told_ever s place (call_at x now
-        (Some seat) ++ calls_of o l log) []) =
+        (Some seat) ++ calls_done o l log) []) =
         omega (arith, f, g) in
         subst (λ calls. length (told_at x now place (Some seat)) + length (all o log) ≤ length (told_ever s place calls []))
         (sym (called_so x now seat (past o log))) most,
-    λ d. absurd (none_some (sym d ∙ (alone o log l seat h).dialed)),
+    λ d. absurd (none_some (sym d ∙ (alone_by_deed o log l seat h).dialed)),
   )
 
   to_link_few : (o : Options) (log : List Entry) (k : ℕ) (x : LinkAct) → Few o log → Few o (Then (Comes (ToLink k x)) ∷ log)
@@ -478,25 +478,26 @@ module _ (l place : ℕ) where
   late : (l n : ℕ) → (l == n) ≡ true → nat_lt l n ≡ false
   late l n e = grind (arith, nat_tests)
 
-  dials_few : (o : Options) (log : List Entry) (new : Seat) → Few o log → (b : Bool) → (l == (view o log).links.started) ≡ b →
-      ((s : Setup) → dialed_last (cond b (Some new) None) (dialed_with o l log) ≡ Some s →
+  dials_few : (o : Options) (log : List Entry) (with : Setup) (new : Seat) → Few o log → (b : Bool) → (l == (view o log).links.started) ≡ b →
+      ((s : Setup) → cond b (Some with) (dialed_with o l log) ≡ Some s →
       length (all o log) ≤ length (told_ever s place (filter_map call_by (since_act (cond b (Some new) None) [] (past o log))) []))
-      × (dialed_last (cond b (Some new) None) (dialed_with o l log) ≡ None → length (all o log) ≤ 0)
-  dials_few o log new few true e =
+      × (cond b (Some with) (dialed_with o l log) ≡ None → length (all o log) ≤ 0)
+  dials_few o log with new few true e =
       let none : length (all o log) ≤ 0 = few.1 (undialed o log l (late l (view o log).links.started e)) in (λ s d. none, λ d. none)
-  dials_few o log new few false e = few
+  dials_few o log with new few false e = few
 
   few_run : (o : Options) (log : List Entry) → Few o log
   few_run o [] = (λ s d. absurd (none_some d), λ d. omega arith)
   few_run o (Begins e ∷ log) = others_few o log (link_heard l e) (few_run o log)
   few_run o (Then (Comes (ToLink k x)) ∷ log) = to_link_few o log k x (few_run o log)
   few_run o (Then (Dials p starter retries) ∷ log) =
-      let v : View = view o log in dials_few o log (dialed v.chosen v.links.started v.now p) (few_run o log) (l == v.links.started) refl
+      let v : View = view o log in
+      dials_few o log (setup o.chosen l v.now p) (dialed v.chosen v.links.started v.now p) (few_run o log) (l == v.links.started) refl
   few_run o (Then a ∷ log) = others_few o log (link_acts (view o log) l a) (few_run o log)
 
   once : (o : Options) (log : List Entry) (d : Option Setup) → dialed_with o l log ≡ d → length (all o log) ≤ 1
   once o log None e = let f = (few_run o log).1 e in omega (arith, f)
-  once o log (Some s) e = let f = (few_run o log).0 s e in let g = told_once s (calls_of o l log) place in omega (arith, f, g)
+  once o log (Some s) e = let f = (few_run o log).0 s e in let g = told_once s (calls_done o l log) place in omega (arith, f, g)
 
 pub settled_as_told_lem : SettledAsTold
 settled_as_told_lem o log l place = steps_same l place (steps_done rules o log) ∙ as_done l place o log

@@ -9,6 +9,7 @@ pub mod Riding
 pub mod Placed
 pub mod Queueing
 pub mod Covered
+pub mod Deeds
 pub mod Taken
 pub mod Answered
 pub mod Finished

@@ -1,12 +1,11 @@
 -- What each deed does to a consumer, and whether it ends it; so do the acts that do these deeds.
 use Rattle.std.proofs.Common.{◌≡◌, sym, ℕ, ◌==◌, ◌&&◌, ◌||◌, List, [], ◌∷◌, ◌++◌, append-nil, refl, Bool, true, false, cond}
 use Rattle.std.specs.Option.{is_some}
-use Rattle.pulsar_laws.proofs.ActWords.{Act, Ask, Comes, Does, End, Ends, OfConsumer, Polls, Reads, Revive, StopAll, TakeFlow, ToLink, Who}
+use Rattle.pulsar_laws.proofs.ActWords.{Act, Ask, Comes, Does, Ends, OfConsumer, Polls, Reads, Revive, StopAll, TakeFlow, ToLink}
 use Rattle.pulsar_laws.proofs.RunWords.{View}
 use Rattle.pulsar_laws.proofs.LinkWords.{answer_at, arrival_at, closing, is_asked, url_at}
 use Rattle.pulsar_calls.specs.declared.act.ConsumerAsk.TheVariants.{Find, Recall, Fail}
-use Rattle.pulsar_calls.specs.declared.act.Who.{Who}
-use Rattle.pulsar_calls.specs.Naming.{ticket_of}
+use Rattle.pulsar_calls.specs.Who.{ticket_of}
 use Rattle.pulsar_consumer.specs.Topic.{Act as Done, Asks, Ends as Over, Fails, Polls as Polled, lives_on}
 use Rattle.pulsar_exchange.specs.Request.{closed_consumer}
 use Rattle.pulsar_incoming.specs.declared.polled.Ending.TheVariants.{Stopped}

@@ -37,7 +37,7 @@ use Rattle.pulsar_laws.proofs.consumers.Lone.{applied, applied_append, arrival_d
 use Rattle.pulsar_laws.proofs.calls.Same.{same_self}
 use Rattle.pulsar_laws.proofs.consumers.Members.{CameFrom, either_number, lost_gone, polled_number, row_made}
 use Rattle.pulsar_laws.specs.ConsumerLaws.{does_to, subscription_does}
-use Rattle.pulsar_laws.proofs.consumers.Deeds.{deed_does, deeds_do}
+use Rattle.pulsar_laws.proofs.consumers.Deeds.{deed_does}
 
 -- THE TICKETS of all consumers are known
 

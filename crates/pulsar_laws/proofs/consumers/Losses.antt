@@ -4,9 +4,9 @@ use Rattle.std.specs.Prelude.{not}
 use Rattle.std.specs.Option.{option_map}
 use Rattle.pulsar_laws.proofs.ActWords.{Act, Action, Arrival, Ask, Comes, Consumer, Does, FailConsumer, Notice, Reads, Rest, Revive, ticket_of, Told, ToLink, Who, Word, OfConsumer}
 use Rattle.pulsar_laws.proofs.RunWords.{agenda, Agenda, Arises, Begins, Cause, EndsOnce, Entry, IsRun, notice, Options, rules, Then, view}
-use Rattle.pulsar_laws.proofs.LinkWords.{answer_at, arrival_at, closed_consumer, closing, Fault, is_asked, is_body, Reply, url_at}
+use Rattle.pulsar_laws.proofs.LinkWords.{answer_at, arrival_at, closed_consumer, closing, Fault, is_asked, is_body, Reply}
 use Rattle.pulsar_consumer.specs.Frames.{frame_in}
-use Rattle.pulsar_consumer.specs.Topic.{Hears, Live, Loses, Seen, is_due, is_ended, link_of, lives_on, loses, resubscribes}
+use Rattle.pulsar_consumer.specs.Topic.{Hears, Live, Loses, Seen, is_due, link_of, lives_on, loses, resubscribes}
 use Rattle.pulsar_incoming.specs.declared.polled.Ending.TheVariants.{TopicEnded}
 use Rattle.pulsar_calls.specs.declared.act.Arrival.TheVariants as arrivals
 use Rattle.pulsar_calls.specs.declared.act.Outcome.TheVariants as outcome

@@ -36,7 +36,7 @@ use Rattle.pulsar_incoming.specs.declared.polled.Polled.{Polled as Answer}
 use Rattle.pulsar_consumer.proofs.Histories.{polls_give_arrivals, polls_give_the_next}
 use Rattle.pulsar_consumer_table.specs.Consumers.{Arrives, ClientStops, CloseAsked, Deed, FlowTaken, IsPolled, IsSought, LinkEnds, Member, NotRevived, Revived, is_closed_by, polled, polled_so}
 use Rattle.pulsar_laws.specs.ConsumerLaws.{PollsAreAnswered, PollsFollow, arrival_does, does_to, done_to, frame_does, given_by, items_given, loss_does, made_with, shows_next, subscription_does}
-use Rattle.pulsar_laws.proofs.consumers.Deeds.{deed_does, deeds_do}
+use Rattle.pulsar_laws.proofs.consumers.Deeds.{deed_does}
 use Rattle.pulsar_laws.proofs.consumers.Lone.{IsKept, IsMade, IsNone, RowFrom, StandsSo, begun_rows, consumers_alone_lem, did_so, row_from}
 use Rattle.pulsar_laws.proofs.consumers.Members.{CameFrom}
 use Rattle.pulsar_consumer.specs.Topic as reader

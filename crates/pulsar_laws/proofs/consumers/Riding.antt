@@ -1,5 +1,5 @@
 -- The link of a live subscription has not ended, and it is ready where the consumer was built.
-use Rattle.std.proofs.Common.{◌≡◌, ◌⊎◌, inl, inr, ◌∙◌, sym, ap, subst, ℕ, ◌+◌, ◌==◌, List, [], ◌∷◌, ◌++◌, refl, Bool, true, false, ◌&&◌, cond, Option, Some, None, append-nil, eq-eqb, nat_lt}
+use Rattle.std.proofs.Common.{◌≡◌, ◌⊎◌, inl, inr, ◌∙◌, sym, ap, subst, ℕ, ◌+◌, ◌==◌, List, [], ◌∷◌, ◌++◌, refl, Bool, true, false, ◌&&◌, cond, Option, Some, None, eq-eqb, nat_lt}
 use Rattle.std.proofs.lemmas.Bool.{cases_Bool}
 use Rattle.std.specs.Option.{is_some, option_map}
 use Rattle.pulsar_laws.proofs.ActWords.{Act, Answers, Arrival, Call, Comes, Does, End, Ends, Heard, is_same, Makes, Revive, ticket_of, ToLink, Who, OfConsumer}
@@ -24,7 +24,7 @@ use Rattle.pulsar_laws.proofs.Cases.{none_some, some_is}
 use Rattle.pulsar_laws.proofs.calls.Ticketed.{consumer_ticket}
 use Rattle.pulsar_laws.specs.ConsumerLaws.{arrival_does, does_to, done_since, done_to, frame_does, loss_does, made_as, made_with, making_does, subscription_does}
 use Rattle.pulsar_laws.proofs.consumers.Ended.{after_made}
-use Rattle.pulsar_laws.proofs.consumers.Deeds.{deed_does, deeds_do}
+use Rattle.pulsar_laws.proofs.consumers.Deeds.{deed_does}
 use Rattle.pulsar_laws.proofs.consumers.Lone.{IsKept, IsMade, IsNone, RowFrom, applied, applied_append, begun_rows, did_so, is_revival, none_after, row_from}
 use Rattle.pulsar_laws.proofs.consumers.Members.{CameFrom}
 use Rattle.pulsar_laws.proofs.links.Ready.{IsAt, IsReady, WasReady, more_ready}
@@ -359,17 +359,14 @@ module _ (o : Options) (log : List Entry) (t : ℕ) where
 
   kept_by : (a : Act) (m n : Member) → IsRun o (Then a ∷ log) → Rides o log m → n.seen ≡ applied (does_to (view o log) t m a) m.seen → Rides o (Then a ∷ log) n
   kept_by (Comes (ToLink l (Ends end))) m n run was is =
-      ended_rides o log (Comes (ToLink l (Ends end))) t m n was is l end (closing end (view o log).now ((view o log).links.live l)) refl refl
-      (append-nil (loss_does l (closing end (view o log).now ((view o log).links.live l))))
+      ended_rides o log (Comes (ToLink l (Ends end))) t m n was is l end (closing end (view o log).now ((view o log).links.live l)) refl refl refl
   kept_by (Does who (OfConsumer (Revive l))) m n run was is =
       again_rides o log (Does who (OfConsumer (Revive l))) t m n was is l (revives_ready o log who l run) (λ end k at. absurd cc) (λ k h. by
       (t == ticket_of who) k h)
     where
       by : (b : Bool) (k : ℕ) → link_of (applied (cond b (subscription_does l (url_at ((view o log).links.live l))) []) m.seen) ≡ Some k →
           (link_of m.seen ≡ Some k) ⊎ ((k ≡ l) × IsLive (view o log) l)
-      by true k h =
-          subscription_link l ((view o log).links.live l) m.seen k
-          (subst (λ xs. link_of (applied xs m.seen) ≡ Some k) (append-nil (subscription_does l (url_at ((view o log).links.live l)))) h)
+      by true k h = subscription_link l ((view o log).links.live l) m.seen k h
       by false k h = inl h
   kept_by a m n run was is = elim (tame_by a m) [
     | inl tame ↦ tame_rides o log a t m n was is tame (λ k end at. absurd cc)

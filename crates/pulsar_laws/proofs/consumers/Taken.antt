@@ -14,7 +14,7 @@ use Rattle.pulsar_laws.proofs.calls.Ticketed.{consumer_ticket}
 use Rattle.pulsar_laws.specs.ConsumerLaws.{Flow, FlowsAreCounted, arrival_does, does_to, done_to, flows_after, flows_since, frame_does, loss_does, made_with, permits_of, subscription_does}
 use Rattle.pulsar_laws.proofs.producers.Drawing.{Every, here}
 use Rattle.pulsar_laws.proofs.consumers.Flows.{flows_are_asked_lem}
-use Rattle.pulsar_laws.proofs.consumers.Deeds.{deed_does, deeds_do}
+use Rattle.pulsar_laws.proofs.consumers.Deeds.{deed_does}
 use Rattle.pulsar_laws.proofs.consumers.Lone.{applied, did_so, IsKept, IsMade, IsNone, RowFrom, begun_rows, consumers_alone_lem, row_from}
 use Rattle.pulsar_laws.proofs.consumers.Members.{CameFrom}
 use Rattle.pulsar_laws.proofs.consumers.Placed.{IsPlaced, is_placed}

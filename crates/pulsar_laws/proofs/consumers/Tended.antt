@@ -10,7 +10,7 @@ use Rattle.pulsar_consumer.specs.Topic.{Live, Seen, Asks, asked, behind, first_d
 use Rattle.pulsar_calls.specs.declared.act.Outcome.TheVariants as outcome
 use Rattle.pulsar_calls.specs.declared.act.Word.TheVariants as word
 use Rattle.pulsar_run.specs.Things.{row_by}
-use Rattle.pulsar_consumer_table.specs.Consumers.{FlowTaken, Member, Revived, flow_at, member_after, member_by}
+use Rattle.pulsar_consumer_table.specs.Consumers.{FlowTaken, Member, flow_at, member_after, member_by}
 use Rattle.pulsar_consumer_table.specs.Asks.{flow_said}
 use Rattle.pulsar_laws.proofs.Cases.{none_some, some_is}
 use Rattle.pulsar_laws.proofs.calls.Done.{IsLeftIn, arises, first_done, none_left, stays as stays_left}

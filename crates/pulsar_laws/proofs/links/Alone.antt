@@ -195,18 +195,19 @@ module _ (o : Options) (l : ℕ) where
       heard_one e log
       ∙ ap (λ cs. filter_map call_by (link_heard l e) ++ cs) (same_calls log k.0 k.1)
       ∙ sym (filter_map-append call_by (link_heard l e) (past log))
-  same_calls (Then a ∷ log) seat h = by (link_born (view o log) l a) refl
+  same_calls (Then a ∷ log) seat h = by (λ old k. same_calls log old k) (link_born (view o log) l a) refl
     where
       v : View
       v = view o log
 
-      by : (born : Option Seat) → link_born v l a ≡ born → calls_of o l (Then a ∷ log) ≡ calls_done (Then a ∷ log)
-      by (Some new) e = born_calls log a new e ∙ ap (λ b. filter_map call_by (since_act b (link_acts v l a) (past log))) (sym e)
-      by None e =
+      by : ((old : Seat) → v.links.live l ≡ Some old → calls_of o l log ≡ calls_done log) → (born : Option Seat) → link_born v l a ≡ born →
+          calls_of o l (Then a ∷ log) ≡ calls_done (Then a ∷ log)
+      by so (Some new) e = born_calls log a new e ∙ ap (λ b. filter_map call_by (since_act b (link_acts v l a) (past log))) (sym e)
+      by so None e =
           let k = kept_before (link_gone v l a) (link_acts v l a) (v.links.live l) seat
           (ap (λ b. row_after seat_by b (link_gone v l a) (link_acts v l a) (v.links.live l)) (sym e) ∙ h) in
           one_more log a k.0 k.1 e
-          ∙ ap (λ cs. filter_map call_by (link_acts v l a) ++ cs) (same_calls log k.0 k.1)
+          ∙ ap (λ cs. filter_map call_by (link_acts v l a) ++ cs) (so k.0 k.1)
           ∙ sym (filter_map-append call_by (link_acts v l a) (past log))
           ∙ ap (λ b. filter_map call_by (since_act b (link_acts v l a) (past log))) (sym e)
 

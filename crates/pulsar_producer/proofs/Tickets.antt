@@ -7,7 +7,7 @@ use Rattle.std.specs.declared.cmp.Ordering.{Ordering}
 use Rattle.std.specs.declared.cmp.Ordering.TheVariants.{Less, Equal, Greater}
 use Rattle.pulsar_messages.specs.Claims.{is_spent}
 use Rattle.pulsar_outgoing.specs.Storage.{Item, SingleMessage, Flush, is_nothing, is_ready, pushed}
-use Rattle.pulsar_producer.specs.Topic.{Act, Takes, Passes, Draws, Remakes, Closes, Stores, Flushes, Cuts, TakesBatch, Halts, Seen, Setup, after, cuts, fresh, is_settled, left_of, rest_of, stores, takes_in}
+use Rattle.pulsar_producer.specs.Topic.{Act, Takes, Passes, Draws, Closes, Stores, Flushes, Cuts, TakesBatch, Halts, Seen, Setup, after, cuts, fresh, is_settled, left_of, rest_of, stores, takes_in}
 
 -- LISTS
 
@@ -35,15 +35,9 @@ module _ (T : ℕ → Type 0) (P : Item → Type 0) where
   -- what an act brings is so
   abbrev pub BringsSo : Act → Type 0
   BringsSo (Takes t) = T t
-  BringsSo Passes = Unit {0}
-  BringsSo Draws = Unit {0}
-  BringsSo (Remakes l g) = Unit {0}
-  BringsSo Closes = Unit {0}
   BringsSo (Stores t e) = P (SingleMessage t e)
   BringsSo (Flushes t) = P (Flush t)
-  BringsSo Cuts = Unit {0}
-  BringsSo TakesBatch = Unit {0}
-  BringsSo Halts = Unit {0}
+  BringsSo _ = Unit {0}
 
   -- and all that is there is
   abbrev pub UsersSo : Seen → Type 0
@@ -81,13 +75,13 @@ module _ (T : ℕ → Type 0) (P : Item → Type 0) where
   users_so (Takes t) v p k = takes_so t v.holder v p k
   users_so Passes v p k = (rest_so v.waiting k.0, k.1, k.2)
   users_so Draws v p k = either_so (is_spent v.next) v (record v { next = v.next + 1 }) k k
-  users_so (Remakes l g) v p k = k
   users_so Closes v p k = (k.0, tt, k.2)
   users_so (Stores t e) v p k = stores_so (SingleMessage t e) v p k
   users_so (Flushes t) v p k = either_so (is_settled v) v (stores (Flush t) v) k (stores_so (Flush t) v p k)
   users_so Cuts v p k = either_so (is_nothing v.storage.items) v (cuts v) k (cuts_so v k)
   users_so TakesBatch v p k = left_so v.cut v k.2 k
   users_so Halts v p k = (k.0, tt, tt)
+  users_so _ v p k = k
 
 -- what follows from it is so too
 pub users_map : (T U : ℕ → Type 0) (P Q : Item → Type 0) (v : Seen) → ((t : ℕ) → T t → U t) → ((x : Item) → P x → Q x) → UsersSo T P v → UsersSo U Q v

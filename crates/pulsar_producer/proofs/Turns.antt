@@ -9,7 +9,7 @@ use Rattle.std.specs.Ordering.{match_ordering, nat_cmp}
 use Rattle.std.specs.declared.cmp.Ordering.TheVariants.{Less, Equal, Greater}
 use Rattle.pulsar_messages.specs.Claims.{is_spent}
 use Rattle.pulsar_outgoing.specs.Storage.{SingleMessage}
-use Rattle.pulsar_producer.specs.Topic.{Act, Takes, Passes, Draws, Remakes, Closes, Stores, Flushes, Cuts, TakesBatch, Halts, Seen, Setup, after, first_of, is_free, rest_of, seen, takes_in}
+use Rattle.pulsar_producer.specs.Topic.{Act, Takes, Passes, Draws, Stores, Flushes, Cuts, TakesBatch, Seen, Setup, after, first_of, is_free, rest_of, seen, takes_in}
 use Rattle.pulsar_producer.specs.Laws.{AreAbove, LowestIsNext, NobodyWaitsForFree, OneAtATime, WaitsInLine, gives_turn, is_listed, keeps, turn_if}
 use Rattle.pulsar_producer.proofs.Untouched.{stores_keeps, flushes_keeps, cuts_keeps, takes_batch_keeps}
 
@@ -18,14 +18,7 @@ use Rattle.pulsar_producer.proofs.Untouched.{stores_keeps, flushes_keeps, cuts_k
 abbrev pub leaves_turn : Act → Bool
 leaves_turn (Takes t) = false
 leaves_turn Passes = false
-leaves_turn Draws = true
-leaves_turn (Remakes l g) = true
-leaves_turn Closes = true
-leaves_turn (Stores t e) = true
-leaves_turn (Flushes t) = true
-leaves_turn Cuts = true
-leaves_turn TakesBatch = true
-leaves_turn Halts = true
+leaves_turn _ = true
 
 abbrev pub SameTurn : Seen → Seen → Type 0
 SameTurn v w = (w.holder ≡ v.holder) × (w.waiting ≡ v.waiting)
@@ -38,13 +31,11 @@ pub turn_stays : (act : Act) (v : Seen) → leaves_turn act ≡ true → SameTur
 turn_stays (Takes t) v h = absurd cc
 turn_stays Passes v h = absurd cc
 turn_stays Draws v h = draws_stays (is_spent v.next) v _ (refl, refl)
-turn_stays (Remakes l g) v h = (refl, refl)
-turn_stays Closes v h = (refl, refl)
 turn_stays (Stores t e) v h = let k = stores_keeps (SingleMessage t e) v in (k.1, k.2)
 turn_stays (Flushes t) v h = let k = flushes_keeps t v in (k.1, k.2)
 turn_stays Cuts v h = let k = cuts_keeps v in (k.1, k.2)
 turn_stays TakesBatch v h = let k = takes_batch_keeps v.cut v in (k.1, k.2)
-turn_stays Halts v h = (refl, refl)
+turn_stays _ v h = (refl, refl)
 
 -- THE WAITING TICKETS RISE
 

@@ -21,30 +21,13 @@ use Rattle.pulsar_consumer_table.specs.declared.row.LinkAnswer.TheVariants.{Foun
 use Rattle.pulsar_consumer_table.specs.declared.numbers.Numbering.{Numbering}
 use Rattle.pulsar_consumer_table.specs.declared.numbers.Numbering.TheVariants.{Has, InUse, Spent}
 use Rattle.pulsar_client.proofs.Raising.{IsRaised}
+use Rattle.pulsar_laws.specs.Laws.{GrantsSo}
 use Rattle.pulsar_laws.proofs.Cases.{cond_so}
 use Rattle.pulsar_acts.specs.View.{asked_of}
 
--- what a topic producer grants, by what is granted
-abbrev pub TopicGives : View → (number : ℕ) → News → TopicAsk → Type 0
-TopicGives v n (news.HasTurn version) TakeTurn = turn_taken (v.producers.topics n) ≡ Some version
-TopicGives v n (news.Drew d) Draw = (room : Bool) × (room_of v n ≡ Some room) × (drawn room (v.producers.topics n) ≡ Some d)
-TopicGives v n (news.Recalled c) Recall = recalled v.producers n ≡ Some c
-TopicGives v n (news.HasBatch items) TakeBatch = next_batch_at (v.producers.topics n) ≡ items
-TopicGives v n news.Done PassTurn = Unit {0}
-TopicGives v n news.Done (Remake r) = Unit {0}
-TopicGives v n news.Done (Store entry) = Unit {0}
-TopicGives v n news.Done Flush = is_settled_at (v.producers.topics n) ≡ true
-TopicGives v n y ask = ⊥
-
 -- an action grants just this
 abbrev pub GivenBy : View → Action → News → Type 0
-GivenBy v (OfTopic n ask) y = TopicGives v n y ask
-GivenBy v Number (news.Numbered n) = number_drawn v.producers ≡ Some n
-GivenBy v (Hold l n) news.Done = Unit {0}
-GivenBy v (Shut t) news.Done = Unit {0}
-GivenBy v (Tell n) news.Done = Unit {0}
-GivenBy v (TellAll ns) news.Done = Unit {0}
-GivenBy v action n = ⊥
+GivenBy v action n = GrantsSo n action v
 
 abbrev pub SaysSo : View → Action → Outcome → Type 0
 SaysSo v action (outcome.Granted n) = GivenBy v action n

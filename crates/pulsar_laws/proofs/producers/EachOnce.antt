@@ -83,10 +83,7 @@ module _ (t : ℕ) where
       by : (h : Option ℕ) → held (takes_in h u v) ≤ held v + 0
       by None = omega arith
       by (Some x) = omega arith
-  one_held Passes v = omega arith
   one_held Draws v = cond_so (λ z. held z ≤ held v + 0) (is_spent v.next) v (record v { next = v.next + 1 }) (omega arith) (omega arith)
-  one_held (Remakes l g) v = omega arith
-  one_held Closes v = omega arith
   one_held (Stores u e) v =
       let k : held (stores (SingleMessage u e) v) ≤ held v + (cond (t == u) 1 0 + 0) = push_held (SingleMessage u e) v in omega (arith, k)
   one_held (Flushes u) v = cond_so (λ z. held z ≤ held v + 0) (is_settled v) v (stores (Flush u) v) (omega arith) (push_held (Flush u) v)
@@ -94,7 +91,7 @@ module _ (t : ℕ) where
       let k : held (cuts v) ≤ held v = cut_held v in
       cond_so (λ z. held z ≤ held v + 0) (is_nothing v.storage.items) v (cuts v) (omega arith) (omega (arith, k))
   one_held TakesBatch v = let k : held (left_of v.cut v) + times_under t (next_of v.cut) ≤ held v = takes_held v v.cut refl in omega (arith, k)
-  one_held Halts v = omega arith
+  one_held _ v = omega arith
 
   abbrev gives_all : List Deed → ℕ
   gives_all [] = 0

@@ -97,15 +97,12 @@ one_low (Takes t) v h = takes v.holder
     takes : (x : Option ℕ) → IsLow (takes_in x t v)
     takes None = h
     takes (Some u) = h
-one_low Passes v h = h
 one_low Draws v h = draws_low v h
-one_low (Remakes l g) v h = h
-one_low Closes v h = h
 one_low (Stores t e) v h = stores_low (SingleMessage t e) v h
 one_low (Flushes t) v h = cond_so IsLow (is_settled v) v (stores (Flush t) v) h (stores_low (Flush t) v h)
 one_low Cuts v h = cond_so IsLow (is_nothing v.storage.items) v (cuts v) h h
 one_low TakesBatch v h = left_low v.cut v h
-one_low Halts v h = h
+one_low _ v h = h
 
 seen_low : (s : Setup) (ds : List Deed) → s.first_number < 2 ^ 64 → IsLow (topic.seen s ds)
 seen_low s [] h = h

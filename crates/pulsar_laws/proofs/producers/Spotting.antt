@@ -111,15 +111,12 @@ taken_busy (Some other) t x h = h
 
 one_busy : (d : topic.Act) (x : topic.Seen) → leaves_busy d ≡ true → BusySeen x → BusySeen (topic.after d x)
 one_busy (topic.Takes t) x l h = taken_busy x.holder t x h
-one_busy topic.Passes x l h = h
 one_busy topic.Draws x l h = cond_so BusySeen (is_spent x.next) x (record x { next = x.next + 1 }) h h
-one_busy (topic.Remakes l' g) x l h = h
-one_busy topic.Closes x l h = h
 one_busy (topic.Stores t e) x l h = stored_busy (SingleMessage t e) x h
 one_busy (topic.Flushes t) x l h = cond_so BusySeen (is_settled x) x (stores (Flush' t) x) h (stored_busy (Flush' t) x h)
 one_busy topic.Cuts x l h = cond_so BusySeen (is_nothing x.storage.items) x (cuts x) h refl
 one_busy topic.TakesBatch x l h = absurd cc
-one_busy topic.Halts x l h = h
+one_busy _ x l h = h
 
 all_busy : (ds : List topic.Act) (x : topic.Seen) → Each (λ d. leaves_busy d ≡ true) ds → BusySeen x → BusySeen (all_after ds x)
 all_busy [] x k h = h

@@ -1,7 +1,7 @@
 //! What a call says, what it ends with, and why something failed. It is boxed, so that acts are small. Contracts see it by its
 //! content.
 
-ghost use Rattle.std.specs.Prelude.{◌≡◌, [], ◌∷◌, ◌++◌, ℕ, List, Result, IfOk, MatchOption, drop};
+ghost use Rattle.std.specs.Prelude.{◌≡◌, [], ◌∷◌, ◌++◌, ℕ, List, Result, IfOk, drop};
 ghost use Rattle.pulsar_calls.specs.Content as content;
 ghost use Rattle.pulsar_calls.specs.Content.{asked, said};
 ghost use Rattle.pulsar_calls.specs.Content.{numbers_from};

@@ -9,3 +9,5 @@ pub mod Traces
 pub mod RetryLaws
 pub mod PartLaws
 pub mod AgainLaws
+pub mod AlarmLaws
+pub mod WordLaws

@@ -1,6 +1,6 @@
 //! What follows of the batches of producers from the definition of a good run: each contract is a law, and its body is empty.
 
-ghost use Rattle.pulsar_laws.specs.BatchLaws.{BatchSentOnce, BatchesByItsOptions, BatchesOneByOne, ClosedWithTheProducer, EachSentOnce, FlushesWait, FramesOfBatches, MembersAreTold, NumbersOfAllFramesRise, OneThingAtATime, QueuedIsWaitedFor, ReceiptsOfBatches, StoredAtOnce, StoredEndsByItsBatch};
+ghost use Rattle.pulsar_laws.specs.BatchLaws.{BatchSentOnce, BatchesByItsOptions, BatchesOneByOne, ClosedWithTheProducer, CutByItsOptions, CutByLimits, EachSentOnce, FlushesWait, FramesOfBatches, MembersAreTold, NumbersOfAllFramesRise, OneThingAtATime, QueuedIsWaitedFor, ReceiptsOfBatches, SizesAreSaid, StoredAtOnce, StoredEndsByItsBatch};
 
 /// A topic producer takes its next batch once all of the one before were told, so that one is under way at a time.
 pub fn batches_one_by_one()
@@ -50,6 +50,13 @@ pub fn each_sent_once()
 /// A topic producer makes batches by the options of the call that built it.
 pub fn batches_by_its_options()
     ensures { BatchesByItsOptions }
+{}
+
+/// A batch is cut only where it reaches a limit of these options, by the sizes of its payloads, behind a flush, or by its time.
+pub fn batches_are_cut()
+    ensures sizes { SizesAreSaid }
+    ensures limits { CutByLimits }
+    ensures options { CutByItsOptions }
 {}
 
 /// What a producer stores is settled as it is closed.

@@ -15,55 +15,53 @@ use Rattle.pulsar_consumer.proofs.Histories.{counted_same, lost, polls_at, refus
 use Rattle.pulsar_consumer.proofs.Named.{copied_more, delays, ended_some, failed_more, gives_more, hears_more, stops_more, takes_more}
 use Rattle.pulsar_consumer.proofs.Permits.{copied_so, failed_so, gives_so, hears_so, stops_so, takes_so}
 
--- ITS KEY, AND HOW IT WAS MADE
+-- HOW IT WAS MADE: that stays
 
--- it is the same consumer
-pub record IsSame (w v : Seen) : Type 0 where
-  pub key : w.key ≡ v.key
-  pub config : w.config ≡ v.config
+abbrev pub setup_of : Seen → Setup
+setup_of v = record { key = v.key; topic = v.topic; number = v.number; config = v.config; is_raw = v.is_raw }
 
-same_if : (b : Bool) (v w : Seen) → IsSame w v → IsSame (cond b w v) v
+same_if : (b : Bool) (v w : Seen) → setup_of w ≡ setup_of v → setup_of (cond b w v) ≡ setup_of v
 same_if true v w k = k
-same_if false v w k = record { key = refl; config = refl }
+same_if false v w k = refl
 
-same_but : (b : Bool) (v w : Seen) → IsSame w v → IsSame (cond b v w) v
-same_but true v w k = record { key = refl; config = refl }
+same_but : (b : Bool) (v w : Seen) → setup_of w ≡ setup_of v → setup_of (cond b v w) ≡ setup_of v
+same_but true v w k = refl
 same_but false v w k = k
 
-counts_same : (clock : ℕ) (o : Option Item) (v : Seen) → IsSame (counts_first clock o v) v
-counts_same clock None v = record { key = refl; config = refl }
-counts_same clock (Some item) v =
-    same_if (is_message item) v (record v { received = capped (v.received + 1); last = Some clock }) (record { key = refl; config = refl })
+counts_setup : (clock : ℕ) (o : Option Item) (v : Seen) → setup_of (counts_first clock o v) ≡ setup_of v
+counts_setup clock None v = refl
+counts_setup clock (Some item) v = same_if (is_message item) v (record v { received = capped (v.received + 1); last = Some clock }) refl
 
-same_after : (act : Act) (v : Seen) → IsSame (after act v) v
-same_after (Lives link url) v = same_but (is_ended v) v (subscribed_again link url v) (record { key = refl; config = refl })
-same_after (Hears link f) v = same_if (lives_on link v) v (heard f v) (record { key = refl; config = refl })
+pub same_after : (act : Act) (v : Seen) → setup_of (after act v) ≡ setup_of v
+same_after (Lives link url) v = same_but (is_ended v) v (subscribed_again link url v) refl
+same_after (Hears link f) v = same_if (lives_on link v) v (heard f v) refl
 same_after (Loses link) v = by (lives_on link v) v.is_raw
   where
-    by : (b c : Bool) → IsSame (cond b (cond c (ends LinkLost v) (lost v)) v) v
-    by true true = record { key = refl; config = refl }
-    by true false = record { key = refl; config = refl }
-    by false c = record { key = refl; config = refl }
-same_after (Fails f) v = same_but (is_ended v) v (ends NotSubscribed (refused (failed f) v)) (record { key = refl; config = refl })
-same_after (Ends why) v = record { key = refl; config = refl }
-same_after (Polls clock) v = let k = counts_same clock (first_of v.engine.unread) (polls_at clock v) in record { key = k.key; config = k.config }
-same_after Asks v = record { key = refl; config = refl }
-same_after (IsAt clock) v = record { key = refl; config = refl }
-same_after TakesCopy v = record { key = refl; config = refl }
-same_after (IsCopied key clock) v = same_if (v.key == key) v (record v { engine = copied (clocked clock v.engine) }) (record { key = refl; config = refl })
-same_after (FailsCopy key clock) v =
-    same_if (v.key == key) v (record v { engine = copy_failed (clocked clock v.engine) }) (record { key = refl; config = refl })
-same_after Stops v = record { key = refl; config = refl }
-same_after (Forgets id) v = record { key = refl; config = refl }
-same_after (Checks clock) v = record { key = refl; config = refl }
+    by : (b c : Bool) → setup_of (cond b (cond c (ends LinkLost v) (lost v)) v) ≡ setup_of v
+    by true true = refl
+    by true false = refl
+    by false c = refl
+same_after (Fails f) v = same_but (is_ended v) v (ends NotSubscribed (refused (failed f) v)) refl
+same_after (Ends why) v = refl
+same_after (Polls clock) v = counts_setup clock (first_of v.engine.unread) (polls_at clock v)
+same_after Asks v = refl
+same_after (IsAt clock) v = refl
+same_after TakesCopy v = refl
+same_after (IsCopied key clock) v = same_if (v.key == key) v (record v { engine = copied (clocked clock v.engine) }) refl
+same_after (FailsCopy key clock) v = same_if (v.key == key) v (record v { engine = copy_failed (clocked clock v.engine) }) refl
+same_after Stops v = refl
+same_after (Forgets id) v = refl
+same_after (Checks clock) v = refl
+
+pub setup_is : (s : Setup) (h : List Act) → setup_of (seen s h) ≡ s
+setup_is s [] = refl
+setup_is s (act ∷ h) = same_after act (seen s h) ∙ setup_is s h
 
 pub key_is : (s : Setup) (h : List Act) → (seen s h).key ≡ s.key
-key_is s [] = refl
-key_is s (act ∷ h) = (same_after act (seen s h)).key ∙ key_is s h
+key_is s h = ap (λ x. x.key) (setup_is s h)
 
 pub config_is : (s : Setup) (h : List Act) → (seen s h).config ≡ s.config
-config_is s [] = refl
-config_is s (act ∷ h) = (same_after act (seen s h)).config ∙ config_is s h
+config_is s h = ap (λ x. x.config) (setup_is s h)
 
 pub outcomes_are_own : OutcomesAreOwn
 outcomes_are_own s h key clock other = (

@@ -650,7 +650,7 @@ names_dead clock e p = by (is_some e.live)
     by true = p
     by false = p
 
-shut_after : (act : Act) (v : Seen) → IsShut v → IsShut (after act v)
+pub shut_after : (act : Act) (v : Seen) → IsShut v → IsShut (after act v)
 shut_after (Lives link url) v p = lives_shut (is_ended v) v (subscribed_again link url v) refl refl p
 shut_after (Hears link f) v p = hears_shut (lives_on link v) link f v refl p
 shut_after (Loses link) v p = either (lives_on link v) (loses v) v (either v.is_raw (ends LinkLost v) (lost v) (λ why is. refl) (λ why is. refl)) p
@@ -675,7 +675,7 @@ is_shut s [] = λ why is. refl
 is_shut s (act ∷ h) = shut_after act (seen s h) (is_shut s h)
 
 -- it stays ended for the same reason, and nothing arrives
-abbrev Stays : Ending → Seen → Seen → List Frame → Type 0
+abbrev pub Stays : Ending → Seen → Seen → List Frame → Type 0
 Stays why v w arrived = (w.ended ≡ Some why) × (arrived ≡ [])
 
 or_first : (o : Option Ending) (why other : Ending) → o ≡ Some why → option_or o (Some other) ≡ Some why
@@ -686,7 +686,7 @@ lives_stays : (b : Bool) (why : Ending) (v w : Seen) → v.ended ≡ Some why �
 lives_stays true why v w p q = p
 lives_stays false why v w p q = q
 
-stays_after : (act : Act) (v : Seen) (why : Ending) → v.ended ≡ Some why → v.engine.live ≡ None → Stays why v (after act v) (arrives_by act v)
+pub stays_after : (act : Act) (v : Seen) (why : Ending) → v.ended ≡ Some why → v.engine.live ≡ None → Stays why v (after act v) (arrives_by act v)
 stays_after (Lives link url) v why is dead = (lives_stays (is_ended v) why v (subscribed_again link url v) is is, refl)
 stays_after (Hears link f) v why is dead =
     (lives_stays (lives_on link v) why (heard f v) v is is, ap (λ b. cond b (frame_for v f ∷ []) []) (not_on link v.engine.live dead))

@@ -1,5 +1,5 @@
 -- The steps in which an engine goes on.
-use Rattle.std.proofs.Common.{◌≡◌, ◌∙◌, ap, refl, ◌==◌, not, true, false, cond, List, [], ◌∷◌, length, arith}
+use Rattle.std.proofs.Common.{◌≡◌, ◌∙◌, ap, refl, ◌==◌, true, false, cond, List, [], ◌∷◌, length, arith}
 use Rattle.std.proofs.lemmas.Bool.Decides.{nat_tests}
 use Rattle.pulsar_consumer.specs.Items.{Item}
 use Rattle.pulsar_consumer.specs.Frames.{Frame}

@@ -9,7 +9,7 @@ use Rattle.pulsar_consumer.specs.Items.{Item, is_message}
 use Rattle.pulsar_consumer.specs.DeadLetters.{Letter}
 use Rattle.pulsar_consumer.specs.Frames.{Frame, failed}
 use Rattle.pulsar_consumer.specs.Redelivery.{Id, Kept as KeptList, due_before, forget, forget_all, next_check}
-use Rattle.pulsar_consumer.specs.Topic.{Act, Lives, Hears, Loses, Fails, Ends, Polls, Asks, IsAt, TakesCopy, IsCopied, FailsCopy, Stops, Forgets, Checks, Engine, Live, Seen, Setup, advances, after, asked, checks, clocked, copied, copy_failed, counts_first, cut_off, ends, finish, first_of, frame_for, gives, goes_on, heard, hears, idle, is_ended, is_finished, is_on, is_pending, lives, lives_on, loses, names_due, no_items, over, places, polled, polled_from, queue_of, seen, shut, stops, subscribed, takes_copy, told}
+use Rattle.pulsar_consumer.specs.Topic.{Act, Lives, Hears, Loses, Fails, Ends, Polls, Asks, IsAt, TakesCopy, IsCopied, FailsCopy, Stops, Forgets, Checks, Engine, Live, Seen, Setup, advances, after, asked, checks, clocked, copied, copy_failed, counts_first, cut_off, ends, finish, first_of, frame_for, gives, goes_on, heard, hears, idle, is_ended, is_finished, is_on, is_pending, lives, lives_on, loses, names_due, no_items, over, places, polled_from, queue_of, seen, shut, stops, subscribed, takes_copy, told}
 use Rattle.pulsar_consumer.specs.Laws.{EndIsFinal, Fate, Pending, Settled, FramesBeginInTurn, PollsGiveArrivals, PollsGiveTheNext, QueueIsKept, arrivals, arrives_by, begun, begun_behind, begun_in, behind_fate, fate, given, given_by, is_pending_in, is_stopped, left, outcome_by, outcome_if, outcomes, pending_behind, pending_in, queue, ready, ready_in}
 use Rattle.pulsar_incoming.specs.declared.polled.Ending.{Ending}
 use Rattle.pulsar_incoming.specs.declared.polled.Ending.TheVariants.{LinkLost, NotSubscribed}

@@ -1,30 +1,29 @@
 -- Ids that are kept: their order tells two of them apart, where they are listed as one of them is kept anew or forgotten, and those that are due.
-use Rattle.std.proofs.Common.{◌≡◌, ◌∙◌, ℕ, ℤ, ◌==◌, ◌&&◌, ◌||◌, nat_lt, not, sym, ap, subst, refl, arith, Bool, true, false, cond, filter, List, [], ◌∷◌, ◌++◌, length, map, Option, Some, None, Result, Ok, Err, IfOk, inl, inr}
+use Rattle.std.proofs.Common.{◌≡◌, ◌∙◌, ℕ, ℤ, ◌==◌, ◌&&◌, ◌||◌, nat_lt, not, sym, ap, subst, refl, arith, Bool, true, false, cond, filter, List, [], ◌∷◌, ◌++◌, map, Option, Some, None, Result, Ok, Err, IfOk, inl, inr}
 use Rattle.std.proofs.lemmas.Bool.{cases_Bool, eq-eqb, false≢true, or_right}
 use Rattle.std.proofs.lemmas.Bool.Decides.{nat_tests}
 use Rattle.std.proofs.lemmas.Cmp.{nat_cmp_total}
-use Rattle.std.proofs.lemmas.Grind.{common_steps}
 use Rattle.std.proofs.lemmas.List.Elements.{All-weaker, recursion_from_All}
 use Rattle.std.proofs.lemmas.Map.Entries.{lookup-filter-values, option_filter}
 use Rattle.std.proofs.lemmas.Map.Keys.{IsDistinct-from_sorted, sorted_head, sorted_tail}
-use Rattle.std.proofs.lemmas.Map.Lookups.{CmpEqualImpliesEq, btree_set_from_contains, exact_pairs, exact_signed, exact_unsigned}
+use Rattle.std.proofs.lemmas.Map.Lookups.{CmpEqualImpliesEq, btree_set_from_contains, exact_signed, exact_unsigned}
 use Rattle.std.proofs.lemmas.Map.Made.{is_some-lookup}
 use Rattle.std.proofs.lemmas.Map.Views.{All-found, tells_apart}
 use Rattle.std.specs.BTreeMap.{BTreeMap, IsOrdered, get, is_at}
 use Rattle.std.specs.BTreeSet.{BTreeSet, contains}
-use Rattle.std.specs.Cmp.{IsTotalOrder, eq_by_cmp_equiv}
+use Rattle.std.specs.Cmp.{eq_by_cmp_equiv}
 use Rattle.std.specs.Cmp.Lexicographic.{slice_cmp}
 use Rattle.std.specs.List.{AllByRecursion, list_any}
 use Rattle.std.specs.List.Sorted.{IsStrictlySortedBy}
 use Rattle.std.specs.Map.{keys_of, lookup, remove_entry}
 use Rattle.std.specs.Option.{is_some, option_cmp}
-use Rattle.std.specs.Ordering.{int_cmp, is_gt, nat_cmp, ordering_then}
+use Rattle.std.specs.Ordering.{int_cmp, nat_cmp, ordering_then}
 use Rattle.std.specs.declared.cmp.Ordering.{Ordering}
 use Rattle.std.specs.declared.cmp.Ordering.TheVariants.{Less, Equal, Greater}
 use Rattle.pulsar_wire.specs.Orders.{id_order}
 use Rattle.pulsar_consumer.specs.IdOrder.{id_total}
-use Rattle.pulsar_consumer.specs.KeptIds.{is_in, is_moment, moment_of}
-use Rattle.pulsar_consumer.specs.Redelivery.{Id, Kept, due_before, forget, is_due_before, is_early, is_same_id}
+use Rattle.pulsar_consumer.specs.KeptIds.{is_moment, moment_of}
+use Rattle.pulsar_consumer.specs.Redelivery.{Id, Kept, due_before, is_due_before, is_early, is_same_id}
 
 -- TWO IDS ARE ONE WHERE NO FIELD TELLS THEM APART
 

@@ -1,5 +1,5 @@
 -- Each receipt of a copy licenses one acknowledgement at most.
-use Rattle.std.proofs.Common.{◌≡◌, ◌==◌, refl, cond, Bool, true, false, List, [], ◌∷◌, ◌++◌, Option, Some, None, inl, inr}
+use Rattle.std.proofs.Common.{◌==◌, refl, cond, Bool, true, false, List, [], ◌∷◌, ◌++◌, Option, Some, None, inl, inr}
 use Rattle.std.specs.Option.{is_some, option_to_list}
 use Rattle.pulsar_consumer.specs.Redelivery.{Id}
 use Rattle.pulsar_consumer.specs.Topic.{Act, Lives, Hears, Loses, Fails, Ends, Polls, Asks, IsAt, TakesCopy, IsCopied, FailsCopy, Stops, Forgets, Checks, Seen, acked_by, only_if, seen}

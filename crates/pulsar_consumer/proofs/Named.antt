@@ -1,15 +1,14 @@
 -- What every history keeps of the ids: those that are placed are kept until they are due.
-use Rattle.std.proofs.Common.{◌≡◌, ◌∙◌, sym, ap, refl, subst, ℕ, suc, ◌+◌, ◌≤◌, ◌==◌, ◌&&◌, ◌||◌, not, Bool, true, false, cond, List, [], ◌∷◌, ◌++◌, length, take, Option, Some, None, arith}
+use Rattle.std.proofs.Common.{◌≡◌, ◌∙◌, sym, ap, refl, subst, ℕ, suc, ◌+◌, ◌==◌, ◌&&◌, Bool, true, false, cond, List, [], ◌∷◌, ◌++◌, length, take, Option, Some, None, arith}
 use Rattle.std.proofs.lemmas.List.{append-nil, append_assoc}
 use Rattle.std.specs.List.Sorted.{IsStrictlySortedBy}
 use Rattle.std.specs.Map.{lookup}
 use Rattle.std.specs.Option.{is_some, option_map, option_or}
-use Rattle.url.specs.Parts.{Parts}
 use Rattle.pulsar_consumer.specs.Items.{Item}
 use Rattle.pulsar_consumer.specs.DeadLetters.{Letter, lost_letter}
 use Rattle.pulsar_consumer.specs.Frames.{Frame, failed}
 use Rattle.pulsar_consumer.specs.Redelivery.{Id, Kept, due_at, due_before, forget, forget_all, forget_one, is_early, is_same_id, keep_all, next_check}
-use Rattle.pulsar_consumer.specs.Topic.{Act, Lives, Hears, Loses, Fails, Ends, Polls, Asks, IsAt, TakesCopy, IsCopied, FailsCopy, Stops, Forgets, Checks, Engine, Live, Seen, Setup, acked_by, advances, after, clocked, copied, copy_failed, counts_first, ends, finish, first_of, frame_for, gives, gives_from, gives_up, goes_on, heard, hears, is_ended, is_finished, is_pending, lives_on, only_if, placing, places, polled, seen, stops, takes_copy, takes_copy_from, told}
+use Rattle.pulsar_consumer.specs.Topic.{Act, Lives, Hears, Loses, Fails, Ends, Polls, Asks, IsAt, TakesCopy, IsCopied, FailsCopy, Stops, Forgets, Checks, Engine, Live, Seen, Setup, acked_by, advances, after, clocked, copied, copy_failed, counts_first, ends, finish, first_of, frame_for, gives, gives_from, gives_up, goes_on, heard, hears, is_ended, is_finished, is_pending, lives_on, only_if, placing, places, seen, stops, takes_copy, takes_copy_from, told}
 use Rattle.pulsar_consumer.specs.Laws.{given, given_by, is_acked, is_forgotten_by, left, placed, queue}
 use Rattle.pulsar_incoming.specs.declared.polled.Ending.{Ending}
 use Rattle.pulsar_incoming.specs.declared.polled.Ending.TheVariants.{LinkLost, NotSubscribed}

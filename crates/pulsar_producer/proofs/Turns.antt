@@ -261,24 +261,6 @@ first_come_first_served s (Passes ∷ h) all =
     let v = seen s h in
     goes_on (served s h) (option_to_list (first_of v.waiting)) v.waiting (rest_of v.waiting) (takers h) (line_passes v.waiting)
     (first_come_first_served s h (came_same (takers h) all))
-first_come_first_served s (Draws ∷ h) all =
-    stays_on (served s h) (seen s h).waiting (after Draws (seen s h)).waiting (takers h) (draws_same (is_spent (seen s h).next) (seen s h) _ refl)
+first_come_first_served s (act ∷ h) all =
+    stays_on (served s h) (seen s h).waiting (after act (seen s h)).waiting (takers h) (turn_stays act (seen s h) refl).1
     (first_come_first_served s h (came_same (takers h) all))
-first_come_first_served s (Remakes l g ∷ h) all =
-    stays_on (served s h) (seen s h).waiting (seen s h).waiting (takers h) refl (first_come_first_served s h (came_same (takers h) all))
-first_come_first_served s (Closes ∷ h) all =
-    stays_on (served s h) (seen s h).waiting (seen s h).waiting (takers h) refl (first_come_first_served s h (came_same (takers h) all))
-first_come_first_served s (Stores u m ∷ h) all =
-    stays_on (served s h) (seen s h).waiting (after (Stores u m) (seen s h)).waiting (takers h) (stores_keeps (SingleMessage u m) (seen s h)).2
-    (first_come_first_served s h (came_same (takers h) all))
-first_come_first_served s (Flushes u ∷ h) all =
-    stays_on (served s h) (seen s h).waiting (after (Flushes u) (seen s h)).waiting (takers h) (flushes_keeps u (seen s h)).2
-    (first_come_first_served s h (came_same (takers h) all))
-first_come_first_served s (Cuts ∷ h) all =
-    stays_on (served s h) (seen s h).waiting (after Cuts (seen s h)).waiting (takers h) (cuts_keeps (seen s h)).2
-    (first_come_first_served s h (came_same (takers h) all))
-first_come_first_served s (TakesBatch ∷ h) all =
-    stays_on (served s h) (seen s h).waiting (after TakesBatch (seen s h)).waiting (takers h) (takes_batch_keeps (seen s h).cut (seen s h)).2
-    (first_come_first_served s h (came_same (takers h) all))
-first_come_first_served s (Halts ∷ h) all =
-    stays_on (served s h) (seen s h).waiting (seen s h).waiting (takers h) refl (first_come_first_served s h (came_same (takers h) all))

@@ -72,8 +72,8 @@ use Rattle.pulsar_machine.specs.Options.{Options}
 use Rattle.pulsar_links.specs.Seats.{Seat, answer_at}
 use Rattle.pulsar_calls.specs.Who.{is_same, turn_of as taken_as}
 use Rattle.pulsar_producer_table.specs.Takers.{who_at}
-use Rattle.pulsar_producer.specs.declared.multi_topic.content.Taker.{Taker}
-use Rattle.pulsar_producer.specs.declared.multi_topic.content.Taker.TheVariants as taker
+use Rattle.pulsar_outgoing.specs.declared.multi_topic.Taker.{Taker}
+use Rattle.pulsar_outgoing.specs.declared.multi_topic.Taker.TheVariants as taker
 use Rattle.pulsar_laws.specs.Laws.{started, outcomes, deeds, Answered}
 
 -- what is told of a frame that is queued

@@ -14,10 +14,10 @@ use Rattle.pulsar_producer.specs.News.{News}
 use Rattle.pulsar_searches.specs.declared.transition.Transition.TheVariants.{Stays, Gives}
 use Rattle.pulsar_producer.specs.declared.multi_topic.closing.MultiClosing.{MultiClosing}
 use Rattle.pulsar_producer.specs.declared.multi_topic.closing.MultiClosing.TheVariants as close
-use Rattle.pulsar_producer.specs.declared.multi_topic.content.Dispatch.{Dispatch}
-use Rattle.pulsar_producer.specs.declared.multi_topic.content.MultiSaid.{MultiSaid}
-use Rattle.pulsar_producer.specs.declared.multi_topic.content.MultiSaid.TheVariants.{HasTurn, Handed, Absent, Removed, Done}
-use Rattle.pulsar_producer.specs.declared.multi_topic.content.MultiAsk.TheVariants.{PassTurn}
+use Rattle.pulsar_outgoing.specs.declared.multi_topic.Dispatch.{Dispatch}
+use Rattle.pulsar_outgoing.specs.declared.multi_topic.MultiSaid.{MultiSaid}
+use Rattle.pulsar_outgoing.specs.declared.multi_topic.MultiSaid.TheVariants.{HasTurn, Handed, Absent, Removed, Done}
+use Rattle.pulsar_outgoing.specs.declared.multi_topic.MultiAsk.TheVariants.{PassTurn}
 use Rattle.pulsar_producer.specs.declared.multi_topic.deed.MultiDeed.TheVariants.{Asks}
 use Rattle.pulsar_producer.specs.declared.multi_topic.deed.MultiNews.{MultiNews}
 use Rattle.pulsar_producer.specs.declared.multi_topic.deed.MultiNews.TheVariants.{Said, Told}

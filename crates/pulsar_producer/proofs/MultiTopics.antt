@@ -12,7 +12,7 @@ use Rattle.pulsar_messages.specs.Content.{ProducerMessageValues, ProducerOptions
 use Rattle.pulsar_producer.specs.MultiLaws.{AreBehind, Ascend, ThereUntilRemoved, TopicsAscend, was_joined}
 use Rattle.pulsar_producer.specs.MultiTopic.{Act, Takes, Passes, Hands, Joins, Removes, Seen, Topics, after, found, joined, names, removed, routed, seen, takes_in}
 use Rattle.pulsar_producer.specs.Producer as producer
-use Rattle.pulsar_producer.specs.declared.multi_topic.content.Taker.{Taker}
+use Rattle.pulsar_outgoing.specs.declared.multi_topic.Taker.{Taker}
 
 abbrev cmp : List ℕ → List ℕ → Ordering
 cmp = slice_cmp nat_cmp

@@ -6,7 +6,7 @@ use Rattle.pulsar_messages.specs.Content.{ProducerOptionsValues}
 use Rattle.pulsar_producer.specs.MultiLaws.{FirstComeFirstServed, MultiNobodyWaitsForFree, MultiOneAtATime, gives_turn, keeps, served, takers, turn_if}
 use Rattle.pulsar_producer.specs.MultiTopic.{Act, Takes, Passes, Hands, Joins, Removes, Seen, after, is_free, seen, takes_in}
 use Rattle.pulsar_producer.specs.Turns.{first_of, rest_of}
-use Rattle.pulsar_producer.specs.declared.multi_topic.content.Taker.{Taker}
+use Rattle.pulsar_outgoing.specs.declared.multi_topic.Taker.{Taker}
 
 -- NOBODY WAITS FOR A FREE TURN
 

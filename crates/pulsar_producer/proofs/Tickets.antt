@@ -8,8 +8,8 @@ use Rattle.pulsar_messages.specs.Claims.{is_spent}
 use Rattle.pulsar_outgoing.specs.Storage.{Item, SingleMessage, Flush, is_nothing, is_ready, pushed}
 use Rattle.pulsar_producer.specs.Topic.{Act, Takes, Passes, Draws, Closes, Stores, Flushes, Cuts, TakesBatch, Halts, Seen, Setup, after, cuts, fresh, is_settled, left_of, stores, takes_in}
 use Rattle.pulsar_producer.specs.Turns.{beside, placed, queued, rest_of}
-use Rattle.pulsar_producer.specs.declared.multi_topic.content.Taker.{Taker}
-use Rattle.pulsar_producer.specs.declared.multi_topic.content.Taker.TheVariants.{Call, Copy}
+use Rattle.pulsar_outgoing.specs.declared.multi_topic.Taker.{Taker}
+use Rattle.pulsar_outgoing.specs.declared.multi_topic.Taker.TheVariants.{Call, Copy}
 
 -- LISTS
 

@@ -8,8 +8,8 @@ use Rattle.std.specs.Ordering.{match_ordering, nat_cmp}
 use Rattle.std.specs.declared.cmp.Ordering.TheVariants.{Less, Equal, Greater}
 use Rattle.pulsar_messages.specs.Claims.{is_spent}
 use Rattle.pulsar_outgoing.specs.Storage.{SingleMessage}
-use Rattle.pulsar_producer.specs.declared.multi_topic.content.Taker.{Taker}
-use Rattle.pulsar_producer.specs.declared.multi_topic.content.Taker.TheVariants.{Call, Copy}
+use Rattle.pulsar_outgoing.specs.declared.multi_topic.Taker.{Taker}
+use Rattle.pulsar_outgoing.specs.declared.multi_topic.Taker.TheVariants.{Call, Copy}
 use Rattle.pulsar_producer.specs.Topic.{Act, Takes, Passes, Draws, Stores, Flushes, Cuts, TakesBatch, Seen, Setup, after, is_free, seen, takes_in}
 use Rattle.pulsar_producer.specs.Turns.{first_of, placed, queued, rest_of}
 use Rattle.pulsar_producer.specs.Laws.{AreAbove, Ascend, FirstComeFirstServed, FirstIsNext, LowestIsNext, NobodyWaitsForFree, OneAtATime, WaitsInLine, gives_turn, is_listed, is_taker, keeps, served, takers, taker_of, tickets, turn_if}

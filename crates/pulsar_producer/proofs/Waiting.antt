@@ -3,8 +3,8 @@ use Rattle.std.proofs.Common.{◌≡◌, sym, ap, refl, subst, ℕ, ◌<◌, ◌
 use Rattle.std.proofs.lemmas.Bool.Decides.{nat_tests}
 use Rattle.std.specs.Ordering.{match_ordering}
 use Rattle.std.specs.declared.cmp.Ordering.TheVariants.{Less, Equal, Greater}
-use Rattle.pulsar_producer.specs.declared.multi_topic.content.Taker.{Taker}
-use Rattle.pulsar_producer.specs.declared.multi_topic.content.Taker.TheVariants.{Call, Copy}
+use Rattle.pulsar_outgoing.specs.declared.multi_topic.Taker.{Taker}
+use Rattle.pulsar_outgoing.specs.declared.multi_topic.Taker.TheVariants.{Call, Copy}
 use Rattle.pulsar_producer.specs.Laws.{tickets}
 use Rattle.pulsar_producer.specs.Turns.{AreAtMost, placed}
 

@@ -9,8 +9,8 @@ use Rattle.pulsar_outgoing.specs.Errors.{in_producer, no_such_index}
 use Rattle.pulsar_producer.specs.Producer as producer
 use Rattle.pulsar_producer.specs.Producer.{number_on}
 use Rattle.pulsar_outgoing.specs.Storage.{is_batching}
-use Rattle.pulsar_producer.specs.declared.multi_topic.content.Dispatch.{Dispatch}
-use Rattle.pulsar_producer.specs.declared.multi_topic.content.Dispatch.TheVariants.{Send, Store}
+use Rattle.pulsar_outgoing.specs.declared.multi_topic.Dispatch.{Dispatch}
+use Rattle.pulsar_outgoing.specs.declared.multi_topic.Dispatch.TheVariants.{Send, Store}
 
 -- the payload of a message that is stored has a size in an i32
 abbrev pub stored_as : (number : ℕ) → Option EntryValues → Result Dispatch Failure

@@ -15,8 +15,8 @@ use Rattle.pulsar_outgoing.specs.declared.news.Drawn.{Drawn}
 use Rattle.pulsar_producer.specs.News.{News}
 use Rattle.pulsar_outgoing.specs.declared.news.News.TheVariants.{Queued, Drew}
 use Rattle.pulsar_producer.specs.declared.deed.Send.{Send}
-use Rattle.pulsar_producer.specs.declared.multi_topic.content.Taker.{Taker}
-use Rattle.pulsar_producer.specs.declared.multi_topic.content.Taker.TheVariants.{Call, Copy}
+use Rattle.pulsar_outgoing.specs.declared.multi_topic.Taker.{Taker}
+use Rattle.pulsar_outgoing.specs.declared.multi_topic.Taker.TheVariants.{Call, Copy}
 use Rattle.pulsar_outgoing.specs.declared.orders.Errand.{Errand}
 use Rattle.pulsar_producer.specs.declared.sending.Sending.{Sending}
 use Rattle.pulsar_producer.specs.declared.sending.Sending.TheVariants.{Drawing, Asked}

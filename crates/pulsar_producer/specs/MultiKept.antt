@@ -5,7 +5,7 @@ use Rattle.pulsar_wire.specs.Failures.{Failure}
 use Rattle.pulsar_producer.specs.Dispatching.{dispatched}
 use Rattle.pulsar_producer.specs.MultiTopic.{Seen}
 use Rattle.pulsar_producer.specs.Producer as producer
-use Rattle.pulsar_producer.specs.declared.multi_topic.content.Dispatch.{Dispatch}
+use Rattle.pulsar_outgoing.specs.declared.multi_topic.Dispatch.{Dispatch}
 use Rattle.pulsar_producer.specs.declared.multi_topic.producer.MultiTopicProducer.TheInside.{Inside}
 
 abbrev pub named : {Z : Type 0} → String Z × producer.Seen → List ℕ × producer.Seen

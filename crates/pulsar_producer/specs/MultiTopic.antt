@@ -11,10 +11,10 @@ use Rattle.pulsar_producer.specs.Producer as producer
 use Rattle.pulsar_producer.specs.Routing.{Policy}
 use Rattle.pulsar_producer.specs.Turns.{first_of, rest_of}
 use Rattle.pulsar_outgoing.specs.declared.orders.ProducerOrder.{ProducerOrder}
-use Rattle.pulsar_producer.specs.declared.multi_topic.content.Handing.{Handing}
-use Rattle.pulsar_producer.specs.declared.multi_topic.content.MultiSaid.{MultiSaid}
-use Rattle.pulsar_producer.specs.declared.multi_topic.content.MultiSaid.TheVariants.{Handed, Absent}
-use Rattle.pulsar_producer.specs.declared.multi_topic.content.Taker.{Taker}
+use Rattle.pulsar_outgoing.specs.declared.multi_topic.Handing.{Handing}
+use Rattle.pulsar_outgoing.specs.declared.multi_topic.MultiSaid.{MultiSaid}
+use Rattle.pulsar_outgoing.specs.declared.multi_topic.MultiSaid.TheVariants.{Handed, Absent}
+use Rattle.pulsar_outgoing.specs.declared.multi_topic.Taker.{Taker}
 
 -- WHAT IS DONE TO IT: an act for each call that changes it
 

@@ -4,7 +4,7 @@ ghost use Rattle.std.specs.Prelude.{◌≡◌, ◌≤◌, [], insert, OnErr, OnO
 ghost use Rattle.std.specs.VecDeque.{deque_len};
 ghost use Rattle.pulsar_producer.specs.Turns.{beside, first_of, placed, queued, rest_of};
 
-use crate::multi_topic::content::Taker;
+use pulsar_outgoing::multi_topic::Taker;
 use pulsar_wire::error::NoMemory;
 use std::alloc::Global;
 use std::cmp::Ordering;
@@ -29,7 +29,7 @@ impl Drop for Line {
 
 impl Model for Line {
     ghost use Rattle.std.specs.Prelude.{List};
-    ghost use Rattle.pulsar_producer.specs.declared.multi_topic.content.Taker.{Taker};
+    ghost use Rattle.pulsar_outgoing.specs.declared.multi_topic.Taker.{Taker};
     ghost use Rattle.pulsar_producer.specs.Turns.{AreAtMost};
 
     ghost Value = { List Taker };

@@ -9,12 +9,12 @@ ghost use Rattle.pulsar_outgoing.specs.Errors.{IsNoMemory, no_such_index};
 ghost use Rattle.pulsar_producer.specs.Dispatching.{dispatched, sent_as, stored_as};
 ghost use Rattle.pulsar_producer.specs.Producer.{advice, after, is_single, made, names, number_for, number_on, topic_of};
 
-use crate::multi_topic::content::{Dispatch, UserMessage};
 use crate::routing::{CustomRoutingPolicy, Partition, PartitionedProducer};
 use pulsar_addresses::content::{Refusal, Text};
 use pulsar_messages::{Message, ProducerOptions};
 use pulsar_outgoing::content::{Entry, Outgoing, Settings};
 use pulsar_outgoing::failing::in_producer;
+use pulsar_outgoing::multi_topic::{Dispatch, UserMessage};
 use pulsar_outgoing::orders::Errand;
 use pulsar_wire::error::{ConnectionError, Error, NoMemory, ProducerError, Reason};
 use std::alloc::Global;

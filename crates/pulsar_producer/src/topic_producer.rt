@@ -8,9 +8,9 @@ ghost use Rattle.pulsar_producer.specs.Topic.{Closes, Cuts, Draws, Flushes, Halt
 ghost use Rattle.pulsar_outgoing.specs.Storage.{is_nothing};
 
 use crate::line::Line;
-use crate::multi_topic::content::Taker;
 use pulsar_addresses::content::Text;
 use pulsar_outgoing::content::{Batch, Built, Entry, Settings, Version};
+use pulsar_outgoing::multi_topic::Taker;
 use pulsar_outgoing::replies::Given;
 use pulsar_outgoing::storage::{BatchItem, BatchStorage, Limits};
 use pulsar_searches::making::Command;

@@ -15,8 +15,8 @@ use Rattle.pulsar_calls.specs.declared.act.TopicAsk.{TopicAsk}
 use Rattle.pulsar_calls.specs.declared.act.TopicAsk.TheVariants.{TakeTurn, PassTurn, Draw, Recall, Remake, Find, Store, Flush, TakeBatch}
 use Rattle.pulsar_calls.specs.declared.act.Who.TheVariants.{Producer}
 use Rattle.pulsar_calls.specs.Notices.{notice}
-use Rattle.pulsar_producer.specs.declared.multi_topic.content.Taker.{Taker}
-use Rattle.pulsar_producer.specs.declared.multi_topic.content.Taker.TheVariants.{Call}
+use Rattle.pulsar_outgoing.specs.declared.multi_topic.Taker.{Taker}
+use Rattle.pulsar_outgoing.specs.declared.multi_topic.Taker.TheVariants.{Call}
 use Rattle.pulsar_producer_table.specs.Producers.{Producers, drawn, is_settled_at, is_woken, link_at, next_batch_at, recalled, turn_passed, turn_taken}
 use Rattle.pulsar_producer_table.specs.Takers.{who_at}
 use Rattle.pulsar_producer_table.specs.declared.table.Topic.{Topic}

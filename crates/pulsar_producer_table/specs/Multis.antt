@@ -12,15 +12,15 @@ use Rattle.pulsar_producer.specs.Producer as producer
 use Rattle.pulsar_producer.specs.Producer.{made}
 use Rattle.pulsar_producer.specs.Random.{first_index}
 use Rattle.pulsar_producer.specs.Routing.{Policy}
-use Rattle.pulsar_producer.specs.declared.multi_topic.content.Handing.{Handing}
-use Rattle.pulsar_producer.specs.declared.multi_topic.content.Joining.{Joining}
-use Rattle.pulsar_producer.specs.declared.multi_topic.content.MultiSaid.{MultiSaid}
-use Rattle.pulsar_producer.specs.declared.multi_topic.content.MultiSaid.TheVariants.{HasTurn, Removed, Done}
-use Rattle.pulsar_producer.specs.declared.multi_topic.content.MultiAsk.{MultiAsk}
-use Rattle.pulsar_producer.specs.declared.multi_topic.content.MultiAsk.TheVariants as ask
-use Rattle.pulsar_producer.specs.declared.multi_topic.content.Multi.{Multi}
-use Rattle.pulsar_producer.specs.declared.multi_topic.content.Multi.TheVariants.{Own, Made}
-use Rattle.pulsar_producer.specs.declared.multi_topic.content.Taker.{Taker}
+use Rattle.pulsar_outgoing.specs.declared.multi_topic.Handing.{Handing}
+use Rattle.pulsar_outgoing.specs.declared.multi_topic.Joining.{Joining}
+use Rattle.pulsar_outgoing.specs.declared.multi_topic.MultiSaid.{MultiSaid}
+use Rattle.pulsar_outgoing.specs.declared.multi_topic.MultiSaid.TheVariants.{HasTurn, Removed, Done}
+use Rattle.pulsar_outgoing.specs.declared.multi_topic.MultiAsk.{MultiAsk}
+use Rattle.pulsar_outgoing.specs.declared.multi_topic.MultiAsk.TheVariants as ask
+use Rattle.pulsar_outgoing.specs.declared.multi_topic.Multi.{Multi}
+use Rattle.pulsar_outgoing.specs.declared.multi_topic.Multi.TheVariants.{Own, Made}
+use Rattle.pulsar_outgoing.specs.declared.multi_topic.Taker.{Taker}
 use Rattle.pulsar_producer_table.specs.Producers.{numbers_at, partition_of}
 
 -- the client's own, of default options, and by the tickets of the calls that made them all others

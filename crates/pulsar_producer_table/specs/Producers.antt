@@ -20,7 +20,7 @@ use Rattle.pulsar_producer.specs.Topic.{Act, Closes, Halts, fresh, is_free, is_s
 use Rattle.pulsar_outgoing.specs.Storage.{is_nothing}
 use Rattle.pulsar_outgoing.specs.declared.content.Built.{Built}
 use Rattle.pulsar_outgoing.specs.declared.news.Drawn.{Drawn}
-use Rattle.pulsar_producer.specs.declared.multi_topic.content.Taker.{Taker}
+use Rattle.pulsar_outgoing.specs.declared.multi_topic.Taker.{Taker}
 use Rattle.pulsar_producer.specs.declared.routing.Partition.{Partition}
 use Rattle.pulsar_outgoing.specs.declared.orders.Errand.{Errand}
 use Rattle.pulsar_outgoing.specs.declared.storage.Limits.{Limits}

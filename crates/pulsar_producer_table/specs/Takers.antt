@@ -1,8 +1,8 @@
 -- Who has a turn at a topic producer, or at a producer of many topics: a call, the batches of the topic producer itself, or a consumer for the
 -- copy of one of its dead letters.
 use Rattle.std.specs.Prelude.{ℕ}
-use Rattle.pulsar_producer.specs.declared.multi_topic.content.Taker.{Taker}
-use Rattle.pulsar_producer.specs.declared.multi_topic.content.Taker.TheVariants as taker
+use Rattle.pulsar_outgoing.specs.declared.multi_topic.Taker.{Taker}
+use Rattle.pulsar_outgoing.specs.declared.multi_topic.Taker.TheVariants as taker
 use Rattle.pulsar_calls.specs.declared.act.Who.{Who}
 use Rattle.pulsar_calls.specs.declared.act.Who.TheVariants.{Call, Consumer}
 use Rattle.pulsar_calls.specs.Who.{in_turn}

@@ -15,7 +15,7 @@ use pulsar_addresses::content::Cause;
 use pulsar_calls::act::{Notice, Outcome, TopicAsk, Who};
 use pulsar_calls::content::{Granted, News};
 use pulsar_outgoing::content::{Entry, Version};
-use pulsar_producer::multi_topic::content::Taker;
+use pulsar_outgoing::multi_topic::Taker;
 use pulsar_wire::error::{ConnectionError, NoMemory};
 use std::alloc::Global;
 

@@ -14,7 +14,7 @@ use crate::takers::who_of;
 use pulsar_addresses::content::Text;
 use pulsar_calls::act::{Notice, Outcome};
 use pulsar_outgoing::content::Settings;
-use pulsar_producer::multi_topic::content::{Handing, Multi, MultiSaid, Taker};
+use pulsar_outgoing::multi_topic::{Handing, Multi, MultiSaid, Taker};
 use pulsar_producer::{CustomRoutingPolicy, MultiTopicProducer, Producer, ProducerOptions};
 use pulsar_wire::error::NoMemory;
 use std::alloc::Global;

@@ -5,7 +5,7 @@ ghost use Rattle.pulsar_producer_table.specs.Takers.{who_at, who_of};
 
 use pulsar_calls::act::Who;
 use pulsar_calls::who::in_turn;
-use pulsar_producer::multi_topic::content::Taker;
+use pulsar_outgoing::multi_topic::Taker;
 
 /// Who has a turn at a producer of many topics so.
 pub(crate) fn who_of(taker: Taker) -> Who

@@ -26,7 +26,7 @@ use Rattle.pulsar_acts.specs.View.{pause_for, pause_of}
 use Rattle.pulsar_calls.specs.Who.{in_turn}
 use Rattle.pulsar_producer_table.specs.Takers.{who_at}
 use Rattle.pulsar_laws.proofs.producers.Users.{passes_by_ticket}
-use Rattle.pulsar_producer.specs.declared.multi_topic.content.Taker.{Taker}
+use Rattle.pulsar_outgoing.specs.declared.multi_topic.Taker.{Taker}
 use Rattle.pulsar_producer.specs.Topic as topic
 use Rattle.pulsar_producer_table.specs.declared.table.Topic.{Topic}
 use Rattle.pulsar_producer_table.specs.Producers.{drawn, is_settled_at, is_woken, link_at, next_batch_at, number_drawn, numbers_at, recalled, stored_at, stored_by, turn_passed, turn_taken, unsent, unsent_at, waiting, waiting_at}

@@ -7,7 +7,7 @@ use Rattle.pulsar_laws.proofs.RunWords.{Begins, begun_same, counted, Each, Entry
 use Rattle.pulsar_frame.specs.Batch.{EntryValues}
 use Rattle.pulsar_messages.specs.Claims.{is_spent}
 use Rattle.pulsar_outgoing.specs.Storage.{Item, SingleMessage, Flush, is_nothing, is_ready, pushed}
-use Rattle.pulsar_producer.specs.declared.multi_topic.content.Taker.{Taker}
+use Rattle.pulsar_outgoing.specs.declared.multi_topic.Taker.{Taker}
 use Rattle.pulsar_producer.specs.Topic as topic
 use Rattle.pulsar_producer.specs.Topic.{Act as Deed, Closes, Cuts, cuts, Draws, Flushes, Halts, is_settled, left_of, next_of, Passes, Remakes, Seen, Stores, stores, Takes, takes_in, TakesBatch}
 use Rattle.pulsar_calls.specs.declared.act.Procedure.TheVariants as procedure

@@ -6,7 +6,7 @@ use Rattle.pulsar_laws.proofs.ActWords.{Action, Call, Consumer, Does, OfTopic, O
 use Rattle.pulsar_laws.proofs.PlanWords.{Batches, Batching, begins, Errand, Gives, Leaving, Member, Plan, PlanTransition, Reporting, Sending as Send, Stays, told, Visiting, Ways}
 use Rattle.pulsar_laws.proofs.RunWords.{counted, Entry, In, IsRun, notice, Options, start_of, started, stays, stays_some, Then, told_some, view}
 use Rattle.pulsar_messages.specs.Claims.{is_spent}
-use Rattle.pulsar_producer.specs.declared.multi_topic.content.Taker.TheVariants as taker
+use Rattle.pulsar_outgoing.specs.declared.multi_topic.Taker.TheVariants as taker
 use Rattle.pulsar_producer.specs.declared.batching.Batching.TheVariants as batching
 use Rattle.pulsar_producer.specs.declared.sending.Sending.TheVariants as send
 use Rattle.pulsar_plans.specs.declared.plan.At.{At as Spot}

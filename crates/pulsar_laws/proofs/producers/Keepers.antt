@@ -8,7 +8,7 @@ use Rattle.pulsar_frame.specs.Batch.{EntryValues}
 use Rattle.pulsar_searches.specs.declared.turn.Action.TheVariants as wish
 use Rattle.pulsar_outgoing.specs.Batch.{member_of}
 use Rattle.pulsar_outgoing.specs.Storage.{Item, SingleMessage, Flush as FlushItem}
-use Rattle.pulsar_producer.specs.declared.multi_topic.content.Taker.{Taker}
+use Rattle.pulsar_outgoing.specs.declared.multi_topic.Taker.{Taker}
 use Rattle.pulsar_producer.specs.Topic as topic
 use Rattle.pulsar_producer.proofs.Tickets.{BringsSo, UsersSo, users_map, users_so}
 use Rattle.pulsar_outgoing.specs.declared.batch.Member.TheVariants as member

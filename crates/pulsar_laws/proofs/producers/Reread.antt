@@ -29,7 +29,7 @@ use Rattle.pulsar_messages.specs.Words.{when_full}
 use Rattle.pulsar_session.specs.declared.states.Asked.{Asked as Placed}
 use Rattle.pulsar_session.specs.Link.{Seen, answer_of, can_wait, drawn, fits, frame_for, has_room, message_of, number_for, place_in, ticked}
 use Rattle.pulsar_outgoing.specs.Storage.{Item, Flush, SingleMessage, is_nothing, is_ready, pushed}
-use Rattle.pulsar_producer.specs.declared.multi_topic.content.Taker.{Taker}
+use Rattle.pulsar_outgoing.specs.declared.multi_topic.Taker.{Taker}
 use Rattle.pulsar_producer.specs.Topic as topic
 use Rattle.pulsar_producer.specs.Topic.{Act as Deed, Takes, Passes, Draws, Remakes, Closes, Stores, Flushes, Cuts, TakesBatch, Halts, Setup, cuts, is_settled, left_of, stores, takes_in}
 use Rattle.pulsar_laws.proofs.Cases.{cond_so, cond_when}

@@ -22,7 +22,7 @@ use Rattle.pulsar_links.specs.Alarms.{clear, is_same_alarm}
 use Rattle.pulsar_links.specs.LinkRules.{answered_by, answered_on, dropped, ended_by, ended_on, fails_so, lost, moved_on, served_by}
 use Rattle.pulsar_links.specs.Links.{line_places, settled_in}
 use Rattle.pulsar_links.specs.Seats.{askers_left, base_turned}
-use Rattle.pulsar_producer.specs.declared.multi_topic.content.Taker.{Taker}
+use Rattle.pulsar_outgoing.specs.declared.multi_topic.Taker.{Taker}
 use Rattle.pulsar_producer.specs.Topic as topic
 use Rattle.pulsar_producer.specs.Topic.{cuts, is_settled, stores, takes_in}
 use Rattle.pulsar_messages.specs.Claims.{is_spent}

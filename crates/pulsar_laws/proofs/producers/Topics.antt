@@ -7,7 +7,7 @@ use Rattle.pulsar_laws.proofs.LinkWords.{rings}
 use Rattle.pulsar_producer.specs.Topic as topic
 use Rattle.pulsar_outgoing.specs.Storage.{limits_of}
 use Rattle.pulsar_producer.specs.Topic.{Act as Deed, Closes, Halts, Seen, Setup, Passes, Draws, Remakes, Stores, Cuts, TakesBatch, Takes, Flushes}
-use Rattle.pulsar_producer.specs.declared.multi_topic.content.Taker.TheVariants as taker
+use Rattle.pulsar_outgoing.specs.declared.multi_topic.Taker.TheVariants as taker
 use Rattle.pulsar_calls.specs.declared.content.Remaking.{Remaking}
 use Rattle.pulsar_outgoing.specs.declared.storage.Limits.{Limits}
 use Rattle.pulsar_producer_table.specs.declared.table.Topic.{Topic}

@@ -9,8 +9,8 @@ use Rattle.std.specs.declared.cmp.Ordering.TheVariants.{Less, Equal, Greater}
 use Rattle.pulsar_laws.proofs.ActWords.{Act, Call, is_same, Notice, Procedure, Producer, Starts, Told, Who}
 use Rattle.pulsar_laws.proofs.PlanWords.{Batching, begins, Gives, Leaving, Plan, PlanTransition, Stays, told}
 use Rattle.pulsar_laws.proofs.RunWords.{counted, Entry, In, IsRun, Options, start_of, stays, stays_some, Then, told_some, view}
-use Rattle.pulsar_producer.specs.declared.multi_topic.content.Taker.{Taker}
-use Rattle.pulsar_producer.specs.declared.multi_topic.content.Taker.TheVariants as taker
+use Rattle.pulsar_outgoing.specs.declared.multi_topic.Taker.{Taker}
+use Rattle.pulsar_outgoing.specs.declared.multi_topic.Taker.TheVariants as taker
 use Rattle.pulsar_producer.specs.Turns.{beside, placed, queued}
 use Rattle.pulsar_producer.specs.Topic as topic
 use Rattle.pulsar_producer_table.specs.declared.table.Topic.{Topic}

@@ -6,8 +6,8 @@ use Rattle.pulsar_laws.proofs.ActWords.{Act, Call, Consumer, Does, Heard, Notice
 use Rattle.pulsar_laws.proofs.PlanWords.{Plan, Serving, told}
 use Rattle.pulsar_laws.proofs.RunWords.{at_once, Begins, begun_same, Entry, In, IsRun, notice, Options, Then, turn_notice, view}
 use Rattle.pulsar_messages.specs.Claims.{is_spent}
-use Rattle.pulsar_producer.specs.declared.multi_topic.content.Taker.{Taker as Waiter}
-use Rattle.pulsar_producer.specs.declared.multi_topic.content.Taker.TheVariants as taker
+use Rattle.pulsar_outgoing.specs.declared.multi_topic.Taker.{Taker as Waiter}
+use Rattle.pulsar_outgoing.specs.declared.multi_topic.Taker.TheVariants as taker
 use Rattle.pulsar_producer.specs.Laws.{AreAbove, tickets}
 use Rattle.pulsar_producer.specs.Topic as topic
 use Rattle.pulsar_producer.specs.Topic.{Setup, Takes, Passes, next_holder, takes_in}

@@ -5,8 +5,8 @@ use Rattle.pulsar_laws.proofs.PlanWords.{action_of, Batches, Batching, BuildingP
 use Rattle.pulsar_laws.proofs.RunWords.{Begins, Each, Entry, In, IsRun, notice, Options, rules, Then, View, view}
 use Rattle.pulsar_outgoing.specs.Batch.{cut_report, member_of, reports_from}
 use Rattle.pulsar_outgoing.specs.Storage.{Item, SingleMessage, Flush as FlushItem, ticket_of}
-use Rattle.pulsar_producer.specs.declared.multi_topic.content.Taker.{Taker}
-use Rattle.pulsar_producer.specs.declared.multi_topic.content.Taker.TheVariants as taker
+use Rattle.pulsar_outgoing.specs.declared.multi_topic.Taker.{Taker}
+use Rattle.pulsar_outgoing.specs.declared.multi_topic.Taker.TheVariants as taker
 use Rattle.pulsar_producer.specs.Topic as topic
 use Rattle.pulsar_producer.specs.Topic.{Act as TopicAct, Seen}
 use Rattle.pulsar_producer.proofs.Tickets.{BringsSo, UsersSo, users_so}

@@ -3,9 +3,10 @@
 ghost use Rattle.std.specs.Prelude.{◌≡◌, IfOk};
 ghost use Rattle.pulsar_producer.specs.MultiPlans as meaning;
 
-use crate::multi_topic::content::{MultiAsk, MultiSaid, Numbers};
 use crate::multi_topic::deed::{MultiDeed, MultiNews, multi_failure};
 use pulsar_addresses::content::{Refusal, Text};
+use pulsar_outgoing::content::Numbers;
+use pulsar_outgoing::multi_topic::{MultiAsk, MultiSaid};
 use pulsar_searches::transition::Transition;
 use pulsar_wire::error::NoMemory;
 use std::alloc::Global;

@@ -5,9 +5,9 @@ ghost use Rattle.pulsar_wire.specs.Failures.{fault};
 ghost use Rattle.pulsar_producer.specs.MultiPlans.{multi_failure, multi_fault_told};
 
 use crate::deed::{Deed, News, error_told};
-use crate::multi_topic::content::{MultiAsk, MultiSaid};
 use pulsar_addresses::content::Refusal;
 use pulsar_outgoing::failing::in_producer;
+use pulsar_outgoing::multi_topic::{MultiAsk, MultiSaid};
 use pulsar_wire::error::{ConnectionError, NoMemory};
 use std::alloc::Global;
 

@@ -6,12 +6,12 @@ ghost use Rattle.pulsar_messages.specs.Content.{message_content, producer_option
 ghost use Rattle.pulsar_producer.specs.MultiKept.{named, taken_by};
 ghost use Rattle.pulsar_producer.specs.MultiTopic.{Hands, Joins, Passes, Removes, Takes, advice, after, found, fresh, handed, is_free, joined, names, next_holder, order_for, removed, routed};
 
-use crate::multi_topic::content::{Dispatch, Handing, Missing, MultiSaid, Taker, UserMessage};
 use crate::producer::Producer;
 use crate::routing::CustomRoutingPolicy;
 use pulsar_addresses::content::{Refusal, Text};
 use pulsar_messages::{Message, ProducerOptions};
 use pulsar_outgoing::content::Settings;
+use pulsar_outgoing::multi_topic::{Dispatch, Handing, Missing, MultiSaid, Taker, UserMessage};
 use pulsar_outgoing::orders::ProducerOrder;
 use pulsar_wire::error::NoMemory;
 use std::alloc::Global;
@@ -176,7 +176,7 @@ impl MultiTopicProducer {
         Ok(ProducerOrder {
             topic,
             name,
-            options: Settings::new(alloc, self.options().copy()?)?,
+            options: self.settings.copy(alloc)?,
         })
     }
 

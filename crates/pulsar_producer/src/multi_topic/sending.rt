@@ -5,12 +5,12 @@ ghost use Rattle.pulsar_producer.specs.MultiPlans as meaning;
 
 use crate::building::{self, BuildingProducer, Builds};
 use crate::deed::Deed;
-use crate::multi_topic::content::{
-    Dispatch, Handing, Joining, Missing, MultiAsk, MultiSaid, UserMessage,
-};
 use crate::multi_topic::deed::{MultiDeed, MultiNews, multi_failure};
 use pulsar_addresses::content::{Refusal, Text};
 use pulsar_outgoing::content::Parts;
+use pulsar_outgoing::multi_topic::{
+    Dispatch, Handing, Joining, Missing, MultiAsk, MultiSaid, UserMessage,
+};
 use pulsar_outgoing::orders::ProducerOrder;
 use pulsar_searches::transition::Transition;
 use pulsar_searches::turn::Ways;

@@ -5,7 +5,7 @@ use Rattle.std.specs.Map.Iter.{deref_pair}
 use Rattle.pulsar_calls.specs.Notices.{stopped_one}
 use Rattle.pulsar_producer_table.specs.Takers.{who_of}
 use Rattle.pulsar_producer.specs.MultiTopic.{Seen}
-use Rattle.pulsar_producer.specs.declared.multi_topic.content.Taker.{Taker}
+use Rattle.pulsar_outgoing.specs.declared.multi_topic.Taker.{Taker}
 use Rattle.pulsar_producer_table.proofs.Grown.{flat_map_end, map_end}
 use Rattle.pulsar_producer_table.proofs.multis.stop_made.Goals as goal
 

@@ -1,6 +1,6 @@
 use Rattle.std.proofs.Common.{◌++◌, ◌∷◌, [], subst, sym}
 use Rattle.pulsar_producer.specs.Turns.{AreAtMost}
-use Rattle.pulsar_producer.specs.declared.multi_topic.content.Taker.{Taker}
+use Rattle.pulsar_outgoing.specs.declared.multi_topic.Taker.{Taker}
 use Rattle.pulsar_producer.proofs.Waiting.{most_copy}
 use Rattle.pulsar_producer.proofs.line.Line.join.Goals as goal
 

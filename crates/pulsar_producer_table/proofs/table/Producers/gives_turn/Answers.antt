@@ -3,7 +3,7 @@ use Rattle.std.proofs.lemmas.Result.{MatchResult-weaker}
 use Rattle.pulsar_producer_table.specs.KeptProducers.{producers_of}
 use Rattle.std.proofs.Common.{◌∷◌, []}
 use Rattle.pulsar_producer.specs.Topic.{Takes}
-use Rattle.pulsar_producer.specs.declared.multi_topic.content.Taker.TheVariants.{Call}
+use Rattle.pulsar_outgoing.specs.declared.multi_topic.Taker.TheVariants.{Call}
 use Rattle.pulsar_producer_table.proofs.Asking.{changed_is, no_topic, none_done, turn_had, turn_lost, turn_waits}
 use Rattle.pulsar_producer_table.proofs.table.Producers.gives_turn.Goals as goal
 

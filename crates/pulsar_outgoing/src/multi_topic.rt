@@ -1,15 +1,14 @@
 //! What is asked of a producer of many topics, and what it says to that. Contracts see messages and numbers by their content.
 
-ghost use Rattle.std.specs.Prelude.{◌≡◌, [], ◌∷◌, ◌++◌, IfOk, MatchOption};
+ghost use Rattle.std.specs.Prelude.{◌≡◌, IfOk};
 ghost use Rattle.pulsar_messages.specs.Content.{message_content};
 
+use crate::content::{Entry, Numbers, Outgoing, Parts, Settings};
+use crate::orders::{Errand, ProducerOrder};
 use pulsar_addresses::content::{Refusal, Text};
 use pulsar_messages::Message;
-use pulsar_outgoing::content::{Entry, Outgoing, Parts, Settings};
-use pulsar_outgoing::orders::{Errand, ProducerOrder};
 use pulsar_wire::error::NoMemory;
 use std::alloc::Global;
-use std::collections::VecDeque;
 use std::marker::Model;
 
 /// A producer of many topics, by what it is known: the client's own, or the one that the call of this ticket made.
@@ -101,52 +100,6 @@ pub struct Joining {
     pub topic: Text,
     pub settings: Settings,
     pub parts: Parts,
-}
-
-/// Numbers of topic producers that are left, in order.
-pub struct Numbers {
-    all: VecDeque<u64>,
-}
-
-impl Drop for Numbers {
-    fn drop(self) {
-        let Numbers { all: _ } = self;
-    }
-}
-
-impl Model for Numbers {
-    ghost use Rattle.std.specs.Prelude.{ℕ, List};
-
-    ghost Value = { List ℕ };
-
-    ghost view = { λ n. n.all.items };
-}
-
-impl Numbers {
-    /// None.
-    pub fn new(alloc: Global) -> Numbers
-        ensures { result ≡ [] }
-    {
-        Numbers {
-            all: VecDeque::new(alloc),
-        }
-    }
-
-    /// One more behind these.
-    pub fn with(self, number: u64) -> Result<Numbers, NoMemory>
-        ensures { IfOk result (λ n. n ≡ self ++ number ∷ []) }
-    {
-        let Numbers { mut all } = self;
-        all.push_back(number)?;
-        Ok(Numbers { all })
-    }
-
-    /// The first, which is left no longer.
-    pub fn next(&mut self) -> Option<u64>
-        ensures { MatchOption result (self.old ≡ []) (λ n. self.old ≡ n ∷ self.new) }
-    {
-        self.all.pop_front()
-    }
 }
 
 /// What is asked of a producer of many topics.

@@ -28,7 +28,7 @@ use Rattle.pulsar_session.specs.declared.states.Asked.TheVariants as placed
 use Rattle.pulsar_session.specs.declared.states.Stage.{Stage}
 use Rattle.pulsar_session.specs.declared.states.Stage.TheVariants.{Dialing, Handshaking, Over, Ready}
 use Rattle.pulsar_session.specs.Link as session
-use Rattle.pulsar_session.specs.Link.{Asks, Seen, Setup, due}
+use Rattle.pulsar_session.specs.Link.{Asks, Seen, Setup, due, is_over, is_ready}
 use Rattle.pulsar_session.specs.Series.{is_passing}
 use Rattle.pulsar_exchange.specs.Request.{Subscribed}
 use Rattle.pulsar_searches.specs.Plans.{is_retryable}
@@ -37,22 +37,30 @@ use Rattle.pulsar_outgoing.specs.Replies.{given}
 use Rattle.pulsar_incoming.specs.Content.{ConfigValues}
 use Rattle.pulsar_consumer.specs.Topic as reader
 use Rattle.pulsar_consumer.specs.Topic.{fresh, of_raw}
-use Rattle.pulsar_calls.specs.Content.{Connect}
-use Rattle.pulsar_calls.specs.declared.act.Act.TheVariants.{Dials}
+use Rattle.pulsar_calls.specs.Content.{Close, Connect, Ends as Finishes, Retry}
+use Rattle.pulsar_calls.specs.declared.act.Act.TheVariants.{Answers, Comes, Dials}
 use Rattle.pulsar_calls.specs.declared.act.CallRefusal.TheVariants as refusal
 use Rattle.pulsar_calls.specs.declared.act.End.TheVariants.{Broken, Idles, Lost, Overdue, Stops, Unopened}
+use Rattle.pulsar_calls.specs.declared.act.LinkAct.{LinkAct}
+use Rattle.pulsar_calls.specs.declared.act.LinkAct.TheVariants.{Ends}
 use Rattle.pulsar_calls.specs.declared.act.Outcome.TheVariants as outcome
+use Rattle.pulsar_calls.specs.declared.act.Part.TheVariants.{ToLink}
+use Rattle.pulsar_calls.specs.declared.act.Verdict.{Verdict}
 use Rattle.pulsar_calls.specs.declared.act.Who.{Who}
+use Rattle.pulsar_calls.specs.declared.act.Who.TheVariants.{Call}
 use Rattle.pulsar_calls.specs.declared.content.Joining.{Joining}
 use Rattle.pulsar_links.specs.LinkRules.{dropped, fails_so}
+use Rattle.pulsar_links.specs.Links as links
+use Rattle.pulsar_links.specs.Links.{closed_by}
 use Rattle.pulsar_links.specs.Seats.{Seat, answer_at}
+use Rattle.pulsar_links.specs.declared.addresses.Pause.{Pause}
 use Rattle.pulsar_plans.specs.Plan.{failure_of, fault_of}
 use Rattle.pulsar_acts.specs.Effects.{effects}
 use Rattle.pulsar_acts.specs.Run.{Entry, Then, view}
-use Rattle.pulsar_acts.specs.View.{setup_of}
+use Rattle.pulsar_acts.specs.View.{Turned, View, setup_of, turned}
 use Rattle.pulsar_machine.specs.Options.{Options}
 use Rattle.pulsar_laws.specs.Laws.{dialed_with, has_come}
-use Rattle.pulsar_laws.specs.RetryLaws.{to_64}
+use Rattle.pulsar_laws.specs.RetryLaws.{to_64, wait_behind}
 
 -- WHAT A FRAME SAYS
 
@@ -170,6 +178,22 @@ pub record EndsAreSaid : Type 0 where
   pub waiting : ((kind : IoKind) → fails_so (Unopened kind) false ≡ outcome.Canceled) × (fails_so Lost false ≡ outcome.Canceled)
       × ((queued : ℕ) → fails_so (Overdue queued) false ≡ outcome.Canceled) × ((cause : Fault) → fails_so (Broken cause) false ≡ outcome.Canceled)
   pub stopped : (is_starter : Bool) → fails_so Stops is_starter ≡ outcome.Stopped
+  pub closes : (now : ℕ) (s : Seen) →
+      (s.stage ≡ Ready → closed_by Lost now s ≡ Some Disconnected) × (is_ready s.stage ≡ false → is_over s.stage ≡ false → closed_by Lost now s ≡ Some (Io io.Other))
+      × (closed_by Idles now s ≡ Some Disconnected) × (closed_by Stops now s ≡ Some Disconnected)
+      × ((kind : IoKind) → closed_by (Unopened kind) now s ≡ Some (Io kind)) × ((cause : Fault) → closed_by (Broken cause) now s ≡ Some cause)
+      × ((queued : ℕ) → closed_by (Overdue queued) now s ≡ (if due now s then Some (Io io.TimedOut) else None))
+
+-- What comes of an act is shown: the delay of an attempt that is to follow, which its alarm waits (MomentsAreSet); what a call ends with; and that the client
+-- closes a link where it ends that itself.
+pub record EffectsAreSaid : Type 0 where
+  pub retry : (v : View) (l : ℕ) (x : LinkAct) (t : Turned) (p : Pause) → turned v (Comes (ToLink l x)) ≡ Some t → t.pause ≡ Some p →
+      In (Retry t.link (wait_behind v.chosen t.link p.retries)) (effects v (Comes (ToLink l x)))
+  pub answer : (v : View) (t : ℕ) (verdict : Verdict) → effects v (Answers (Call t) verdict) ≡ Finishes t verdict.said ∷ []
+  pub close : (l now : ℕ) (s : Seen) →
+      In (Close l) (links.effects l (Ends Idles) now s) × In (Close l) (links.effects l (Ends Stops) now s)
+      × ((cause : Fault) → In (Close l) (links.effects l (Ends (Broken cause)) now s))
+      × ((queued : ℕ) → due now s ≡ true → In (Close l) (links.effects l (Ends (Overdue queued)) now s))
 
 -- A command may go well another time behind a timeout, and behind these errors of a broker; and an attempt to connect where it was refused or timed out.
 abbrev pub passing_errors : List ServerError

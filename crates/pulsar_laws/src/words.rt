@@ -1,6 +1,6 @@
 //! What words mean that the laws of runs name: each contract is a law, and its body is empty.
 
-ghost use Rattle.pulsar_laws.specs.WordLaws.{ConsumersAreMadeSo, EndsAreSaid, FaultsAreSaid, FaultsThatPass, GivenIsSaid, LinksAreDialed, LinksAreDue, MetadataSays, RequestsAreDue, VersionIsTaken};
+ghost use Rattle.pulsar_laws.specs.WordLaws.{ConsumersAreMadeSo, EffectsAreSaid, EndsAreSaid, FaultsAreSaid, FaultsThatPass, GivenIsSaid, LinksAreDialed, LinksAreDue, MetadataSays, RequestsAreDue, VersionIsTaken};
 
 /// A frame says of its message what its producer says of that, under the name that the broker has given, with the version of the schema that the broker
 /// has said where the message has none.
@@ -22,9 +22,10 @@ pub fn links_are_dialed()
     ensures requests { RequestsAreDue }
 {}
 
-/// A call fails with the fault that an outcome tells; and a fault may pass just where these say so.
+/// A call fails with the fault that an outcome tells, an end of a link is told and shown as what it is, and a fault may pass just where these say so.
 pub fn faults_are_said()
     ensures said { FaultsAreSaid }
     ensures ends { EndsAreSaid }
+    ensures shown { EffectsAreSaid }
     ensures pass { FaultsThatPass }
 {}

@@ -11,3 +11,4 @@ pub mod PartLaws
 pub mod AgainLaws
 pub mod AlarmLaws
 pub mod WordLaws
+pub mod ToldLaws

@@ -6,4 +6,5 @@ pub mod batches;
 pub mod consumers;
 pub mod producers;
 pub mod runs;
+pub mod told;
 pub mod words;

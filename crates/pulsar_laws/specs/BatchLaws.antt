@@ -48,7 +48,7 @@ use Rattle.pulsar_calls.specs.Content.{Asked, Failed, Receipt, sent_by}
 use Rattle.pulsar_laws.specs.Laws.{AreActs, FailsSo, IsDropped, started}
 use Rattle.pulsar_plans.specs.Plan.{closed_notice, fails, overrides, verdict}
 use Rattle.pulsar_laws.specs.ProducerLaws.{acts_on, asks_in, is_queued, queued_times, version_told}
-use Rattle.pulsar_producer_table.specs.Producers.{is_bare, next_batch_at, numbers_at, stored_at, timeout_at}
+use Rattle.pulsar_producer_table.specs.Producers.{is_bare, is_settled_at, next_batch_at, numbers_at, stored_at, timeout_at}
 use Rattle.pulsar_acts.specs.Rules.{call_part, notice, ready_notice}
 use Rattle.pulsar_acts.specs.Run.{Entry, Then, IsRun, Rests, view}
 use Rattle.pulsar_acts.specs.View.{View}
@@ -390,3 +390,10 @@ FlushesWait = (o : Options) (log : List Entry) (n t : ℕ) (ns : List Notice) (i
     (s : Setup) × (row : Topic) × (before : List (List Item)) × (left : List Item) × ((view o log).producers.topics n ≡ Some row)
     × (row.seen ≡ seen s (acts_on o n log)) × (items ≡ left ++ Flush t ∷ []) × (taken_of s (acts_on o n log) ≡ before ++ items ∷ [])
     × (items_of s (acts_on o n log) ≡ joined before ++ (items ++ (joined row.seen.cut ++ row.seen.storage.items)))
+
+-- And a flush is done at once (GrantsSo) only where all that its topic producer stored was taken, and no batch is under way.
+abbrev pub FlushesAtOnce : Type 0
+FlushesAtOnce = (o : Options) (log : List Entry) (n : ℕ) (row : Topic) → IsRun o log → (view o log).producers.topics n ≡ Some row →
+    is_settled_at (Some row) ≡ true →
+    (s : Setup) × (row.seen ≡ seen s (acts_on o n log)) × (items_of s (acts_on o n log) ≡ joined (taken_of s (acts_on o n log)))
+    × (row.seen.is_under_way ≡ false)

@@ -1,6 +1,6 @@
 //! What follows of the batches of producers from the definition of a good run: each contract is a law, and its body is empty.
 
-ghost use Rattle.pulsar_laws.specs.BatchLaws.{BatchSentOnce, BatchesByItsOptions, BatchesOneByOne, ClosedWithTheProducer, CutByItsOptions, CutByLimits, EachSentOnce, FlushesWait, FramesOfBatches, MembersAreTold, NumbersOfAllFramesRise, OneThingAtATime, QueuedIsWaitedFor, ReceiptsOfBatches, SizesAreSaid, StoredAtOnce, StoredEndsByItsBatch};
+ghost use Rattle.pulsar_laws.specs.BatchLaws.{BatchSentOnce, BatchesByItsOptions, BatchesOneByOne, ClosedWithTheProducer, CutByItsOptions, CutByLimits, EachSentOnce, FlushesAtOnce, FlushesWait, FramesOfBatches, MembersAreTold, NumbersOfAllFramesRise, OneThingAtATime, QueuedIsWaitedFor, ReceiptsOfBatches, SizesAreSaid, StoredAtOnce, StoredEndsByItsBatch};
 
 /// A topic producer takes its next batch once all of the one before were told, so that one is under way at a time.
 pub fn batches_one_by_one()
@@ -72,6 +72,11 @@ pub fn stored_at_once()
 /// A flush is told that it is done with its batch, behind which nothing waits that was stored before it.
 pub fn flushes_wait()
     ensures { FlushesWait }
+{}
+
+/// A flush is done at once only where all that was stored before it was taken, and no batch is under way.
+pub fn flushes_at_once()
+    ensures { FlushesAtOnce }
 {}
 
 /// A call that stores its message fails, or ends with the receipt that it is told of its batch.

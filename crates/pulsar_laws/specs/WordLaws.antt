@@ -22,7 +22,7 @@ use Rattle.pulsar_messages.specs.Claims.{claim}
 use Rattle.pulsar_messages.specs.Content.{ProducerMessageValues, Property}
 use Rattle.pulsar_messages.specs.Message.{with_version}
 use Rattle.pulsar_messages.specs.Messages.{metadata_of}
-use Rattle.pulsar_messages.specs.Words.{Words}
+use Rattle.pulsar_messages.specs.Words.{CreateProducer, Subscribe, Words}
 use Rattle.pulsar_requests.specs.Waits.{Pending, request_at}
 use Rattle.pulsar_session.specs.declared.states.Asked.TheVariants as placed
 use Rattle.pulsar_session.specs.declared.states.Stage.{Stage}
@@ -37,6 +37,12 @@ use Rattle.pulsar_outgoing.specs.Replies.{given}
 use Rattle.pulsar_incoming.specs.Content.{ConfigValues}
 use Rattle.pulsar_consumer.specs.Topic as reader
 use Rattle.pulsar_consumer.specs.Topic.{fresh, of_raw}
+use Rattle.pulsar_producer.specs.Producer as producer
+use Rattle.pulsar_producer_table.specs.Producers as producing
+use Rattle.pulsar_producer_table.specs.Producers.{Producers}
+use Rattle.pulsar_producer_table.specs.declared.table.Topic.{Topic}
+use Rattle.pulsar_consumer_table.specs.Consumers as consuming
+use Rattle.pulsar_consumer_table.specs.Consumers.{Member}
 use Rattle.pulsar_calls.specs.Content.{Close, Connect, Ends as Finishes, Retry}
 use Rattle.pulsar_calls.specs.declared.act.Act.TheVariants.{Answers, Comes, Dials}
 use Rattle.pulsar_calls.specs.declared.act.CallRefusal.TheVariants as refusal
@@ -108,6 +114,19 @@ pub record ConsumersAreMadeSo : Type 0 where
       × ((of_raw s).config.sub_type ≡ s.sub_type) × ((of_raw s).config.consumer_name ≡ s.name) × ((of_raw s).config.options ≡ s.options)
   pub sizes : (s : reader.Setup) →
       ((fresh s).engine.queue ≡ queue_said s.config.options.receiver_queue_size) × ((fresh s).engine.batch ≡ batch_said s.is_raw s.config)
+
+-- A producer is made again, and a consumer is subscribed again, under its own number, by the options of its call; a producer by the name that it has.
+pub record CommandsAreSaid : Type 0 where
+  pub producers : (ps : Producers) (n : ℕ) (row : Topic) (p : producer.Seen) → ps.topics n ≡ Some row → ps.built row.owner ≡ Some p →
+      producing.recalled ps n
+      ≡ Some (record { topic = row.seen.topic; request = CreateProducer row.seen.topic row.seen.number (Some row.seen.given.name) p.options; answer = 17 })
+  pub consumers : (m : Member) →
+      consuming.recalled (Some m)
+      ≡ Some (record {
+        topic = m.seen.topic;
+        request = Subscribe m.seen.topic m.seen.config.subscription m.seen.config.sub_type m.seen.number m.seen.config.consumer_name m.seen.config.options;
+        answer = 13;
+      })
 
 -- HOW A LINK IS DIALED
 

@@ -184,14 +184,17 @@ FramesBeginInTurn = (s : Setup) (h : List Act) → arrivals s h ≡ begun s h ++
 -- PERMITS
 
 -- each arrival is finished: each of its items was given or is placed, and none of its entries is pending
+abbrev pub ArePlaced : Setup → List Act → Type 0
+ArePlaced s h = length (left s h) ≤ queue s
+
 abbrev pub IsFinished : Setup → List Act → Type 0
-IsFinished s h = (length (left s h) ≤ queue s) × (is_pending_in s h ≡ false)
+IsFinished s h = ArePlaced s h × (is_pending_in s h ≡ false)
 
 -- What remains of the permits of a live subscription is never more than the batch size, and at least half of it where each arrival is
 -- finished. It is what was left when the frame that is begun was begun, less what that frame costs, of whichever subscription it came.
 abbrev pub PermitsInBounds : Type 0
 PermitsInBounds = (s : Setup) (h : List Act) (l : Live) → s.is_raw ≡ false → (seen s h).engine.live ≡ Some l →
-    (l.level ≤ batch_size s.config) × (IsFinished s h → half (batch_size s.config) ≤ l.level - l.weight)
+    (l.level ≤ batch_size s.config) × (IsFinished s h → half (batch_size s.config) + l.weight ≤ l.level)
 
 -- what frames weigh together
 abbrev pub weights : List Frame → ℕ

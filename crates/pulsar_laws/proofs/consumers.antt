@@ -12,7 +12,6 @@ pub mod Covered
 pub mod Deeds
 pub mod Taken
 pub mod Answered
-pub mod Finished
 pub mod Due
 pub mod Rested
 pub mod Tended

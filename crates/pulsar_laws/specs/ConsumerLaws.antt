@@ -13,7 +13,8 @@ use Rattle.pulsar_session.specs.declared.states.Asked.TheVariants as placed
 use Rattle.pulsar_frame.specs.Items.{Item, Given, Faulty}
 use Rattle.pulsar_exchange.specs.Messages.{Reply, is_body}
 use Rattle.pulsar_consumer.specs.Frames.{frame_in}
-use Rattle.pulsar_consumer.specs.Laws.{IsFinished, arrivals, asked_since, begun, items_of, weighed_before, weights}
+use Rattle.pulsar_consumer.specs.Items.{Item as Arrived, handed}
+use Rattle.pulsar_consumer.specs.Laws.{ArePlaced, arrivals, asked_since, begun, items_of, weighed_before, weights}
 use Rattle.pulsar_consumer.specs.Topic as reader
 use Rattle.pulsar_consumer.specs.Topic.{Act as Done, Lives, Hears, Loses, Fails, Ends as Over, Polls as Polled, Asks, Live, Seen, Setup, batch_size, first_of, half, is_ended, link_of, lives_on, of_raw, polled_from}
 use Rattle.pulsar_incoming.specs.declared.polled.Ending.{Ending}
@@ -155,10 +156,10 @@ shows_next t topic [] None = FindsNothing t
 -- poll gives the first that is left; where none is left it gives the end if it has ended, and else nothing.
 abbrev pub PollsFollow : Type 0
 PollsFollow = (o : Options) (log : List Entry) (t : ℕ) (m : Member) → IsRun o log → (view o log).consumers.rows t ≡ Some m →
-    (s : Setup) × (left : List Item) × (made_with o t log ≡ Some s)
-    × (items_given t (steps o log) ++ left ≡ items_of (arrivals s (done_to o t log)))
+    (s : Setup) × (left : List Arrived) × (made_with o t log ≡ Some s)
+    × (items_given t (steps o log) ++ map handed left ≡ map handed (items_of (arrivals s (done_to o t log))))
     × (reader.polled m.seen ≡ polled_from (first_of left) m.seen.ended)
-    × (consumer.polled t m ≡ shows_next t m.seen.topic left m.seen.ended)
+    × (consumer.polled t m ≡ shows_next t m.seen.topic (map handed left) m.seen.ended)
 
 -- A consumer is polled where the user asks for it, and that is the one effect of that step.
 abbrev pub PollsAreAnswered : Type 0
@@ -255,7 +256,7 @@ abbrev pub PermitsAreKept : Type 0
 PermitsAreKept = (o : Options) (log : List Entry) (t : ℕ) (m : Member) (l : Live) → IsRun o log → (view o log).consumers.rows t ≡ Some m →
     m.seen.is_raw ≡ false → m.seen.engine.live ≡ Some l →
     (s : Setup) × (made_with o t log ≡ Some s) × (l.level - l.weight ≤ batch_size m.seen.config)
-    × (IsFinished s (done_to o t log) → half (batch_size m.seen.config) + l.weight ≤ l.level)
+    × (ArePlaced s (done_to o t log) → half (batch_size m.seen.config) + l.weight ≤ l.level)
     × (l.level + weights (begun s (done_to o t log))
     ≡ l.weight + (asked_since s (done_to o t log) + sum l.due) + weighed_before s (done_to o t log))
 
@@ -351,7 +352,7 @@ PermitsAreGranted = (o : Options) (log : List Entry) (t : ℕ) (m : Member) (l :
     m.seen.is_raw ≡ false → m.seen.engine.live ≡ Some l →
     (s : Setup) × (made_with o t log ≡ Some s)
     × (permits_of (flows_since o t log) + weighed_before s (done_to o t log) ≤ batch_size m.seen.config + weights (begun s (done_to o t log)))
-    × (IsFinished s (done_to o t log) → half (batch_size m.seen.config) + weights (begun s (done_to o t log))
+    × (ArePlaced s (done_to o t log) → half (batch_size m.seen.config) + weights (begun s (done_to o t log))
     ≤ permits_of (flows_since o t log) + weighed_before s (done_to o t log))
 
 -- ACKNOWLEDGEMENTS

@@ -35,7 +35,7 @@ use Rattle.pulsar_laws.proofs.Cases.{none_some, some_is}
 use Rattle.pulsar_laws.proofs.Lists.{in_right, into_flat}
 use Rattle.pulsar_laws.proofs.consumers.Lone.{applied, applied_append, arrival_done, did_so, joins_here, none_after, subscription_done}
 use Rattle.pulsar_laws.proofs.calls.Same.{same_self}
-use Rattle.pulsar_laws.proofs.consumers.Members.{CameFrom, either_number, lost_gone, polled_number, row_made}
+use Rattle.pulsar_laws.proofs.consumers.Members.{CameFrom, after_number, lost_gone, row_made}
 use Rattle.pulsar_laws.specs.ConsumerLaws.{does_to, subscription_does}
 use Rattle.pulsar_laws.proofs.consumers.Deeds.{deed_does}
 
@@ -99,7 +99,7 @@ module _ (t : ℕ) where
   listed_has (Producer n) cs h = h
 
   made_has : (who : Who) (x : Makes) (cs : Consumers) → Has' cs → Has' (consumers_listed who x cs)
-  made_has who (makes.Consumer j) cs h = listed_has who cs h
+  made_has who (makes.Consumer j) cs h = listed_has who (keyed cs) h
   made_has who (makes.RawConsumer l made) cs h = listed_has who cs h
   made_has who makes.Nothing cs h = h
   made_has who makes.Client cs h = h
@@ -134,8 +134,8 @@ module _ (t : ℕ) where
   joins_new (Producer k) m n cs h = inl h
 
   made_new : (live : ℕ → Option Seat) (who : Who) (x : Makes) (n : Member) (cs : Consumers) →
-      row_made (member_made live x) who t (cs.rows t) ≡ Some n → (cs.rows t ≡ Some n) ⊎ Has' (consumers_listed who x cs)
-  made_new live who (makes.Consumer j) n cs h = joins_new who (member_on live j.link (setup_of j)) n cs h
+      row_made (member_made live cs.next_key x) who t (cs.rows t) ≡ Some n → (cs.rows t ≡ Some n) ⊎ Has' (consumers_listed who x cs)
+  made_new live who (makes.Consumer j) n cs h = joins_new who (member_on live j.link (setup_of cs.next_key j)) n (keyed cs) h
   made_new live who (makes.RawConsumer l made) n cs h = joins_new who (member_on live l (reader.of_raw made)) n cs h
   made_new live who makes.Nothing n cs h = inl h
   made_new live who makes.Client n cs h = inl h
@@ -166,17 +166,6 @@ module _ (t : ℕ) where
   has_ticket o (Then a ∷ log) m h = has_on (view o log) a (λ n e. has_ticket o log n e) m h
 
 -- ITS NUMBER stays
-
-after_number : (act : Done) (v : Seen) → (after act v).number ≡ v.number
-after_number (Lives l url) v = either_number (is_ended v) v _ v.number refl refl
-after_number (Hears l f) v = either_number (lives_on l v) _ v v.number refl refl
-after_number (Loses l) v =
-    either_number (lives_on l v) (loses v) v v.number
-    (either_number v.is_raw (reader_ends LinkLost v) (record v { engine = record v.engine { live = None } }) v.number refl refl) refl
-after_number (Fails f) v = either_number (is_ended v) v _ v.number refl refl
-after_number (Over why) v = refl
-after_number (Polled clock) v = polled_number clock v
-after_number Asks v = refl
 
 pub applied_number : (xs : List Done) (s : Seen) → (applied xs s).number ≡ s.number
 applied_number [] s = refl
@@ -282,7 +271,7 @@ module _ (l : ℕ) (r : Reply) (m : Member) where
       (word_if (lives_on l m.seen && is_due (member_after (Hears l (frame_in r)) m).seen) word.Due ≡ Some word.Due) ⊎ (is_due m.seen ≡ true)
   message_word true e h =
       inl (ap (λ b. word_if (b && is_due (member_after (Hears l (frame_in r)) m).seen) word.Due) e ∙ ap (λ b. word_if b word.Due) h)
-  message_word false e h = inr (sym (ap (λ b. is_due (cond b (record m.seen { engine = reader.hears (frame_in r) m.seen.engine }) m.seen)) e) ∙ h)
+  message_word false e h = inr (sym (ap (λ b. is_due (cond b (reader.heard (frame_in r) m.seen) m.seen)) e) ∙ h)
 
   frame_by : (a b c : Bool) → is_due (heard_by a b c).seen ≡ true → (worded_by a b c ≡ Some word.Due) ⊎ (is_due m.seen ≡ true)
   frame_by true b c h = message_word (lives_on l m.seen) refl h
@@ -340,7 +329,7 @@ module _ (o : Options) (log : List Entry) (t : ℕ) (m : Member) (there : (view 
         let d : is_due n.seen ≡ true = sym (ap (λ b. is_due (applied (cond b (Polled v.now ∷ []) []) m.seen)) e) ∙ h in
         let i : In (due_to_plan m.seen.number t) (map Told (due_at t (option_map (member_after (Polled v.now)) (v.consumers.rows t)))) =
         subst (λ row. In (due_to_plan m.seen.number t) (map Told (due_at t (option_map (member_after (Polled v.now)) row)))) (sym there)
-        (renamed n (due_at t (Some n)) (polled_number v.now m.seen) (due_there t n d)) in
+        (renamed n (due_at t (Some n)) (after_number (Polled v.now) m.seen) (due_there t n d)) in
         inl (subst (λ x. Arises rules o (due_to_plan m.seen.number t) (Then (Comes (Polls x))) log) (eqb-true t u e) (inr (inl i))))
   ]
 
@@ -376,13 +365,13 @@ module _ (o : Options) (log : List Entry) (t : ℕ) (m : Member) (there : (view 
 
 -- and where a consumer is made
 call_due : (v : View) (t : ℕ) (verdict : Verdict) (j : Joining) (n : Member) → verdict.makes ≡ makes.Consumer j →
-    row_made (Some (member_on v.links.live j.link (setup_of j))) (Call t) t (v.consumers.rows t) ≡ Some n → is_due n.seen ≡ true →
+    row_made (Some (member_on v.links.live j.link (setup_of v.consumers.next_key j))) (Call t) t (v.consumers.rows t) ≡ Some n → is_due n.seen ≡ true →
     In (due_to_plan n.seen.number t) (map Told (joins v (Answers (Call t) verdict)))
 call_due v t verdict j n made is h =
-    let it : Member = member_on v.links.live j.link (setup_of j) in
+    let it : Member = member_on v.links.live j.link (setup_of v.consumers.next_key j) in
     let same : it ≡ n = some_is (sym (joins_here (Call t) it (v.consumers.rows t) t (same_self (Call t))) ∙ is) in
     let one : due_to t n ≡ word_notice t n word.Due ∷ [] = ap (λ b. word_to t n (word_if b word.Due)) h in
-    subst (λ x. In (due_to_plan n.seen.number t) (map Told (made_due v.links.live (Call t) x))) (sym made)
+    subst (λ x. In (due_to_plan n.seen.number t) (map Told (made_due v.links.live v.consumers.next_key (Call t) x))) (sym made)
     (subst (λ x. In (due_to_plan n.seen.number t) (map Told (due_to t x))) (sym same)
     (subst (λ ns. In (due_to_plan n.seen.number t) (map Told ns)) (sym one) (inl refl)))
 
@@ -404,12 +393,12 @@ made_due_so v t who verdict n none is h =
     old e = absurd (none_some (sym none ∙ e))
 
     joined_by : (who : Who) (j : Joining) → verdict.makes ≡ makes.Consumer j →
-        row_made (Some (member_on v.links.live j.link (setup_of j))) who t (v.consumers.rows t) ≡ Some n →
+        row_made (Some (member_on v.links.live j.link (setup_of v.consumers.next_key j))) who t (v.consumers.rows t) ≡ Some n →
         In (due_to_plan n.seen.number t) (map Told (joins v (Answers who verdict)))
     joined_by (Call u) j made e = elim (cases_Bool (t == u)) [
       | inl same ↦
           subst (λ x. In (due_to_plan n.seen.number t) (map Told (joins v (Answers (Call x) verdict)))) (eqb-true t u same)
-          (call_due v t verdict j n made (subst (λ x. row_made (Some (member_on v.links.live j.link (setup_of j))) (Call x) t (v.consumers.rows t) ≡ Some n)
+          (call_due v t verdict j n made (subst (λ x. row_made (Some (member_on v.links.live j.link (setup_of v.consumers.next_key j))) (Call x) t (v.consumers.rows t) ≡ Some n)
           (sym (eqb-true t u same)) e) h)
       | inr other ↦ old (rw other at e)
     ]
@@ -427,7 +416,7 @@ made_due_so v t who verdict n none is h =
     raw_by (Consumer k u) l made e = old e
     raw_by (Producer k) l made e = old e
 
-    by : (x : Makes) → verdict.makes ≡ x → row_made (member_made v.links.live x) who t (v.consumers.rows t) ≡ Some n →
+    by : (x : Makes) → verdict.makes ≡ x → row_made (member_made v.links.live v.consumers.next_key x) who t (v.consumers.rows t) ≡ Some n →
         In (due_to_plan n.seen.number t) (map Told (joins v (Answers who verdict)))
     by (makes.Consumer j) made e = joined_by who j made e
     by (makes.RawConsumer l made) f e = raw_by who l made e
@@ -440,4 +429,4 @@ pub built_due : (v : View) (t : ℕ) (verdict : Verdict) (j : Joining) (n : Memb
     In (due_to_plan n.seen.number t) (map Told (joins v (Answers (Call t) verdict)))
 built_due v t verdict j n made is h =
     call_due v t verdict j n made
-    (ap (λ x. row_made (member_made v.links.live x) (Call t) t (v.consumers.rows t)) (sym made) ∙ is) h
+    (ap (λ x. row_made (member_made v.links.live v.consumers.next_key x) (Call t) t (v.consumers.rows t)) (sym made) ∙ is) h

@@ -10,6 +10,7 @@ pub mod Placed
 pub mod Queueing
 pub mod Covered
 pub mod Deeds
+pub mod Keys
 pub mod Taken
 pub mod Answered
 pub mod Due

@@ -246,6 +246,12 @@ ConsumersRemain = (o : Options) (later older : List Entry) (t : ℕ) (m : Member
     × ((why : Ending) → m.seen.ended ≡ Some why → (m'.seen.ended ≡ Some why) × (link_of m'.seen ≡ None)
     × (arrivals s (done_to o t (later ++ older)) ≡ arrivals s (done_to o t older)))
 
+-- Each consumer that was built has a key of its own: no other has it, at the same time or later, and no raw one.
+abbrev pub KeysAreOwn : Type 0
+KeysAreOwn = (o : Options) (later older : List Entry) (t u : ℕ) (m n : Member) → IsRun o (later ++ older) →
+    (view o older).consumers.rows t ≡ Some m → (view o (later ++ older)).consumers.rows u ≡ Some n → (m.seen.is_raw && n.seen.is_raw) ≡ false →
+    m.seen.key ≡ n.seen.key → t ≡ u
+
 -- PERMITS
 
 -- What remains of the permits of a live subscription is at most the batch size; where each arrival is finished, half of it, rounded up, and what

@@ -62,32 +62,39 @@ in_kept t u (x ∷ xs) i = by (nat_lt u x) (u == x) i (in_kept t u xs)
     by false false (inl e) k = inl e
     by false false (inr i) k = inr (k i)
 
-names_tickets : (number : Option ℕ) (cs : Consumers) → (names_in number cs).tickets ≡ cs.tickets
-names_tickets None cs = refl
-names_tickets (Some number) cs = refl
+-- what remains where only numbers are taken and named: the tickets, and the key that is drawn next
+abbrev pub rest_of : Consumers → List ℕ × ℕ
+rest_of cs = (cs.tickets, cs.next_key)
 
-opened_tickets : (asked : Asked) (cs : Consumers) → (opened_on asked cs).tickets ≡ cs.tickets
-opened_tickets (content.Raw l words) cs = names_tickets (named_consumer words) cs
-opened_tickets _ cs = refl
+names_rest : (number : Option ℕ) (cs : Consumers) → rest_of (names_in number cs) ≡ rest_of cs
+names_rest None cs = refl
+names_rest (Some number) cs = refl
 
-called_tickets : (lacks is_open : Bool) (asked : Asked) (cs : Consumers) → (cond lacks cs (called_on is_open asked cs)).tickets ≡ cs.tickets
-called_tickets true is_open asked cs = refl
-called_tickets false true asked cs = opened_tickets asked cs
-called_tickets false false asked cs = refl
+opened_rest : (asked : Asked) (cs : Consumers) → rest_of (opened_on asked cs) ≡ rest_of cs
+opened_rest (content.Raw l words) cs = names_rest (named_consumer words) cs
+opened_rest _ cs = refl
 
-drew_tickets : (free : ℕ) (wanted : Option ℕ) (cs : Consumers) → (drew free wanted cs).tickets ≡ cs.tickets
-drew_tickets free None cs = refl
-drew_tickets free (Some n) cs = refl
+pub called_rest : (lacks is_open : Bool) (asked : Asked) (cs : Consumers) → rest_of (cond lacks cs (called_on is_open asked cs)) ≡ rest_of cs
+called_rest true is_open asked cs = refl
+called_rest false true asked cs = opened_rest asked cs
+called_rest false false asked cs = refl
 
-holds_tickets : (t : ℕ) (x : Numbering) (cs : Consumers) → (holds t x cs).tickets ≡ cs.tickets
-holds_tickets t (Has n) cs = refl
-holds_tickets t InUse cs = refl
-holds_tickets t Spent cs = refl
+drew_rest : (free : ℕ) (wanted : Option ℕ) (cs : Consumers) → rest_of (drew free wanted cs) ≡ rest_of cs
+drew_rest free None cs = refl
+drew_rest free (Some n) cs = refl
 
-left_tickets : (who : Who) (cs : Consumers) → (consumers_left who cs).tickets ≡ cs.tickets
-left_tickets (Call t) cs = refl
-left_tickets (Consumer n t) cs = refl
-left_tickets (Producer n) cs = refl
+holds_rest : (t : ℕ) (x : Numbering) (cs : Consumers) → rest_of (holds t x cs) ≡ rest_of cs
+holds_rest t (Has n) cs = refl
+holds_rest t InUse cs = refl
+holds_rest t Spent cs = refl
+
+pub numbered_rest : (t : ℕ) (wanted : Option ℕ) (cs : Consumers) → rest_of (numbered t wanted cs) ≡ rest_of cs
+numbered_rest t wanted cs = drew_rest (next_free cs) wanted (holds t (numbering cs wanted) cs) ∙ holds_rest t (numbering cs wanted) cs
+
+pub left_rest : (who : Who) (cs : Consumers) → rest_of (consumers_left who cs) ≡ rest_of cs
+left_rest (Call t) cs = refl
+left_rest (Consumer n t) cs = refl
+left_rest (Producer n) cs = refl
 
 module _ (t : ℕ) where
   abbrev Has' : Consumers → Type 0
@@ -107,14 +114,11 @@ module _ (t : ℕ) where
 
   after_has : (v : View) (a : Act) → Has' v.consumers → Has' (consumers_after v a)
   after_has v (Comes (Calls asked advice)) h =
-      subst (In t) (sym (called_tickets (lacks_tickets v.calls.drawn (shares asked)) (may_call v.calls) asked v.consumers)) h
+      subst (In t) (sym (ap (λ x. x.0) (called_rest (lacks_tickets v.calls.drawn (shares asked)) (may_call v.calls) asked v.consumers))) h
   after_has v (Does who (TakeNumber wanted)) h =
-      subst (In t)
-      (sym
-      (drew_tickets (next_free v.consumers) wanted (holds (ticket_of who) (numbering v.consumers wanted) v.consumers)
-      ∙ holds_tickets (ticket_of who) (numbering v.consumers wanted) v.consumers)) h
+      subst (In t) (sym (ap (λ x. x.0) (numbered_rest (ticket_of who) wanted v.consumers))) h
   after_has v (Answers who verdict) h =
-      subst (In t) (sym (left_tickets who (consumers_listed who verdict.makes v.consumers))) (made_has who verdict.makes v.consumers h)
+      subst (In t) (sym (ap (λ x. x.0) (left_rest who (consumers_listed who verdict.makes v.consumers)))) (made_has who verdict.makes v.consumers h)
   after_has v (Comes (ToLink l Reads)) h = h
   after_has v (Comes (ToLink l (Ends end))) h = h
   after_has v (Comes (Polls u)) h = h
@@ -154,7 +158,7 @@ module _ (t : ℕ) where
   has_on v (Answers who verdict) k n h =
       elim (made_new v.links.live who verdict.makes n v.consumers h) [
         | inl e ↦ after_has v (Answers who verdict) (k n e)
-        | inr e ↦ subst (In t) (sym (left_tickets who (consumers_listed who verdict.makes v.consumers))) e
+        | inr e ↦ subst (In t) (sym (ap (λ x. x.0) (left_rest who (consumers_listed who verdict.makes v.consumers)))) e
       ]
   has_on v a k n h = other_has v a (λ who verdict f. absurd cc) k n h
 

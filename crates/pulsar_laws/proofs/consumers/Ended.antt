@@ -245,7 +245,7 @@ grows once o (Begins x ∷ later) older t m un run e =
 grows once o (Then a ∷ later) older t m un run e =
     grown_by o later older t a (grows once o later older t m un run.0 e) (row_from o (later ++ older) t once a un run)
 
-older_run : (o : Options) (later older : List Entry) → IsRun o (later ++ older) → IsRun o older
+pub older_run : (o : Options) (later older : List Entry) → IsRun o (later ++ older) → IsRun o older
 older_run o [] older run = run
 older_run o (Begins e ∷ later) older run = older_run o later older run.0
 older_run o (Then a ∷ later) older run = older_run o later older run.0

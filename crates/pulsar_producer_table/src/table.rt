@@ -18,10 +18,10 @@ ghost use Rattle.pulsar_producer_table.specs.KeptProducers.{producers_of};
 
 use pulsar_addresses::content::Text;
 use pulsar_calls::act::{Notice, Outcome, Who};
-use pulsar_calls::content::{Advice, BuiltProducer, Numbers, Remaking};
+use pulsar_calls::content::{Advice, BuiltProducer, Remaking};
 use pulsar_calls::who::in_turn;
 use pulsar_messages::Message;
-use pulsar_outgoing::content::{Batch, Built, Entry, Parts, Settings, Version};
+use pulsar_outgoing::content::{Batch, Built, Entry, Numbers, Parts, Settings, Version};
 use pulsar_outgoing::news::Drawn;
 use pulsar_outgoing::orders::Errand;
 use pulsar_outgoing::storage::Limits;

@@ -23,7 +23,7 @@ use Rattle.pulsar_calls.proofs.act.Says.TheSendSync as calls-Says
 use Rattle.pulsar_calls.proofs.act.Share.TheSendSync as calls-Share
 use Rattle.pulsar_calls.proofs.act.Who.TheSendSync as calls-Who
 use Rattle.pulsar_calls.specs.contracts.content.Failures as calls-Failures
-use Rattle.pulsar_calls.proofs.content.Numbers.TheSendSync as calls-Numbers
+use Rattle.pulsar_outgoing.proofs.content.Numbers.TheSendSync as outgoing-Numbers
 use Rattle.pulsar_calls.specs.contracts.content.Said as calls-Said
 use Rattle.pulsar_calls.proofs.effect.Answer.TheSendSync as calls-Answer
 use Rattle.pulsar_calls.specs.contracts.effect.Effect as calls-Effect
@@ -169,7 +169,7 @@ pub calls-Failures-send : IsSend calls-Failures.the_row
 calls-Failures-send = as_row_send calls-Failures.the_field calls-Failures-field_send
 
 pub procedures-Plan-field_send : IsSend (procedures-Plan.the_field).row
-procedures-Plan-field_send = search (procedures-At.the_send, procedures-At.the_field_send, producer-Batching-send, producer-Batching-field_send, producer-Building-send, producer-Building-field_send, consumer-Order.the_send, consumer-Order.the_field_send, consumer-Building.the_send, consumer-Building.the_field_send, producer-Errand.the_send, producer-Errand.the_field_send, plans-Refusal-send, plans-Refusal-field_send, calls-Failures-send, calls-Failures-field_send, calls-Numbers.the_send, consumer-Order.the_send, consumer-Order.the_field_send, link-Request.the_send, calls-Round.the_send, calls-Round.the_field_send, calls-Says.the_send, calls-Says.the_field_send, searches-SearchPlan.the_send, calls-Boxed.the_send, producer-Sending-send, producer-Sending-field_send, procedures-Service.the_send, procedures-Service.the_field_send, calls-Share.the_send, calls-Share.the_field_send, procedures-Wanted.the_send, procedures-Wanted.the_field_send, plans-Ways.the_send, plans-Ways.the_field_send, producer-Order.the_send, producer-Order.the_field_send, consumer-Order.the_send, consumer-Order.the_field_send, heap.crosses, maps.crosses, sendable) depth 30 fits 20000
+procedures-Plan-field_send = search (procedures-At.the_send, procedures-At.the_field_send, producer-Batching-send, producer-Batching-field_send, producer-Building-send, producer-Building-field_send, consumer-Order.the_send, consumer-Order.the_field_send, consumer-Building.the_send, consumer-Building.the_field_send, producer-Errand.the_send, producer-Errand.the_field_send, plans-Refusal-send, plans-Refusal-field_send, calls-Failures-send, calls-Failures-field_send, outgoing-Numbers.the_send, consumer-Order.the_send, consumer-Order.the_field_send, link-Request.the_send, calls-Round.the_send, calls-Round.the_field_send, calls-Says.the_send, calls-Says.the_field_send, searches-SearchPlan.the_send, calls-Boxed.the_send, producer-Sending-send, producer-Sending-field_send, procedures-Service.the_send, procedures-Service.the_field_send, calls-Share.the_send, calls-Share.the_field_send, procedures-Wanted.the_send, procedures-Wanted.the_field_send, plans-Ways.the_send, plans-Ways.the_field_send, producer-Order.the_send, producer-Order.the_field_send, consumer-Order.the_send, consumer-Order.the_field_send, heap.crosses, maps.crosses, sendable) depth 30 fits 20000
 
 pub procedures-Plan-send : IsSend procedures-Plan.the_row
 procedures-Plan-send = as_row_send procedures-Plan.the_field procedures-Plan-field_send

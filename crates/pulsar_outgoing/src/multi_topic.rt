@@ -1,15 +1,14 @@
 //! What is asked of a producer of many topics, and what it says to that. Contracts see messages and numbers by their content.
 
-ghost use Rattle.std.specs.Prelude.{◌≡◌, [], ◌∷◌, ◌++◌, IfOk, MatchOption};
+ghost use Rattle.std.specs.Prelude.{◌≡◌, IfOk};
 ghost use Rattle.pulsar_messages.specs.Content.{message_content};
 
-use crate::content::{Entry, Outgoing, Parts, Settings};
+use crate::content::{Entry, Numbers, Outgoing, Parts, Settings};
 use crate::orders::{Errand, ProducerOrder};
 use pulsar_addresses::content::{Refusal, Text};
 use pulsar_messages::Message;
 use pulsar_wire::error::NoMemory;
 use std::alloc::Global;
-use std::collections::VecDeque;
 use std::marker::Model;
 
 /// A producer of many topics, by what it is known: the client's own, or the one that the call of this ticket made.

@@ -92,6 +92,7 @@ made_due live w makes.Client = []
 made_due live w (makes.Consumer j) = due_to (ticket_of w) (member_on live j.link (setup_of j))
 made_due live w (makes.RawConsumer l made) = []
 made_due live w (makes.Producer b) = []
+made_due live w (makes.MultiProducer name settings) = []
 
 -- a consumer whose close is asked for needs no plan any more
 abbrev pub closed_at : View → (link : ℕ) → Words → (ticket : ℕ) → Member → List Notice

@@ -11,7 +11,7 @@ use Rattle.pulsar_calls.specs.declared.act.Arrival.{Arrival}
 use Rattle.pulsar_calls.specs.declared.act.End.TheVariants.{Idles}
 use Rattle.pulsar_calls.specs.declared.act.LinkAct.TheVariants.{Ends}
 use Rattle.pulsar_calls.specs.declared.act.Makes.{Makes}
-use Rattle.pulsar_calls.specs.declared.act.Makes.TheVariants.{Nothing, Client, Consumer, RawConsumer, Producer}
+use Rattle.pulsar_calls.specs.declared.act.Makes.TheVariants.{Nothing, Client, Consumer, RawConsumer, Producer, MultiProducer}
 use Rattle.pulsar_calls.specs.declared.act.Part.TheVariants.{ToLink}
 use Rattle.pulsar_calls.specs.declared.act.TopicAsk.{TopicAsk}
 use Rattle.pulsar_calls.specs.declared.act.TopicAsk.TheVariants.{TakeTurn, PassTurn, Draw, Recall, Remake, Find, Store, Flush, TakeBatch}
@@ -49,10 +49,12 @@ chosen_of s =
       now = s.start;
     }
 
+-- they have no policies: these are lent to each step
 abbrev pub view_of : Tables → View
 view_of c =
     record {
       chosen = chosen_of c.settings;
+      policies = [];
       now = c.clock;
       stand = stand_of c.plans;
       calls = record { drawn = c.tickets; is_built = c.is_built; is_stopped = c.is_stopped };
@@ -62,6 +64,9 @@ view_of c =
       consumers = consumers_in c.consumers.rows c.consumers.numbers;
       producers = producers_of c.producers;
     }
+
+abbrev pub with_policies : List Policy → View → View
+with_policies ps v = record v { policies = ps }
 
 -- what a link turns whose next frame was read
 abbrev pub welcomed : (link : ℕ) → Arrival → Option Seat → Option Turned
@@ -147,3 +152,4 @@ producers_made o who Client ps = ps
 producers_made o who (Consumer made) ps = ps
 producers_made o who (RawConsumer link made) ps = ps
 producers_made o who (Producer made) ps = joined (rank who).1 made o.seed o.first_number ps
+producers_made o who (MultiProducer name settings) ps = with_multi (rank who).1 name settings ps

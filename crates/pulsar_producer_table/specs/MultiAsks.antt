@@ -4,6 +4,7 @@ use Rattle.std.specs.Prelude.{ℕ, Bool, if◌then◌else◌, List, [], ◌∷�
 use Rattle.std.specs.Option.{option_map, option_to_list}
 use Rattle.pulsar_producer.specs.MultiTopic as multi
 use Rattle.pulsar_producer.specs.MultiTopic.{Act, Takes, Passes, Hands, Joins, Removes, handed, is_free}
+use Rattle.pulsar_producer.specs.Producer as producer
 use Rattle.pulsar_producer.specs.Routing.{Policy}
 use Rattle.pulsar_outgoing.specs.Storage.{limits_of}
 use Rattle.pulsar_outgoing.specs.declared.content.Built.{Built}
@@ -19,7 +20,8 @@ use Rattle.pulsar_calls.specs.declared.act.Outcome.{Outcome}
 use Rattle.pulsar_calls.specs.declared.act.Outcome.TheVariants as outcome
 use Rattle.pulsar_calls.specs.Notices.{notice}
 use Rattle.pulsar_producer_table.specs.declared.multi_asks.Asker.{Asker}
-use Rattle.pulsar_producer_table.specs.Multis.{all_changed, at, joining, next_on, topic_numbers}
+use Rattle.pulsar_producer_table.specs.Multis.{all_changed, at, found_in, joining, next_on, topic_numbers}
+use Rattle.pulsar_producer_table.specs.Partitions.{numbers_at}
 use Rattle.pulsar_producer_table.specs.Producers.{Producers, freed, of_multi, shut_all, with_topics}
 use Rattle.pulsar_producer_table.specs.Takers.{who_of}
 
@@ -89,12 +91,15 @@ joined_by PassTurn row = None
 joined_by (Hand h) row = None
 joined_by (Remove topic) row = None
 
+abbrev pub removed_one : MultiAsk → Option multi.Seen → Option producer.Seen
+removed_one (Remove topic) row = found_in topic row
+removed_one TakeTurn row = None
+removed_one PassTurn row = None
+removed_one (Hand h) row = None
+removed_one (Join j) row = None
+
 abbrev pub removed_by : MultiAsk → Option multi.Seen → List ℕ
-removed_by (Remove topic) row = topic_numbers topic row
-removed_by TakeTurn row = []
-removed_by PassTurn row = []
-removed_by (Hand h) row = []
-removed_by (Join j) row = []
+removed_by ask row = numbers_at (removed_one ask row)
 
 -- the call that made them holds them no longer by itself
 abbrev pub with_joined : (first_number ticket : ℕ) → Multi → Option Joining → Producers → Producers

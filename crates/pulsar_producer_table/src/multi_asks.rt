@@ -2,20 +2,21 @@
 //! cause serves, and what becomes of topic producers.
 
 ghost use Rattle.std.specs.Prelude.{◌≡◌, [], ℕ, IfOk, None, OnOk, Some, map, true};
-ghost use Rattle.std.specs.Option.{is_some, option_map, option_to_list};
+ghost use Rattle.std.specs.Option.{is_some, option_copied, option_map, option_to_list};
 ghost use Rattle.pulsar_producer_table.specs.KeptProducers.{producers_of};
-ghost use Rattle.pulsar_producer_table.specs.MultiAsks.{Around, around, asked_in, asked_so, says_it, taker_notice};
+ghost use Rattle.pulsar_producer_table.specs.MultiAsks.{Around, around, asked_in, asked_so, removed_one, says_it, taker_notice};
 ghost use Rattle.pulsar_producer_table.specs.Multis as meaning;
 ghost use Rattle.pulsar_producer_table.specs.Partitions.{numbers_at};
-ghost use Rattle.pulsar_producer_table.specs.Producers.{shut_all};
+ghost use Rattle.pulsar_producer_table.specs.Producers.{shut_all, stored_by};
 
 use crate::asks::Given;
-use crate::table::{Owner, Producers, close_all, made_of, numbers_of};
+use crate::table::{Owner, Producers, close_all, made_of, numbers_of, stored_in};
 use crate::takers::who_of;
 use pulsar_addresses::content::Text;
 use pulsar_calls::act::{FromMulti, Notice, Outcome};
 use pulsar_outgoing::content::Numbers;
 use pulsar_outgoing::multi_topic::{Handing, Joining, Multi, MultiAsk, MultiSaid, Taker};
+use pulsar_producer::routing::Partition;
 use pulsar_producer::{CustomRoutingPolicy, Producer};
 use pulsar_wire::error::NoMemory;
 use std::alloc::Global;
@@ -150,6 +151,23 @@ impl Producers {
         let removed = self.multis.remove(multi, topic);
         let numbers = self.closes_all(removed)?;
         says(self.alloc, MultiSaid::Removed(numbers), None)
+    }
+
+    /// The producer that is removed by it, where one is.
+    pub fn removed(&self, multi: Multi, ask: &MultiAsk) -> Option<&Producer>
+        ensures { option_copied result ≡ removed_one ask.now (meaning.at multi (producers_of self.now).multis) }
+    {
+        match ask {
+            MultiAsk::Remove(topic) => self.multis.at(multi)?.producer(topic.as_str()),
+            MultiAsk::TakeTurn | MultiAsk::PassTurn | MultiAsk::Hand(_) | MultiAsk::Join(_) => None,
+        }
+    }
+
+    /// The tickets of the messages that the topic producers of these partitions store.
+    pub fn stored_at(&self, partitions: &[Partition]) -> Result<Vec<u64>, NoMemory>
+        ensures { IfOk result (λ ts. ts.items ≡ stored_by (producers_of self.now) (map (λ q. q.number) partitions.now)) }
+    {
+        stored_in(self.alloc, &self.topics, partitions)
     }
 
     /// The topic producers of a producer that was removed, where there was one, by their numbers: they take no message from now on.

@@ -736,7 +736,7 @@ fn stop_calls(tickets: Vec<u64>, notices: &mut Vec<Notice>) -> Result<(), NoMemo
 }
 
 /// The tickets of the messages that the topic producers of these partitions store.
-fn stored_in(
+pub(crate) fn stored_in(
     alloc: Global,
     topics: &BTreeMap<u64, Topic>,
     partitions: &[Partition],

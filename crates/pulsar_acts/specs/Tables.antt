@@ -20,12 +20,13 @@ use Rattle.pulsar_calls.specs.declared.act.Who.TheVariants as who
 use Rattle.pulsar_calls.specs.Who.{rank}
 use Rattle.pulsar_consumer_table.specs.Consumers as consumer
 use Rattle.pulsar_consumer_table.specs.Consumers.{Consumers, Member, is_heard}
-use Rattle.pulsar_producer_table.specs.Producers.{Producers, is_bare, is_held, joined, timeout_at}
+use Rattle.pulsar_producer_table.specs.Producers.{Producers, is_bare, is_held, joined, timeout_at, with_multi}
 use Rattle.pulsar_acts.specs.declared.settings.Settings.{Settings}
 use Rattle.pulsar_acts.specs.declared.tables.Tables.{Tables}
 use Rattle.pulsar_calls.specs.Content.{Shown, Retry}
 use Rattle.pulsar_links.specs.Alarms.{set}
 use Rattle.pulsar_links.specs.Kept.{addresses_of, links_in}
+use Rattle.pulsar_producer.specs.Routing.{Policy}
 use Rattle.pulsar_producer_table.specs.KeptProducers.{producers_of}
 use Rattle.pulsar_consumer_table.specs.KeptConsumers.{consumers_in}
 use Rattle.pulsar_acts.specs.View.{Turned, View, alarms_on, alarms_rung, alarms_waiting, base_on, delay_with, member_made, pause_on, pause_rung, waits_on}

@@ -22,6 +22,7 @@ use Rattle.pulsar_producer.specs.Producer as producer
 use Rattle.pulsar_producer.specs.Topic.{Setup, seen}
 use Rattle.pulsar_outgoing.specs.declared.batch.Fate.{Fate}
 use Rattle.pulsar_outgoing.specs.declared.batch.Fate.TheVariants as fate
+use Rattle.pulsar_producer.specs.declared.batching.Batching.{Batching}
 use Rattle.pulsar_producer.specs.declared.batching.Batching.TheVariants as batching
 use Rattle.pulsar_outgoing.specs.declared.news.News.TheVariants as news
 use Rattle.pulsar_outgoing.specs.declared.orders.Errand.{Errand}
@@ -47,7 +48,7 @@ use Rattle.pulsar_producer_table.specs.declared.table.Topic.{Topic}
 use Rattle.pulsar_calls.specs.Content.{Asked, Failed, Receipt, sent_by}
 use Rattle.pulsar_laws.specs.Laws.{AreActs, FailsSo, IsDropped, started}
 use Rattle.pulsar_plans.specs.Plan.{closed_notice, fails, overrides, verdict}
-use Rattle.pulsar_laws.specs.ProducerLaws.{acts_on, asks_in, is_queued, queued_times, version_told}
+use Rattle.pulsar_laws.specs.ProducerLaws.{Dealing, DealsWithNone, GoesRound, Sends, SendsBatches, acts_on, asks_in, dealing, is_queued, queued_times, version_told}
 use Rattle.pulsar_producer_table.specs.Producers.{is_bare, next_batch_at, numbers_at, stored_at, timeout_at}
 use Rattle.pulsar_acts.specs.Rules.{call_part, notice, ready_notice}
 use Rattle.pulsar_acts.specs.Run.{Entry, Then, IsRun, Rests, view}
@@ -113,9 +114,21 @@ OneThingAtATime = (o : Options) (log : List Entry) (n : ℕ) (a : Action) → Is
 -- WHAT BECOMES OF A BATCH
 
 -- how often a frame was queued for the batch that was taken last
+abbrev pub asks_in_batch : Batching → Bool
+asks_in_batch batching.Resting = false
+asks_in_batch batching.Taking = false
+asks_in_batch (batching.Sending ms count s) = asks_in s
+asks_in_batch batching.Settling = false
+
+abbrev pub asks_batch_as : Dealing → Bool
+asks_batch_as (Sends e s) = false
+asks_batch_as (SendsBatches e b) = asks_in_batch b
+asks_batch_as (GoesRound n x) = false
+asks_batch_as DealsWithNone = false
+
 abbrev pub asks_batch : Option Plan → Bool
-asks_batch (Some (plan.Batching w e (batching.Sending ms count s))) = asks_in s
-asks_batch _ = false
+asks_batch None = false
+asks_batch (Some p) = asks_batch_as (dealing p)
 
 abbrev pub frames_queued : Options → (number : ℕ) → List Entry → ℕ
 frames_queued o n [] = 0

@@ -78,14 +78,55 @@ abbrev pub is_queued : Outcome → Bool
 is_queued outcome.Queued = true
 is_queued _ = false
 
+-- what a plan has to do with topic producers: it sends a message by one, or batches, or goes round them
+pub data Dealing : Type 0 where
+  Sends : Errand → Sending → Dealing
+  SendsBatches : Errand → Batching → Dealing
+  GoesRound : (number : ℕ) → At → Dealing
+  DealsWithNone : Dealing
+
+abbrev pub dealing : Plan → Dealing
+dealing plan.Building = DealsWithNone
+dealing (plan.Getting request s) = DealsWithNone
+dealing (plan.Asking w) = DealsWithNone
+dealing (plan.Awaiting w) = DealsWithNone
+dealing (plan.Searching w s) = DealsWithNone
+dealing (plan.Producing w order b) = DealsWithNone
+dealing (plan.Sending w e share s) = Sends e s
+dealing (plan.Reporting w e) = Sends e send.Sent
+dealing (plan.Storing share) = DealsWithNone
+dealing plan.Stored = DealsWithNone
+dealing (plan.Batching w e b) = SendsBatches e b
+dealing (plan.Leaving f) = DealsWithNone
+dealing (plan.Gathering first count left failures) = DealsWithNone
+dealing (plan.Shutting numbers) = DealsWithNone
+dealing (plan.Visiting r n left x) = GoesRound n x
+dealing (plan.Subscribing w order b) = DealsWithNone
+dealing (plan.Serving w n s) = DealsWithNone
+dealing plan.Acknowledging = DealsWithNone
+dealing (plan.Departing consumer n) = DealsWithNone
+dealing plan.Stopping = DealsWithNone
+
 -- a plan has asked for the frame of a message
 abbrev pub asks_in : Sending → Bool
+asks_in (send.Waiting m) = false
+asks_in (send.Drawing m) = false
 asks_in (send.Asked kept) = true
-asks_in _ = false
+asks_in send.Sent = false
+asks_in (send.Recalling m) = false
+asks_in (send.Looking m c l) = false
+asks_in (send.Making m c k) = false
+asks_in (send.Remaking m) = false
+asks_in (send.Ending f) = false
+
+abbrev pub asks_as : Dealing → Bool
+asks_as (Sends e s) = asks_in s
+asks_as (SendsBatches e b) = false
+asks_as (GoesRound n x) = false
+asks_as DealsWithNone = false
 
 abbrev pub asks_at : Plan → Bool
-asks_at (plan.Sending w e share s) = asks_in s
-asks_at _ = false
+asks_at p = asks_as (dealing p)
 
 abbrev pub asks_send : Option Plan → Bool
 asks_send None = false
@@ -253,21 +294,37 @@ SlowDownLeavesAll = (o : Options) (log : List Entry) (who : Who) (l : ℕ) (requ
 -- what a plan waits for the turn of
 abbrev pub turn_in : Errand → Sending → Option ℕ
 turn_in e (send.Waiting m) = Some e.producer
-turn_in e _ = None
+turn_in e (send.Drawing m) = None
+turn_in e (send.Asked kept) = None
+turn_in e send.Sent = None
+turn_in e (send.Recalling m) = None
+turn_in e (send.Looking m c l) = None
+turn_in e (send.Making m c k) = None
+turn_in e (send.Remaking m) = None
+turn_in e (send.Ending f) = None
 
 abbrev pub turn_in_batch : Errand → Batching → Option ℕ
+turn_in_batch e batching.Resting = None
+turn_in_batch e batching.Taking = None
 turn_in_batch e (batching.Sending ms count s) = turn_in e s
-turn_in_batch e _ = None
+turn_in_batch e batching.Settling = None
 
 abbrev pub turn_at : (number : ℕ) → At → Option ℕ
+turn_at n at.Settling = None
 turn_at n at.Turning = Some n
-turn_at n _ = None
+turn_at n at.Finding = None
+turn_at n at.Asking = None
+turn_at n at.Passing = None
+turn_at n at.Awaiting = None
+
+abbrev pub turn_as : Dealing → Option ℕ
+turn_as (Sends e s) = turn_in e s
+turn_as (SendsBatches e b) = turn_in_batch e b
+turn_as (GoesRound n x) = turn_at n x
+turn_as DealsWithNone = None
 
 abbrev pub turn_of : Plan → Option ℕ
-turn_of (plan.Sending w e share s) = turn_in e s
-turn_of (plan.Batching w e b) = turn_in_batch e b
-turn_of (plan.Visiting r n left x) = turn_at n x
-turn_of _ = None
+turn_of p = turn_as (dealing p)
 
 -- one has the turn of a topic producer
 abbrev pub HasTurn : View → Who → (number : ℕ) → Type 0

@@ -297,22 +297,16 @@ module _ (o : Options) (who : Who) (u : Outcome) (older : List Entry) where
       let k = told_is w (told_at (answer_at v.now request (v.links.live l))) h in asks_so w l request (answer_at v.now request (v.links.live l)) refl k.0 k.1
   once_caused (Does w StopAll) h = stops_caused w h
   once_caused (Does w (OfTopic n TakeTurn)) h = takes_caused w n (v.producers.topics n) refl h
-  once_caused (Does w (OfTopic n PassTurn)) h = done_caused w (OfTopic n PassTurn) tt h
   once_caused (Does w (OfTopic n Draw)) h = draws_caused w n (room_of v n) refl h
   once_caused (Does w (OfTopic n Recall)) h = recalls_caused w n (recalled v.producers n) refl h
-  once_caused (Does w (OfTopic m (Remake r))) h = done_caused w (OfTopic m (Remake r)) tt h
   once_caused (Does w Number) h = numbers_caused w (number_drawn v.producers) refl h
   once_caused (Does w (OfTopic n Find)) h = finds_caused w n (v.producers.topics n) refl h
-  once_caused (Does w (Hold l n)) h = done_caused w (Hold l n) tt h
-  once_caused (Does w (Shut t)) h = done_caused w (Shut t) tt h
-  once_caused (Does w (OfTopic n (Store entry))) h = done_caused w (OfTopic n (Store entry)) tt h
   once_caused (Does w (OfTopic n Flush)) h = settled_caused w n (is_settled_at (v.producers.topics n)) refl h
   once_caused (Does w (OfTopic n TakeBatch)) h =
       let y : Outcome = outcome.Granted (news.HasBatch (next_batch_at (v.producers.topics n))) in
       let k = told_is w y h in
       named (Then (Does w (OfTopic n TakeBatch))) y k.1 (inl (OfTopic n TakeBatch, did w (OfTopic n TakeBatch) k.0, refl))
-  once_caused (Does w (Tell n)) h = done_caused w (Tell n) tt h
-  once_caused (Does w (TellAll ns)) h = done_caused w (TellAll ns) tt h
+  once_caused (Does w (OfTopic n ask)) h = done_caused w (OfTopic n ask) tt h
   once_caused (Does w (TakeNumber wanted)) h = numbering_caused w wanted (consumer.numbering v.consumers wanted) refl h
   once_caused (Does w (OfConsumer (FindConsumer t))) h = sought_caused w t (consumer.sought (v.consumers.rows t)) refl h
   once_caused (Does w (OfConsumer TakeFlow)) h = flow_caused w (consumer.flow_at (v.consumers.rows (ticket_of w))) refl h
@@ -321,6 +315,7 @@ module _ (o : Options) (who : Who) (u : Outcome) (older : List Entry) where
   once_caused (Does w (OfConsumer (FailConsumer f))) h = word_said w (OfConsumer (FailConsumer f)) word.Over (λ is. tt) h
   once_caused (Does w (Wait delay)) h = absurd h
   once_caused (Does w Rest) h = absurd h
+  once_caused (Does w action) h = done_caused w action tt h
   once_caused b h = absurd (none_told v b it refl h)
 
   -- ONE JOINS

@@ -109,14 +109,12 @@ module _ (v : View) (who : Who) where
 
   ask_once : (n : ℕ) (ask : TopicAsk) → AtOnce v who (OfTopic n ask) (says_to who (asked_of v who n ask).says)
   ask_once n TakeTurn = turns_once n (v.producers.topics n) refl
-  ask_once n PassTurn = says tt refl
   ask_once n Draw = draws_once n (room_of v n) refl
   ask_once n Recall = recalls_once n (recalled v.producers n) refl
-  ask_once n (Remake r) = says tt refl
   ask_once n Find = finds_once n (link_at (v.producers.topics n))
-  ask_once n (Store entry) = says tt refl
   ask_once n Flush = flushes_once n (is_settled_at (v.producers.topics n)) refl
   ask_once n TakeBatch = says refl refl
+  ask_once n _ = says tt refl
 
   pub performs_once : (action : Action) → AtOnce v who action (performs v who action)
   performs_once (Get p) =
@@ -126,17 +124,12 @@ module _ (v : View) (who : Who) where
   performs_once (Wait delay) = nothing
   performs_once (OfTopic n ask) = ask_once n ask
   performs_once Number = numbers_once (number_drawn v.producers) refl
-  performs_once (Hold l n) = says tt refl
-  performs_once (Shut t) = says tt refl
   performs_once (TakeNumber wanted) = numbering_once wanted (consumer.numbering v.consumers wanted)
   performs_once (OfConsumer (FindConsumer t)) = sought_once t (consumer.sought (v.consumers.rows t))
-  performs_once (OfConsumer TakeFlow) = says tt refl
   performs_once (OfConsumer RecallConsumer) = command_once (consumer.recalled (v.consumers.rows (ticket_of who)))
-  performs_once (OfConsumer (Revive l)) = says tt refl
-  performs_once (OfConsumer (FailConsumer f)) = says tt refl
-  performs_once (Tell n) = says tt refl
-  performs_once (TellAll ns) = says tt refl
+  performs_once (OfConsumer _) = says tt refl
   performs_once Rest = nothing
+  performs_once _ = says tt refl
 
 -- so of each act that it gives
 pub once_each : {v : View} {who : Who} {action : Action} {xs : List Act} (P : Act → Type 0) →

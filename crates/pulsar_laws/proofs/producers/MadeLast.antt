@@ -70,15 +70,13 @@ stores_same x v = cond_so (λ w. place w ≡ place v) (is_ready (pushed x v.stor
 
 after_same : (d : Deed) (v : Seen) → is_remaking d ≡ false → place (topic.after d v) ≡ place v
 after_same (Takes t) v h = takes_same v.holder t v
-after_same Passes v h = refl
 after_same Draws v h = cond_so (λ w. place w ≡ place v) (is_spent v.next) _ _ refl refl
 after_same (Remakes l g) v h = absurd cc
-after_same Closes v h = refl
 after_same (Stores t e) v h = stores_same _ v
 after_same (Flushes t) v h = cond_so (λ w. place w ≡ place v) (is_settled v) v _ refl (stores_same (Flush t) v)
 after_same Cuts v h = cond_so (λ w. place w ≡ place v) (is_nothing v.storage.items) _ _ refl refl
 after_same TakesBatch v h = left_same v.cut v
-after_same Halts v h = refl
+after_same _ v h = refl
 
 abbrev Plain : Deed → Type 0
 Plain d = is_remaking d ≡ false

@@ -8,7 +8,7 @@ use Rattle.pulsar_outgoing.specs.declared.storage.Limits.{Limits}
 use Rattle.pulsar_outgoing.specs.Storage.{Flush, is_nothing, is_ready, Item, pushed}
 use Rattle.pulsar_messages.specs.Claims.{is_spent}
 use Rattle.pulsar_producer.specs.Topic as topic
-use Rattle.pulsar_producer.specs.Topic.{Act as Deed, Closes, Cuts, Draws, Flushes, Halts, Passes, Remakes, Seen, Stores, Takes, TakesBatch, is_settled, left_of, stores, takes_in}
+use Rattle.pulsar_producer.specs.Topic.{Act as Deed, Cuts, Draws, Flushes, Remakes, Seen, Stores, Takes, TakesBatch, is_settled, left_of, stores, takes_in}
 use Rattle.pulsar_calls.specs.declared.act.Makes.TheVariants as makes
 use Rattle.pulsar_producer_table.specs.Producers.{fresh_topic, last_of, topic_after, topic_in}
 use Rattle.pulsar_producer_table.specs.declared.table.Topic.{Topic}

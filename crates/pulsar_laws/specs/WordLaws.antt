@@ -141,7 +141,7 @@ abbrev pub DialedTo : Options → Place → Who → (retries : ℕ) → List Ent
 DialedTo o p starter n log s =
     (dialed_with o (view o log).links.started (Then (Dials p starter n) ∷ log) ≡ Some s) × (s.url ≡ p.url) × (s.made ≡ (view o log).now)
     × (s.proxy ≡ (if p.proxy then Some p.broker_url else None))
-    × ((host : Host) → nonempty_host p.url ≡ Some host →
+    × ((host : Host (List ℕ)) → nonempty_host p.url ≡ Some host →
     effects (view o log) (Dials p starter n) ≡ Connect (view o log).links.started (host_text host) (unwrap_or p.url.port 6650) ∷ [])
 
 pub record LinksAreDialed : Type 0 where

@@ -1,5 +1,5 @@
 -- An alarm whose moment has come comes in the tick at which it has, and does what it is for.
-use Rattle.std.proofs.Common.{◌≡◌, ◌∙◌, sym, ap, subst, ℕ, ◌+◌, ◌≤◌, List, [], ◌∷◌, ◌++◌, refl, arith, length, map, Bool, true, false, ◌&&◌, ◌||◌, not, cond, nat_le, nat_lt, ◌==◌, Option, Some, None, inl, inr}
+use Rattle.std.proofs.Common.{◌≡◌, ◌∙◌, sym, ap, subst, ℕ, suc, ◌+◌, ◌≤◌, List, [], ◌∷◌, ◌++◌, refl, arith, length, map, Bool, true, false, ◌&&◌, ◌||◌, not, cond, nat_le, nat_lt, ◌==◌, Option, Some, None, inl, inr}
 use Rattle.std.proofs.lemmas.Bool.{cases_Bool, eq-eqb}
 use Rattle.std.proofs.lemmas.Bool.Decides.{nat_tests}
 use Rattle.std.specs.List.{filter}
@@ -23,7 +23,8 @@ use Rattle.pulsar_links.specs.LinkRules.{due_part, may_ping, on_link}
 use Rattle.pulsar_links.specs.Seats.{Links, later}
 use Rattle.pulsar_links.proofs.Ringing.{is_this}
 use Rattle.pulsar_acts.specs.Rules.{idle_act, is_idle, keeps_alive, rung, tries_again, woken}
-use Rattle.pulsar_run.specs.Things.{row_after, row_by}
+use Rattle.pulsar_acts.specs.Run.{Rests}
+use Rattle.pulsar_run.specs.Things.{row_after}
 use Rattle.pulsar_laws.specs.Laws.{AreActs}
 use Rattle.pulsar_laws.specs.RetryLaws.{newest_moment}
 use Rattle.pulsar_laws.specs.AlarmLaws.{ActsSo, AlarmsAct, AlarmsComeInTime, IdleIsUnused, IsUnused}
@@ -91,7 +92,10 @@ no_requests (p ∷ ps) h = absurd cc
 
 no_line : (xs : List Standing) → nat_lt 0 (length xs) ≡ false → xs ≡ []
 no_line [] h = refl
-no_line (x ∷ xs) h = absurd cc
+no_line (x ∷ xs) h = absurd (one (length xs) h)
+  where
+    one : (n : ℕ) → nat_lt 0 (suc n) ≡ false → ⊥
+    one n h = grind (arith, nat_tests)
 
 is_long : (a b : ℕ) → nat_le a b ≡ true → a ≤ b
 is_long a b h = grind (arith, nat_tests)
@@ -111,11 +115,11 @@ idle_is_unused_lem v l seat = (to, from)
     from : IsUnused v l seat → is_idle v l seat ≡ true
     from k =
         let ready = k.0 in
-        let long : nat_le most v.now ≡ true = at_most most v.now k.1.0 in
-        let none : is_empty seat.seen.waits.waiting ≡ true = ap is_empty k.1.1.0 in
-        let bare : nat_lt 0 (length seat.seen.line) ≡ false = ap (λ (xs : List Standing). nat_lt 0 (length xs)) k.1.1.1.0 in
-        let unheard = k.1.1.1.1.0 in
-        let unheld = k.1.1.1.1.1 in
+        let long : nat_le most v.now ≡ true = at_most most v.now k.1 in
+        let none : is_empty seat.seen.waits.waiting ≡ true = ap is_empty k.2 in
+        let bare : nat_lt 0 (length seat.seen.line) ≡ false = ap (λ (xs : List Standing). nat_lt 0 (length xs)) k.3 in
+        let unheard = k.4 in
+        let unheld = k.5 in
         λ i. (ready i && (long i && not (not (none i) || (bare i || (unheard i || unheld i)))))
 
 -- WHAT IT IS FOR
@@ -171,6 +175,7 @@ alarms_act_lem o newer older a m run rests acts set come = by a run rests set
         (let x : Act = Comes (ToLink l (Ends Idles)) in
         let idle : is_idle v l seat ≡ true = (idle_is_unused_lem v l seat).1 unused in
         let own : In x (on_link (idle_act v) v.links.live l) = rw (h, idle) (inl refl) in
-        let below_all : nat_lt l (0 + v.links.started) ≡ true = started o older l seat h in
+        let lt : nat_lt l v.links.started ≡ true = started o older l seat h in
+        let below_all : nat_lt l (0 + v.links.started) ≡ true = grind (arith, nat_tests) in
         now_done o newer older CheckIdle (λ x i. all_is_done_lem o newer older _ x run rests acts i) x (rings_so CheckIdle set)
         (into_flat (on_link (idle_act v) v.links.live) l x (numbers_from 0 v.links.started) (in_numbers v.links.started 0 l (omega arith) below_all) own))

@@ -33,7 +33,7 @@ entry_said m x h = by (nat_lt (length m.payload) (2 ^ 31)) h
     by false e = absurd (none_some e)
 
 pub sizes_are_said_lem : SizesAreSaid
-sizes_are_said_lem = (refl, λ t items. refl, λ t m x items h. ap (λ n. n + bytes_of items) (entry_said m x h))
+sizes_are_said_lem = (refl, λ t items. omega arith, λ t m x items h. ap (λ n. n + bytes_of items) (entry_said m x h))
 
 -- LIMITS
 
@@ -62,7 +62,7 @@ full_by limits b h = by (reaches (length b) limits.max_size) refl (reaches (capp
     by false e false f k = inr (inr (ended b k))
 
 pub cut_by_limits_lem : CutByLimits
-cut_by_limits_lem s h d b is = elim (cut_in_time s h d b is).1.0 [ inl full ↦ inr (full_by s.limits b full) | inr time ↦ inl time ]
+cut_by_limits_lem s h d b is = elim (cut_in_time s h d b is).1 [ inl full ↦ inr (full_by s.limits b full) | inr time ↦ inl time ]
 
 pub cut_by_its_options_lem : CutByItsOptions
 cut_by_its_options_lem o log n row d b run h is =
@@ -71,7 +71,7 @@ cut_by_its_options_lem o log n row d b run h is =
     let s : Setup = record { built = x.0; first_number = o.chosen.first_number; limits = x.1 } in
     let same : row.seen.storage.limits ≡ x.1 = ap (λ (v : topic.Seen). v.storage.limits) x.3 ∙ limits_stay s (acts_on o n log) in
     let size : x.1.max_size ≡ k.1.options.batch_size = ap (λ (l : Limits). l.max_size) (sym same) ∙ k.3 in
-    let bytes : x.1.max_byte_size ≡ k.1.options.batch_byte_size = ap (λ (l : Limits). l.max_byte_size) (sym same) ∙ k.4.0 in (
+    let bytes : x.1.max_byte_size ≡ k.1.options.batch_byte_size = ap (λ (l : Limits). l.max_byte_size) (sym same) ∙ k.4 in (
       k.0,
       k.1,
       k.2,

@@ -184,7 +184,7 @@ timeout_stays s (act ∷ h) = (acting act (session.seen s h)).timeout ∙ told_t
 no_later : (c now most : ℕ) → c ≤ most → now ≤ most → later_of c now ≤ most
 no_later c now most h k = cond_so (λ x. x ≤ most) (nat_lt c now) now c k h
 
-moment_of : Act → Option ℕ
+abbrev moment_of : Act → Option ℕ
 moment_of (Opens now) = Some now
 moment_of (Feeds piece) = None
 moment_of (Takes now) = Some now
@@ -223,7 +223,7 @@ module _ (v : View) (l : ℕ) where
   deed_clock a (IsRead now) c seat h = acts_clock (Takes now) seat.seen v.now (by_now now v.now c.1) h
   deed_clock a (IsDrained most now) c seat h = acts_clock (Drains most now) seat.seen v.now (by_now now v.now c.1) h
   deed_clock a (IsPinged now) c seat h = acts_clock (Asks now SendPing) seat.seen v.now (by_now now v.now c.1) h
-  deed_clock a (IsAsked who now request) c seat h = acts_clock (Asks now request) seat.seen v.now (by_now now v.now c.1) h
+  deed_clock a (IsAsked who now words) c seat h = acts_clock (Asks now words) seat.seen v.now (by_now now v.now c.1) h
   deed_clock a (IsGot now) c seat h = h
   deed_clock a (IsClosed cause) c seat h = absurd c
 
@@ -245,27 +245,28 @@ clocked o l (Begins e ∷ log) seat h =
     (λ piece is x f k. is_seat v.now _ (acts_clock (Feeds piece) x.seen v.now tt (k x refl))) (clocked o l log) seat h in
     let grows : v.now ≤ (begun e v).now = now_grows e v in
     omega (arith, k, grows)
-clocked o l (Then a ∷ log) =
+clocked o l (Then a ∷ log) seat h =
     let v : View = view o log in
     after_holds (IsClocked v.now) v l a
-    (λ seat d. is_seat v.now seat (subst (λ (x : Seat). x.seen.waits.clock ≤ v.now) d.is_it (by_now v.now v.now refl)))
-    (λ e seat f. absurd (none_some f))
-    (λ d c seat f k. is_seat v.now (seat_by d seat) (deed_clock v l a d c seat (k seat refl)))
-    (clocked o l log)
+    (λ x d. is_seat v.now x (subst (λ (x : Seat). x.seen.waits.clock ≤ v.now) d.is_it (by_now v.now v.now refl)))
+    (λ e x f. absurd (none_some f))
+    (λ d c x f k. is_seat v.now (seat_by d x) (deed_clock v l a d c x (k x refl)))
+    (clocked o l log) seat h
 
 -- HOW IT IS DIALED
 
 dialed_so : (o : Options) (log : List Entry) (l : ℕ) (s : Setup) → dialed_with o l log ≡ Some s → ByOptions o l s
 dialed_so o [] l s h = absurd (none_some h)
 dialed_so o (Begins e ∷ log) l s h = dialed_so o log l s h
-dialed_so o (Then (Dials p starter n) ∷ log) l s h = by (l == (view o log).links.started) h
+dialed_so o (Then (Dials p starter n) ∷ log) l s h = by (λ e. dialed_so o log l s e) (l == (view o log).links.started) h
   where
-    by : (b : Bool) → cond b (Some (setup o.chosen l (view o log).now p)) (dialed_with o l log) ≡ Some s → ByOptions o l s
-    by true e = subst (ByOptions o l) (some_is e) (refl, refl, refl, refl, refl, refl)
-    by false e = dialed_so o log l s e
+    by : (dialed_with o l log ≡ Some s → ByOptions o l s) → (b : Bool) →
+        cond b (Some (setup o.chosen l (view o log).now p)) (dialed_with o l log) ≡ Some s → ByOptions o l s
+    by more true e = subst (ByOptions o l) (some_is e) (refl, refl, refl, refl, refl, refl)
+    by more false e = more e
 dialed_so o (Then a ∷ log) l s h = dialed_so o log l s h
 
-connects_so : (o : Options) (log : List Entry) (p : Place) (starter : Who) (n : ℕ) (host : Host) → nonempty_host p.url ≡ Some host →
+connects_so : (o : Options) (log : List Entry) (p : Place) (starter : Who) (n : ℕ) (host : Host (List ℕ)) → nonempty_host p.url ≡ Some host →
     effects (view o log) (Dials p starter n) ≡ Connect (view o log).links.started (host_text host) (unwrap_or p.url.port 6650) ∷ []
 connects_so o log p starter n host h =
     ap (λ r. connects_to (view o log).links.started (option_map (λ x. (host_text x, unwrap_or p.url.port 6650)) r)) h
@@ -276,7 +277,7 @@ links_are_dialed_lem = record {
   there = λ o log p starter n.
       (let l : ℕ = (view o log).links.started in
       let s : Setup = setup o.chosen l (view o log).now p in
-      (s, ap (λ b. cond b (Some s) (dialed_with o l log)) (eq-eqb l l refl), refl, refl, refl, λ host h. connects_so o log p starter n host h));
+      (s, (ap (λ b. cond b (Some s) (dialed_with o l log)) (eq-eqb l l refl), refl, refl, refl, λ host h. connects_so o log p starter n host h)));
 }
 
 -- WHEN IT IS DUE
@@ -306,19 +307,19 @@ not_before c now h = elim (cases_Bool (nat_lt c now)) [
 ]
 
 pub requests_are_due_lem : RequestsAreDue
-requests_are_due_lem o log l place seat request c h asked is =
+requests_are_due_lem o log l place seat words c h asked known =
     let now : ℕ = (view o log).now in
     let k = alone o log l seat h in
     let calls : List Act = calls_of o l log in
     let v : Seen = session.seen k.setup calls in
     let r : Pending = request_of place (ticked now seat.seen).waits c in
-    let waits = queued_waits k.setup calls now request place (ap (λ x. session.asked now request x) (sym k.same) ∙ asked) in
+    let waits = queued_waits k.setup calls now words place (ap (λ x. session.asked now words x) (sym k.same) ∙ asked) in
     let timeout : seat.seen.waits.timeout ≡ o.chosen.operation.operation_timeout =
-    ap (λ (x : Seen). x.waits.timeout) k.same ∙ timeout_stays k.setup calls ∙ (dialed_so o log l k.setup k.dialed).1.0 in (
+    ap (λ (x : Seen). x.waits.timeout) k.same ∙ timeout_stays k.setup calls ∙ (dialed_so o log l k.setup k.dialed).1 in (
       r,
-      ap (λ x. request_at place (session.after (Asks now request) x).waits.waiting) k.same ∙ waits
-          ∙ ap (λ x. option_map (request_of place (ticked now x).waits) (claim x.next_number request)) (sym k.same)
-          ∙ ap (option_map (request_of place (ticked now seat.seen).waits)) is,
+      ap (λ x. request_at place (session.after (Asks now words) x).waits.waiting) k.same ∙ waits
+          ∙ ap (λ x. option_map (request_of place (ticked now x).waits) (claim x.next_number words)) (sym k.same)
+          ∙ ap (option_map (request_of place (ticked now seat.seen).waits)) known,
       refl,
       (λ i. capped (not_before seat.seen.waits.clock now (clocked o l log seat h) i + timeout i)),
     )

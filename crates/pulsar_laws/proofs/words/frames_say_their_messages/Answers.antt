@@ -1,4 +1,4 @@
-use Rattle.std.proofs.Common.{◌≡◌, ap, List, refl, Option, None}
+use Rattle.std.proofs.Common.{◌∙◌, ap, refl, sym, []}
 use Rattle.std.specs.Option.{option_or}
 use Rattle.std.specs.Prelude.{unwrap_or}
 use Rattle.pulsar_laws.proofs.words.frames_say_their_messages.Goals as goal

@@ -23,10 +23,7 @@ use Rattle.pulsar_links.specs.LinkRules.{due_part, may_ping, on_link}
 use Rattle.pulsar_links.specs.Seats.{Links, later}
 use Rattle.pulsar_links.proofs.Ringing.{is_this}
 use Rattle.pulsar_acts.specs.Rules.{idle_act, is_idle, keeps_alive, rung, tries_again, woken}
-use Rattle.pulsar_acts.specs.Run.{Rests}
 use Rattle.pulsar_run.specs.Things.{row_after}
-use Rattle.pulsar_laws.specs.Laws.{AreActs}
-use Rattle.pulsar_laws.specs.RetryLaws.{newest_moment}
 use Rattle.pulsar_laws.specs.AlarmLaws.{ActsSo, AlarmsAct, AlarmsComeInTime, IdleIsUnused, IsUnused}
 use Rattle.pulsar_laws.proofs.Cases.{cond_so, none_some, some_is}
 use Rattle.pulsar_laws.proofs.Lists.{in_right, into_flat}
@@ -124,58 +121,74 @@ idle_is_unused_lem v l seat = (to, from)
 
 -- WHAT IT IS FOR
 
-module _ (o : Options) (newer older : List Entry) (a : Alarm)
-    (done : (x : Act) → Arises rules o x (Then (Comes (Rings a))) older → In (Then x) newer) where
+module _ (o : Options) (newer older : List Entry) where
   abbrev v : View
   v = view o older
 
+  -- what arises as this alarm comes is done
+  abbrev Done : Alarm → Type 0
+  Done a = (x : Act) → Arises rules o x (Then (Comes (Rings a))) older → In (Then x) newer
+
   -- at once
-  now_done : (x : Act) → rings v.now a v.alarms ≡ true → In x (rung v a) → In (Then x) newer
-  now_done x r i = done x (inl (subst (λ b. In x (cond b (rung v a) [])) (sym r) i))
+  now_done : (a : Alarm) → Done a → (x : Act) → rings v.now a v.alarms ≡ true → In x (rung v a) → In (Then x) newer
+  now_done a done x r i = done x (inl (subst (λ b. In x (cond b (rung v a) [])) (sym r) i))
 
   -- as what one is told
-  told_done : (x : Act) → rings v.now a v.alarms ≡ true → InOne x (map (map Told) (opens (woken v a))) → In (Then x) newer
-  told_done x r i = done x (inr (inr (inl (subst (λ b. InOne x (map (map Told) (cond b (opens (woken v a)) []))) (sym r) i))))
+  told_done : (a : Alarm) → Done a → (x : Act) → rings v.now a v.alarms ≡ true → InOne x (map (map Told) (opens (woken v a))) → In (Then x) newer
+  told_done a done x r i = done x (inr (inr (inl (subst (λ b. InOne x (map (map Told) (cond b (opens (woken v a)) []))) (sym r) i))))
 
-pub alarms_act_lem : AlarmsAct
-alarms_act_lem o newer older a m run rests acts set come = by a run rests set
-  where
-    v : View
-    v = view o older
+  tries : (l : ℕ) → Done (Retry l) → rings v.now (Retry l) v.alarms ≡ true → ActsSo o (Retry l) newer older
+  tries l done r p h =
+      let x : Act = Dials p.address p.starter (p.retries + 1) in now_done (Retry l) done x r (subst (λ q. In x (tries_again q)) (sym h) (inl refl))
 
-    rings_so : (a : Alarm) → newest_moment o a older ≡ Some m → rings v.now a v.alarms ≡ true
-    rings_so a set = ap (has_come v.now) (moments_are_set_lem o older a ∙ set) ∙ at_most m v.now come
+  wakes : (who : Who) → Done (Wake who) → rings v.now (Wake who) v.alarms ≡ true → ActsSo o (Wake who) newer older
+  wakes who done r = told_done (Wake who) done (Told (notice who outcome.Woken)) r (inl (inl refl))
 
-    by : (a : Alarm) → IsRun o (newer ++ Then (Comes (Rings a)) ∷ older) → Rests o (newer ++ Then (Comes (Rings a)) ∷ older) →
-        newest_moment o a older ≡ Some m → ActsSo o a newer older
-    by (Retry l) run rests set = λ p h.
-        now_done o newer older (Retry l) (λ x i. all_is_done_lem o newer older _ x run rests acts i) _ (rings_so (Retry l) set)
-        (subst (λ r. In (Dials p.address p.starter (p.retries + 1)) (tries_again r)) (sym h) (inl refl))
-    by (Wake who) run rests set =
-        told_done o newer older (Wake who) (λ x i. all_is_done_lem o newer older _ x run rests acts i) _ (rings_so (Wake who) set) (inl (inl refl))
-    by (Batch n) run rests set = λ row h some.
-        (let r : rings v.now (Batch n) v.alarms ≡ true = rings_so (Batch n) set in
-        let one : (n == n) ≡ true = eq-eqb n n refl in
-        let s : topic.Seen = row.seen in
-        (topic_after topic.Cuts row,
+  is_told : (n : ℕ) → Done (Batch n) → rings v.now (Batch n) v.alarms ≡ true → (row : Topic) → v.producers.topics n ≡ Some row →
+      is_nothing row.seen.storage.items ≡ false → row.seen.is_under_way ≡ false → In (Then (Told (ready_notice n))) newer
+  is_told n done r row h some free =
+      let s : topic.Seen = row.seen in
+      let told : readied n topic.Cuts (v.producers.topics n) ≡ ready_notice n ∷ [] =
+      ap (readied n topic.Cuts) h ∙ (λ i. cond (not (free i) && (cond (some i) s (cuts s)).is_under_way) (ready_notice n ∷ []) []) in
+      told_done (Batch n) done (Told (ready_notice n)) r
+      (subst (λ ns. InOne (Told (ready_notice n)) (map (map Told) (opens ns))) (sym told) (inl (inl refl)))
+
+  is_cut : (n : ℕ) → Done (Batch n) → rings v.now (Batch n) v.alarms ≡ true → ActsSo o (Batch n) newer older
+  is_cut n done r row h some =
+      let one : (n == n) ≡ true = eq-eqb n n refl in
+      let s : topic.Seen = row.seen in (
+        topic_after topic.Cuts row,
         (λ i. row_after topic_after None false (cond (one i) (cond (r i) (topic.Cuts ∷ []) []) []) (h i)),
         ap (λ b. (cond b s (cuts s)).storage.items) some,
         ap (λ b. (cond b s (cuts s)).cut) some,
-        λ free.
-            (told_done o newer older (Batch n) (λ x i. all_is_done_lem o newer older _ x run rests acts i) _ r
-            (subst (λ ns. InOne (Told (ready_notice n)) (map (map Told) (opens ns)))
-            (sym (ap (readied n topic.Cuts) h
-            ∙ (λ i. cond (not (free i) && (cond (some i) s (cuts s)).is_under_way) (ready_notice n ∷ []) [])))
-            (inl (inl refl))))))
-    by (KeepAlive l) run rests set = λ seat h none.
-        now_done o newer older (KeepAlive l) (λ x i. all_is_done_lem o newer older _ x run rests acts i) _ (rings_so (KeepAlive l) set)
-        (subst (λ row. In (Comes (ToLink l Pings)) (keeps_alive l row)) (sym h)
-        (subst (λ b. In (Comes (ToLink l Pings)) (cond b (Comes (ToLink l Pings) ∷ []) [])) (sym (ap is_none none)) (inl refl)))
-    by CheckIdle run rests set = λ l seat h unused.
-        (let x : Act = Comes (ToLink l (Ends Idles)) in
-        let idle : is_idle v l seat ≡ true = (idle_is_unused_lem v l seat).1 unused in
-        let own : In x (on_link (idle_act v) v.links.live l) = rw (h, idle) (inl refl) in
-        let lt : nat_lt l v.links.started ≡ true = started o older l seat h in
-        let below_all : nat_lt l (0 + v.links.started) ≡ true = grind (arith, nat_tests) in
-        now_done o newer older CheckIdle (λ x i. all_is_done_lem o newer older _ x run rests acts i) x (rings_so CheckIdle set)
-        (into_flat (on_link (idle_act v) v.links.live) l x (numbers_from 0 v.links.started) (in_numbers v.links.started 0 l (omega arith) below_all) own))
+        λ free. is_told n done r row h some free,
+      )
+
+  keeps : (l : ℕ) → Done (KeepAlive l) → rings v.now (KeepAlive l) v.alarms ≡ true → ActsSo o (KeepAlive l) newer older
+  keeps l done r seat h none =
+      let x : Act = Comes (ToLink l Pings) in
+      now_done (KeepAlive l) done x r
+      (subst (λ row. In x (keeps_alive l row)) (sym h) (subst (λ b. In x (cond b (x ∷ []) [])) (sym (ap is_none none)) (inl refl)))
+
+  idles : Done CheckIdle → rings v.now CheckIdle v.alarms ≡ true → ActsSo o CheckIdle newer older
+  idles done r l seat h unused =
+      let x : Act = Comes (ToLink l (Ends Idles)) in
+      let idle : is_idle v l seat ≡ true = (idle_is_unused_lem v l seat).1 unused in
+      let own : In x (on_link (idle_act v) v.links.live l) = rw (h, idle) (inl refl) in
+      let lt : nat_lt l v.links.started ≡ true = started o older l seat h in
+      let below_all : nat_lt l (0 + v.links.started) ≡ true = grind (arith, nat_tests) in
+      now_done CheckIdle done x r
+      (into_flat (on_link (idle_act v) v.links.live) l x (numbers_from 0 v.links.started) (in_numbers v.links.started 0 l (omega arith) below_all) own)
+
+  acts_so : (a : Alarm) → Done a → rings v.now a v.alarms ≡ true → ActsSo o a newer older
+  acts_so (Retry l) done r = tries l done r
+  acts_so (Wake who) done r = wakes who done r
+  acts_so (Batch n) done r = is_cut n done r
+  acts_so (KeepAlive l) done r = keeps l done r
+  acts_so CheckIdle done r = idles done r
+
+pub alarms_act_lem : AlarmsAct
+alarms_act_lem o newer older a m run rests acts set come =
+    let now : ℕ = (view o older).now in
+    acts_so o newer older a (λ x i. all_is_done_lem o newer older (Then (Comes (Rings a))) x run rests acts i)
+    (ap (has_come now) (moments_are_set_lem o older a ∙ set) ∙ at_most m now come)

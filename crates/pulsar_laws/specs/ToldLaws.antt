@@ -1,6 +1,6 @@
 -- What every run has of those who asked on a link, and of those who wait for one: each is told what came of that, in its step. What one is told has its
 -- cause (CauseLaws); here each cause is told.
-use Rattle.std.specs.Prelude.{◌≡◌, ℕ, List, [], ◌∷◌, ◌++◌, Some, None}
+use Rattle.std.specs.Prelude.{◌≡◌, ℕ, List, ◌∷◌, ◌++◌, Some, None}
 use Rattle.pulsar_run.specs.Laws.{In}
 use Rattle.pulsar_wire.specs.Failures.{Fault}
 use Rattle.pulsar_frame.specs.Message.{MessageValues}

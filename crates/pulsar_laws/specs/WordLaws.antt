@@ -7,7 +7,7 @@ use Rattle.url.specs.declared.host.Host.{Host}
 use Rattle.pulsar_run.specs.Laws.{In}
 use Rattle.pulsar_wire.specs.Field.{◌>>=◌}
 use Rattle.pulsar_wire.specs.Enumerations.{error_of}
-use Rattle.pulsar_wire.specs.Failures.{Canceled, ConsumerClosed, Disconnected, Failure, Fault, Io, NotFound, OfConnection, OfConsumer, OfProducer, ProducerClosed, PulsarError, Shutdown}
+use Rattle.pulsar_wire.specs.Failures.{Canceled, ConsumerClosed, Disconnected, Fault, Io, NotFound, OfConnection, OfConsumer, OfProducer, ProducerClosed, PulsarError, Shutdown}
 use Rattle.pulsar_wire.specs.Row.{Values, ◌&◌}
 use Rattle.pulsar_wire.specs.Rows.{key_value}
 use Rattle.pulsar_wire.specs.declared.awaited.Claim.{Claim}

@@ -1,12 +1,12 @@
 -- An alarm whose moment has come comes in the tick at which it has, and does what it is for.
-use Rattle.std.proofs.Common.{◌≡◌, ◌∙◌, sym, ap, subst, ℕ, suc, ◌+◌, ◌≤◌, List, [], ◌∷◌, ◌++◌, refl, arith, length, map, Bool, true, false, ◌&&◌, ◌||◌, not, cond, nat_le, nat_lt, ◌==◌, Option, Some, None, inl, inr}
+use Rattle.std.proofs.Common.{◌≡◌, ◌∙◌, sym, ap, subst, ℕ, suc, ◌+◌, ◌≤◌, List, [], ◌∷◌, refl, arith, length, map, Bool, true, false, ◌&&◌, ◌||◌, not, cond, nat_le, nat_lt, ◌==◌, Some, None, inl, inr}
 use Rattle.std.proofs.lemmas.Bool.{cases_Bool, eq-eqb}
 use Rattle.std.proofs.lemmas.Bool.Decides.{nat_tests}
 use Rattle.std.specs.List.{filter}
 use Rattle.std.specs.Option.{is_none}
-use Rattle.pulsar_laws.proofs.ActWords.{Act, Alarm, Batch, CheckIdle, Comes, Dials, Ends, Idles, KeepAlive, numbers_from, opens, Part, Pings, Retry, Rings, Told, ToLink, Wake, Who}
-use Rattle.pulsar_laws.proofs.RunWords.{Arises, Begins, Entry, In, InOne, is_live, IsRun, notice, Options, parts, readied, ready_notice, rules, Then, View, view}
-use Rattle.pulsar_laws.proofs.LinkWords.{over_links, Pause, rings, Seat}
+use Rattle.pulsar_laws.proofs.ActWords.{Act, Alarm, Batch, CheckIdle, Comes, Dials, Ends, Idles, KeepAlive, numbers_from, opens, Pings, Retry, Rings, Told, ToLink, Wake, Who}
+use Rattle.pulsar_laws.proofs.RunWords.{Arises, Begins, Entry, In, InOne, is_live, notice, Options, parts, readied, ready_notice, rules, Then, View, view}
+use Rattle.pulsar_laws.proofs.LinkWords.{over_links, rings}
 use Rattle.pulsar_requests.specs.Soonest.{has_come}
 use Rattle.pulsar_requests.specs.Waits.{Pending, is_empty}
 use Rattle.pulsar_session.specs.Link.{Standing, is_ready}
@@ -19,8 +19,8 @@ use Rattle.pulsar_consumer_table.specs.Consumers.{is_heard}
 use Rattle.pulsar_calls.specs.Content.{Ticked}
 use Rattle.pulsar_calls.specs.declared.act.Outcome.TheVariants as outcome
 use Rattle.pulsar_links.specs.Alarms.{is_same_alarm, moment_of, ringing}
-use Rattle.pulsar_links.specs.LinkRules.{due_part, may_ping, on_link}
-use Rattle.pulsar_links.specs.Seats.{Links, later}
+use Rattle.pulsar_links.specs.LinkRules.{due_part, on_link}
+use Rattle.pulsar_links.specs.Seats.{later}
 use Rattle.pulsar_links.proofs.Ringing.{is_this}
 use Rattle.pulsar_acts.specs.Rules.{idle_act, is_idle, keeps_alive, rung, tries_again, woken}
 use Rattle.pulsar_run.specs.Things.{row_after}

@@ -1,10 +1,8 @@
 -- A batch is cut only where it reaches the limits of the options, behind a flush, or by its time.
-use Rattle.std.proofs.Common.{◌≡◌, ◌⊎◌, inl, inr, ◌∙◌, sym, ap, subst, ℕ, ◌+◌, ◌≤◌, ◌<◌, ◌||◌, ◌&&◌, not, append-nil, nat_le, nat_lt, ◌^◌, arith, List, [], ◌∷◌, ◌++◌, refl, length, Bool, true, false, cond, Option, Some, None}
-use Rattle.std.proofs.lemmas.Bool.{cases_Bool}
+use Rattle.std.proofs.Common.{◌≡◌, inl, inr, ◌∙◌, sym, ap, subst, ℕ, ◌+◌, ◌≤◌, ◌||◌, ◌&&◌, not, append-nil, nat_le, nat_lt, ◌^◌, arith, List, [], ◌∷◌, ◌++◌, refl, length, Bool, true, false, cond, Option, Some, None}
 use Rattle.std.proofs.lemmas.Bool.Decides.{nat_tests}
 use Rattle.std.specs.Option.{option_map}
 use Rattle.std.specs.Prelude.{pos}
-use Rattle.pulsar_laws.proofs.RunWords.{IsRun, Options, view}
 use Rattle.pulsar_frame.specs.Batch.{EntryValues}
 use Rattle.pulsar_messages.specs.Content.{ProducerMessageValues}
 use Rattle.pulsar_messages.specs.Claims.{is_spent}

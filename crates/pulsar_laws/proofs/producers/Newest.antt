@@ -1,7 +1,7 @@
 -- The version that one is told with its turn is that with which the topic producer was made last.
 use Rattle.std.proofs.Common.{◌≡◌, ◌⊎◌, inl, inr, ◌∙◌, sym, ap, subst, ℕ, List, ◌∷◌, refl, Bool, true, false, cond, Option, Some, None}
 use Rattle.std.specs.Option.{is_none, option_map}
-use Rattle.pulsar_laws.proofs.ActWords.{Does, Notice, OfTopic, Outcome, PassTurn, TakeTurn, Told, Who}
+use Rattle.pulsar_laws.proofs.ActWords.{Does, Notice, OfTopic, Outcome, PassTurn, TakeTurn, Who}
 use Rattle.pulsar_laws.proofs.RunWords.{Cause, Entry, IsRun, notice, Options, Then, view}
 use Rattle.pulsar_calls.specs.declared.act.Outcome.TheVariants as outcome
 use Rattle.pulsar_outgoing.specs.declared.news.News.TheVariants as news

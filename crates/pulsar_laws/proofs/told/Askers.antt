@@ -2,9 +2,9 @@
 use Rattle.std.proofs.Common.{◌≡◌, ◌∙◌, sym, ap, subst, ℕ, List, [], ◌∷◌, ◌++◌, refl, map, Option, Some, None, inl, inr}
 use Rattle.std.specs.List.{cons_option, filter_map}
 use Rattle.std.specs.Option.{option_map}
-use Rattle.pulsar_laws.proofs.ActWords.{Act, Comes, Drains, End, Ends, LinkAct, Notice, opens, Outcome, Reads, Told, ToLink, Who}
-use Rattle.pulsar_laws.proofs.RunWords.{Arises, Chosen, chosen_same, Entry, In, InOne, lost_on, notice, Options, rules, Then, turned, turned_by, View, view}
-use Rattle.pulsar_laws.proofs.LinkWords.{address_key, closed_by, Fault, Pause, Runs, Seat, Series, tells_asker}
+use Rattle.pulsar_laws.proofs.ActWords.{Comes, Drains, End, Ends, LinkAct, Notice, opens, Outcome, Reads, Told, ToLink, Who}
+use Rattle.pulsar_laws.proofs.RunWords.{chosen_same, Entry, In, InOne, lost_on, notice, Options, rules, Then, turned, turned_by, View, view}
+use Rattle.pulsar_laws.proofs.LinkWords.{closed_by, Runs, Seat, tells_asker}
 use Rattle.pulsar_frame.specs.Message.{MessageValues}
 use Rattle.pulsar_session.specs.Link as session
 use Rattle.pulsar_session.specs.Link.{came, ends}

@@ -10,10 +10,10 @@ use Rattle.std.specs.Prelude.{unwrap_or}
 use Rattle.url.specs.Host.{host_text}
 use Rattle.url.specs.Parts.{nonempty_host}
 use Rattle.url.specs.declared.host.Host.{Host}
-use Rattle.pulsar_laws.proofs.ActWords.{Act as Done, Bytes, Dials, Heard, Shown, Who}
-use Rattle.pulsar_laws.proofs.RunWords.{Begins, begun, begun_live, begun_same, calls_of, Chosen, Entry, is_live, Options, Then, View, view}
+use Rattle.pulsar_laws.proofs.ActWords.{Act as Done, Bytes, Dials, Heard, Who}
+use Rattle.pulsar_laws.proofs.RunWords.{Begins, begun, begun_live, begun_same, calls_of, Entry, Options, Then, View, view}
 use Rattle.pulsar_laws.proofs.LinkWords.{ConnectionError, is_numbered, Place, Seat, SendPing, Words}
-use Rattle.pulsar_frame.specs.Frame.{Front, Refused, Short, Whole, front}
+use Rattle.pulsar_frame.specs.Frame.{Front, Whole, front}
 use Rattle.pulsar_frame.specs.Message.{MessageValues}
 use Rattle.pulsar_messages.specs.Claims.{claim}
 use Rattle.pulsar_messages.specs.Content.{AuthenticationValues}
@@ -24,22 +24,20 @@ use Rattle.pulsar_wire.specs.Sink.{capped}
 use Rattle.pulsar_wire.specs.declared.awaited.Claim.{Claim}
 use Rattle.pulsar_session.proofs.Deadlines.{queued_waits}
 use Rattle.pulsar_session.specs.Answers.{is}
-use Rattle.pulsar_session.specs.declared.states.Asked.TheVariants.{Queued}
 use Rattle.pulsar_session.specs.declared.states.Stage.{Stage}
 use Rattle.pulsar_session.specs.declared.states.Stage.TheVariants.{Dialing, Handshaking, Over, Ready}
 use Rattle.pulsar_session.specs.Link as session
 use Rattle.pulsar_session.specs.Link.{Act, Asks, Closes, Drains, Feeds, Opens, Request, Seen, Setup, Standing, Takes, after_of, answered, asks_for, bare, can_wait, challenged, drawn, due_in, frame_for, greeted, greeting, greets_with, has_room, is_open, is_over, moved_up, named_by, number_for, opens_in, pongs, put_frame, put_in, queue, reacts, reacts_unless, request, responds, settled_by, taken_in, ticked, unready_in}
 use Rattle.pulsar_calls.specs.Content.{Connect, Ticked}
-use Rattle.pulsar_links.specs.Address.{leads_to}
 use Rattle.pulsar_links.specs.LinkEffects.{connects_to}
 use Rattle.pulsar_links.specs.Asks.{Deed, IsAsked, IsClosed, IsDrained, IsFed, IsGot, IsOpened, IsPinged, IsRead, seat_by}
 use Rattle.pulsar_acts.specs.Effects.{effects}
-use Rattle.pulsar_acts.specs.View.{after, setup}
-use Rattle.pulsar_laws.specs.Laws.{dialed_with, has_come}
+use Rattle.pulsar_acts.specs.View.{setup}
+use Rattle.pulsar_laws.specs.Laws.{dialed_with}
 use Rattle.pulsar_laws.specs.WordLaws.{ByOptions, LinksAreDialed, LinksAreDue, RequestsAreDue, due_so}
 use Rattle.pulsar_laws.proofs.Cases.{cond_so, none_some, some_is}
-use Rattle.pulsar_laws.proofs.links.Alone.{Made, alone}
-use Rattle.pulsar_laws.proofs.links.Rows.{CameFrom, IsDialed, after_holds, begun_holds}
+use Rattle.pulsar_laws.proofs.links.Alone.{alone}
+use Rattle.pulsar_laws.proofs.links.Rows.{CameFrom, after_holds, begun_holds}
 
 -- WHAT AN ACT LEAVES of a connection, but for the moment that it tells
 

@@ -1,5 +1,5 @@
 -- What is told where a call fails, and which faults may pass.
-use Rattle.std.proofs.Common.{◌≡◌, ◌⊎◌, inl, inr, ◌∙◌, ap, ℕ, refl, List, ◌==◌, cond, true, Option, Some, None}
+use Rattle.std.proofs.Common.{◌≡◌, ◌⊎◌, inl, inr, ap, ℕ, refl, List, cond, true, Option, Some}
 use Rattle.std.proofs.lemmas.Bool.{eq-eqb}
 use Rattle.pulsar_laws.proofs.RunWords.{In}
 use Rattle.pulsar_wire.specs.Command.{body_name}

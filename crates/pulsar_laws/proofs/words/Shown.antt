@@ -1,5 +1,5 @@
 -- What is shown of an attempt that is to follow, and of a link that the client ends.
-use Rattle.std.proofs.Common.{◌≡◌, ◌∙◌, sym, ap, subst, ℕ, List, [], ◌∷◌, ◌++◌, refl, map, Bool, true, false, cond, Option, Some, None, inl, inr}
+use Rattle.std.proofs.Common.{◌≡◌, sym, subst, ℕ, refl, map, true, false, cond, Some, None, inl}
 use Rattle.pulsar_laws.proofs.ActWords.{Comes, End, Ends, Idles, LinkAct, Overdue, Shown, Stops, ToLink}
 use Rattle.pulsar_laws.proofs.RunWords.{In, Turned, turned, View}
 use Rattle.pulsar_laws.proofs.LinkWords.{Fault, Pause}

@@ -51,8 +51,8 @@ is_listed a (e ∷ es) m now h le = elim (cases_Bool (is_same_alarm a e.0)) [
       rw due (inl (is_this a e.0 y)))
   | inr n ↦
       (let more : In a (ringing now es) = is_listed a es m now (sym (ap (λ b. cond b (Some e.1) (moment_of a es)) n) ∙ h) le in
-      cond_so (λ (xs : List (Alarm × ℕ)). In a (map (λ x. x.0) xs)) (nat_le e.1 now) (e ∷ filter (λ x. nat_le x.1 now) es) (filter (λ x. nat_le x.1 now) es) (inr more)
-      more)
+      let come : List (Alarm × ℕ) = filter (λ x. nat_le x.1 now) es in
+      cond_so (λ (xs : List (Alarm × ℕ)). In a (map (λ x. x.0) xs)) (nat_le e.1 now) (e ∷ come) come (inr more) more)
 ]
 
 pub alarms_come_in_time_lem : AlarmsComeInTime
@@ -105,8 +105,8 @@ idle_is_unused_lem v l seat = (to, from)
 
     to : is_idle v l seat ≡ true → IsUnused v l seat
     to h =
-        let k = six (is_ready seat.seen.stage) (nat_le most v.now) (is_empty seat.seen.waits.waiting) (nat_lt 0 (length seat.seen.line)) (is_heard v.consumers l)
-        (is_held v.producers l) h in
+        let k = six (is_ready seat.seen.stage) (nat_le most v.now) (is_empty seat.seen.waits.waiting) (nat_lt 0 (length seat.seen.line))
+        (is_heard v.consumers l) (is_held v.producers l) h in
         (k.ready, is_long most v.now k.long, no_requests seat.seen.waits.waiting k.none, no_line seat.seen.line k.bare, k.unheard, k.unheld)
 
     from : IsUnused v l seat → is_idle v l seat ≡ true

@@ -46,7 +46,8 @@ module _ (o : Options) (who : Who) (version : Option (List ℕ)) where
   passed older other n turn new (Some t) h g same =
       (n, t.seen.link, t.seen.given, as_made_last_lem o older n t h, by (first_of t.seen.waiting) g ∙ same, inr (other, refl))
     where
-      by : (next : Option ℕ) → option_map {U = ℕ × Option (List ℕ)} (λ ticket. (ticket, t.seen.given.version)) next ≡ Some (turn, new) → t.seen.given.version ≡ new
+      by : (next : Option ℕ) → option_map {U = ℕ × Option (List ℕ)} (λ ticket. (ticket, t.seen.given.version)) next ≡ Some (turn, new) →
+          t.seen.given.version ≡ new
       by None e = absurd (none_some e)
       by (Some ticket) e = ap (λ (x : ℕ × Option (List ℕ)). x.1) (some_is e)
 

@@ -138,16 +138,16 @@ module _ (o : Options) (newer older : List Entry) (l : ℕ) (seat : Seat) (h : (
           ap (λ c. pause_of c end seat.address b.series) (chosen_same o older) ∙ ap (pause_of o.chosen end seat.address) runs ∙ none in
           let all : In n (failed_at end b.series b.waiting) =
           subst (λ s. In n (failed_at end s b.waiting)) (sym runs) (into_map (failed end starter) who b.waiting i) in
-          let over : In n (failed_by end (change_at (closed_by end v.now seat.seen)) (pause_for v.chosen (Ends end) (change_at (closed_by end v.now seat.seen)) seat.address b.series) b) =
-          subst (λ c. In n (failed_by end (change_at c) (pause_for v.chosen (Ends end) (change_at c) seat.address b.series) b)) (sym closes)
-          (subst (λ q. In n (failed_over end q b)) (sym p) all) in
           let own : In n waiting =
-          subst (λ row. In n (waiters_of (failed_on end) v.addresses (option_map (turned_by v.chosen v.addresses v.now l (Ends end)) row))) (sym h) over in
+          subst (λ row. In n (waiters_of (failed_on end) v.addresses (option_map (turned_by v.chosen v.addresses v.now l (Ends end)) row))) (sym h)
+          (subst (λ c. In n (failed_by end (change_at c) (pause_for v.chosen (Ends end) (change_at c) seat.address b.series) b)) (sym closes)
+          (subst (λ q. In n (failed_over end q b)) (sym p) all)) in
           done n (in_opens n _ (in_left n (ended_on end v.now (v.links.live l) ++ waiting) (lost_on v l end)
           (in_right n (ended_on end v.now (v.links.live l)) waiting own)))
 
 pub askers_are_told_lem : AskersAreTold
-askers_are_told_lem o newer older l x seat run rests acts h = by x (λ n i. all_is_done_lem o newer older (Then (Comes (ToLink l x))) (Told n) run rests acts (inr (inr (inl i))))
+askers_are_told_lem o newer older l x seat run rests acts h =
+    by x (λ n i. all_is_done_lem o newer older (Then (Comes (ToLink l x))) (Told n) run rests acts (inr (inr (inl i))))
   where
     by : (x : LinkAct) → Done o newer older l seat h x → Tells o l x seat newer older
     by Opens done = tt

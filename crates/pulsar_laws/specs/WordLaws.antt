@@ -198,7 +198,8 @@ pub record EndsAreSaid : Type 0 where
       × ((queued : ℕ) → fails_so (Overdue queued) false ≡ outcome.Canceled) × ((cause : Fault) → fails_so (Broken cause) false ≡ outcome.Canceled)
   pub stopped : (is_starter : Bool) → fails_so Stops is_starter ≡ outcome.Stopped
   pub closes : (now : ℕ) (s : Seen) →
-      (s.stage ≡ Ready → closed_by Lost now s ≡ Some Disconnected) × (is_ready s.stage ≡ false → is_over s.stage ≡ false → closed_by Lost now s ≡ Some (Io io.Other))
+      (s.stage ≡ Ready → closed_by Lost now s ≡ Some Disconnected)
+      × (is_ready s.stage ≡ false → is_over s.stage ≡ false → closed_by Lost now s ≡ Some (Io io.Other))
       × (closed_by Idles now s ≡ Some Disconnected) × (closed_by Stops now s ≡ Some Disconnected)
       × ((kind : IoKind) → closed_by (Unopened kind) now s ≡ Some (Io kind)) × ((cause : Fault) → closed_by (Broken cause) now s ≡ Some cause)
       × ((queued : ℕ) → closed_by (Overdue queued) now s ≡ (if due now s then Some (Io io.TimedOut) else None))

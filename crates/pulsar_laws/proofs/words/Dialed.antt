@@ -107,7 +107,8 @@ greeted_so (Some frame) v = record { setup = refl; timeout = refl; clock = refl 
 opening : (stage : Stage) (v : Seen) → Fixed v (opens_in stage v)
 opening Dialing v =
     let u : Seen = record v { stage = Handshaking } in
-    then v u (greets_with (frame_for (greeting v.setup)) u) (record { setup = refl; timeout = refl; clock = refl }) (greeted_so (frame_for (greeting v.setup)) u)
+    then v u (greets_with (frame_for (greeting v.setup)) u) (record { setup = refl; timeout = refl; clock = refl })
+    (greeted_so (frame_for (greeting v.setup)) u)
 opening Handshaking v = same v
 opening Ready v = same v
 opening Over v = same v

@@ -303,7 +303,7 @@ module _ (me : Who) where
   pub seekers_absent : (v : View) (a : Act) (u : ℕ) → NoFind a → Away (consumer.seekers_at (v.consumers.rows u)) →
       Away (consumer.seekers_at ((consumers_after v a).rows u))
   seekers_absent v a u idle h =
-      after_holds (λ row. Away (consumer.seekers_at row)) v u a (λ m j. joins_seeks v.links.live j.verdict.makes m j.makes)
+      after_holds (λ row. Away (consumer.seekers_at row)) v u a (λ m j. joins_seeks v.links.live v.consumers.next_key j.verdict.makes m j.makes)
       (λ d c m k. deed_seeks v a u d c idle m k) h
 
   -- ALL OF THAT

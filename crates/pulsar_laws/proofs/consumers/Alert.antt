@@ -8,7 +8,7 @@ use Rattle.pulsar_laws.proofs.PlanWords.{begins, fails, Gives, overrides, Plan, 
 use Rattle.pulsar_laws.proofs.RunWords.{agenda, Agenda, Answered, Begins, begun_same, chosen_same, consumers_after, EndsOnce, Entry, first, follows, follows_some, IsRun, left_with, member_on, notice, Options, setup_of, stays, stays_some, Then, told_some, view, View, ways_of}
 use Rattle.pulsar_laws.proofs.LinkWords.{answer_at, Exhausted, told_at, url_at, Words}
 use Rattle.pulsar_exchange.specs.declared.content.Subscribed.{Subscribed}
-use Rattle.pulsar_consumer.proofs.Histories.{raw_asks_for_nothing}
+use Rattle.pulsar_consumer.proofs.Granting.{raw_asks_for_nothing}
 use Rattle.pulsar_consumer.specs.Laws.{asked_since}
 use Rattle.pulsar_consumer.specs.Topic as reader
 use Rattle.pulsar_consumer.specs.Topic.{fresh, Live, Seen, Setup, link_of}

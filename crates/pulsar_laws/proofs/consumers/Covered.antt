@@ -150,7 +150,7 @@ module _ (once : EndsOnce) (o : Options) (log : List Entry) (n t l m p : ℕ) (r
   pub taken_then : (s : Setup) → made_with o t log ≡ Some s → asked_since s (done_to o t log) ≡ asked_since s (done_to o t x.older) + p
   taken_then s made =
       let c = consumers_alone_lem once o x.older t x.was_due.member before x.was_due.is_there in
-      let same : c.0 ≡ s = some_is (sym c.1 ∙ sym (ap (made_with t) x.is_behind) ∙ made) in
+      let same : c.0 ≡ s = some_is (sym c.1 ∙ sym (ap (made_with o t) x.is_behind) ∙ made) in
       let live : (seen s (done_to o t x.older)).engine.live ≡ Some x.was_due.live =
       ap (λ y. (seen y (done_to o t x.older)).engine.live) (sym same) ∙ ap (λ y. y.engine.live) (sym c.2) ∙ x.was_due.is_live in
       ap (asked_since s) done_then
@@ -161,7 +161,7 @@ module _ (once : EndsOnce) (o : Options) (log : List Entry) (n t l m p : ℕ) (r
   asked_covered k s made =
       let e : Every (Covered o t) (Then (Told told_so) ∷ took) = subst (Every (Covered o t)) x.is_behind k in
       let link : link_of x.was_due.member.seen ≡ Some l = ap (option_map (λ (y : Live). y.link)) x.was_due.is_live ∙ ap Some x.was_due.on in
-      let old = here (Covered o t) x.older e.1.1 x.was_due.member l s x.was_due.is_there link (sym (ap (made_with t) x.is_behind) ∙ made) in
+      let old = here (Covered o t) x.older e.1.1 x.was_due.member l s x.was_due.is_there link (sym (ap (made_with o t) x.is_behind) ∙ made) in
       let flows : permits_of (flows_since o t log) ≡ permits_of (flows_since o t x.older) = ap (λ y. permits_of (flows_since o t y)) x.is_behind in
       let taken = taken_then s made in
       omega (arith, old, flows, taken)

@@ -1,12 +1,13 @@
 -- Each consumer that was built has a key of its own.
 use Rattle.std.proofs.Common.{◌≡◌, ◌⊎◌, ◌∙◌, ◌<◌, ◌≤◌, sym, ap, subst, ℕ, suc, List, [], ◌∷◌, ◌++◌, refl, arith, Bool, true, false, ◌&&◌, cond, Option, Some, None, inl, inr}
-use Rattle.pulsar_laws.proofs.ActWords.{Act, Answers, Call, Comes, Consumer, Does, Heard, is_same, Makes, Producer, ticket_of, Who}
+use Rattle.pulsar_laws.proofs.ActWords.{Act, Answers, Call, Comes, Consumer, Does, Heard, is_same, lacks_tickets, Makes, Producer, shares, ticket_of, Verdict, Who}
 use Rattle.pulsar_laws.proofs.RunWords.{Begins, begun_same, consumers_after, EndsOnce, Entry, IsRun, may_call, Options, Then, view, View}
 use Rattle.pulsar_consumer.specs.Topic.{Setup, seen}
 use Rattle.pulsar_consumer.proofs.Checking.{setup_is, setup_of}
 use Rattle.pulsar_calls.specs.declared.act.Action.TheVariants.{TakeNumber}
 use Rattle.pulsar_calls.specs.declared.act.Makes.TheVariants as makes
 use Rattle.pulsar_calls.specs.declared.act.Part.TheVariants.{Calls}
+use Rattle.pulsar_calls.specs.declared.content.Joining.{Joining}
 use Rattle.pulsar_consumer_table.specs.Consumers.{Consumers, Member, keyed}
 use Rattle.pulsar_acts.specs.View.{consumers_listed, listed_as}
 use Rattle.pulsar_laws.proofs.Cases.{none_some, some_is}
@@ -96,7 +97,7 @@ module _ (o : Options) where
   are_keyed : (t : ℕ) (log : List Entry) (s : Setup) → made_with o t log ≡ Some s → IsKeyed (next (view o log)) s
   are_keyed t [] s how = absurd (none_some how)
   are_keyed t (Begins e ∷ log) s how = subst (λ n. IsKeyed n s) (sym (begun_next e log)) (are_keyed t log s how)
-  are_keyed t (Then (Answers who verdict) ∷ log) s how = by (is_same (Call t) who) how
+  are_keyed t (Then (Answers who verdict) ∷ log) s how = by (is_same (Call t) who) (are_keyed t log s) how
     where
       v : View
       v = view o log
@@ -111,9 +112,10 @@ module _ (o : Options) where
           let more : after ≡ suc (next v) = key_drawn v who verdict j is in
           inr (built, omega (arith, pos, key), omega (arith, more, key))
 
-      by : (b : Bool) → cond b (made_as (next v) verdict.makes) (made_with o t log) ≡ Some s → IsKeyed after s
-      by true e = new (made_new (next v) verdict.makes s e)
-      by false e = keyed_more (next v) after s (key_on v (Answers who verdict)) (are_keyed t log s e)
+      by : (b : Bool) → (made_with o t log ≡ Some s → IsKeyed (next v) s) → cond b (made_as (next v) verdict.makes) (made_with o t log) ≡ Some s →
+          IsKeyed after s
+      by true before e = new (made_new (next v) verdict.makes s e)
+      by false before e = keyed_more (next v) after s (key_on v (Answers who verdict)) (before e)
   are_keyed t (Then a ∷ log) s how = keyed_more (next (view o log)) (next (view o (Then a ∷ log))) s (key_on (view o log) a) (are_keyed t log s how)
 
   -- a new one has another than those before
@@ -133,19 +135,20 @@ module _ (o : Options) where
       s.key ≡ r.key → t ≡ u
   own t u [] s r how how2 one same = absurd (none_some how)
   own t u (Begins e ∷ log) s r how how2 one same = own t u log s r how how2 one same
-  own t u (Then (Answers who verdict) ∷ log) s r how how2 one same = by (is_same (Call t) who) (is_same (Call u) who) refl refl how how2
+  own t u (Then (Answers who verdict) ∷ log) s r how how2 one same =
+      by (is_same (Call t) who) (is_same (Call u) who) refl refl (λ e f. own t u log s r e f one same) how how2
     where
       n : ℕ
       n = next (view o log)
 
-      by : (b c : Bool) → is_same (Call t) who ≡ b → is_same (Call u) who ≡ c → cond b (made_as n verdict.makes) (made_with o t log) ≡ Some s →
-          cond c (made_as n verdict.makes) (made_with o u log) ≡ Some r → t ≡ u
-      by true true b c e f = let k : Call t ≡ Call u = same_who (Call t) who b ∙ sym (same_who (Call u) who c) in cc
-      by true false b c e f =
+      by : (b c : Bool) → is_same (Call t) who ≡ b → is_same (Call u) who ≡ c → (made_with o t log ≡ Some s → made_with o u log ≡ Some r → t ≡ u) →
+          cond b (made_as n verdict.makes) (made_with o t log) ≡ Some s → cond c (made_as n verdict.makes) (made_with o u log) ≡ Some r → t ≡ u
+      by true true b c before e f = let k : Call t ≡ Call u = same_who (Call t) who b ∙ sym (same_who (Call u) who c) in cc
+      by true false b c before e f =
           absurd (apart n verdict.makes s r (positive log) (made_new n verdict.makes s e) (are_keyed u log r f) one same)
-      by false true b c e f =
+      by false true b c before e f =
           absurd (apart n verdict.makes r s (positive log) (made_new n verdict.makes r f) (are_keyed t log s e) (swapped s.is_raw r.is_raw one) (sym same))
-      by false false b c e f = own t u log s r e f one same
+      by false false b c before e f = before e f
   own t u (Then a ∷ log) s r how how2 one same = own t u log s r how how2 one same
 
 pub keys_are_own_lem : EndsOnce → KeysAreOwn

@@ -264,7 +264,7 @@ module _ (o : Options) (log : List Entry) (t : ℕ) where
 pub made_plain : (o : Options) (t : ℕ) (log : List Entry) (s : Setup) → made_with o t log ≡ Some s → s.config.dead_letter_policy ≡ None
 made_plain o t [] s how = absurd (none_some how)
 made_plain o t (Begins e ∷ log) s how = made_plain o t log s how
-made_plain o t (Then (Answers who verdict) ∷ log) s how = by (is_same (Call t) who) how
+made_plain o t (Then (Answers who verdict) ∷ log) s how = by (is_same (Call t) who) (made_plain o t log s) how
   where
     made : (key : ℕ) (m : Makes) → made_as key m ≡ Some s → s.config.dead_letter_policy ≡ None
     made key makes.Nothing e = absurd (none_some e)
@@ -273,9 +273,10 @@ made_plain o t (Then (Answers who verdict) ∷ log) s how = by (is_same (Call t)
     made key (makes.RawConsumer l m) e = sym (ap (λ (x : Setup). x.config.dead_letter_policy) (some_is e))
     made key (makes.Producer b) e = absurd (none_some e)
 
-    by : (b : Bool) → cond b (made_as (view o log).consumers.next_key verdict.makes) (made_with o t log) ≡ Some s → s.config.dead_letter_policy ≡ None
-    by true e = made (view o log).consumers.next_key verdict.makes e
-    by false e = made_plain o t log s e
+    by : (b : Bool) → (made_with o t log ≡ Some s → s.config.dead_letter_policy ≡ None) →
+        cond b (made_as (view o log).consumers.next_key verdict.makes) (made_with o t log) ≡ Some s → s.config.dead_letter_policy ≡ None
+    by true before e = made (view o log).consumers.next_key verdict.makes e
+    by false before e = before e
 made_plain o t (Then a ∷ log) s how = made_plain o t log s how
 
 -- A CONSUMER IS WHAT WAS DONE TO IT

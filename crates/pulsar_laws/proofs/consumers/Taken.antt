@@ -158,7 +158,7 @@ module _ (once : EndsOnce) (o : Options) (log : List Entry) (n t l m p : ℕ) (r
         let link : link_of x.was_due.member.seen ≡ Some l = ap (option_map (λ (y : Live). y.link)) x.was_due.is_live ∙ ap Some x.was_due.on in
         let flows : permits_of (flows_since o t log) ≡ permits_of (flows_since o t x.older) = ap (λ y. permits_of (flows_since o t y)) x.is_behind in
         let taken = taken_then once o log n t l m p run.0 x s made in
-        elim (here (Settled o t) x.older e.1.1 x.was_due.member l s x.was_due.is_there link (sym (ap (made_with t) x.is_behind) ∙ made)) [
+        elim (here (Settled o t) x.older e.1.1 x.was_due.member l s x.was_due.is_there link (sym (ap (made_with o t) x.is_behind) ∙ made)) [
           | inl old ↦ omega (arith, old, flows, taken)
           | inr pending ↦ absurd (no_flow (pending_next o x.older t (Does (Consumer n t) (OfConsumer TakeFlow)) r.0 pending))
         ]

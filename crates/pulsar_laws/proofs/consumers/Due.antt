@@ -15,7 +15,7 @@ use Rattle.pulsar_exchange.specs.declared.content.Subscribed.{Subscribed}
 use Rattle.pulsar_consumer.specs.Frames.{failed, frame_in}
 use Rattle.pulsar_consumer.specs.Topic as reader
 use Rattle.pulsar_consumer.specs.Topic.{Act as Done, Lives, Hears, Loses, Fails, Ends as Over, Polls as Polled, Asks, Live, Seen, after, asked, behind, ends as reader_ends, first_due, first_in, is_due, is_ended, lives_on, loses, resubscribes}
-use Rattle.pulsar_incoming.specs.declared.polled.Ending.TheVariants.{Closed, LinkLost, NotSubscribed, TopicEnded}
+use Rattle.pulsar_incoming.specs.declared.polled.Ending.TheVariants.{Closed, NotSubscribed, TopicEnded}
 use Rattle.pulsar_calls.specs.Content as content
 use Rattle.pulsar_calls.specs.declared.act.Arrival.TheVariants as arrivals
 use Rattle.pulsar_calls.specs.declared.act.Outcome.TheVariants as outcome

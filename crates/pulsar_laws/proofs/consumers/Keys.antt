@@ -1,14 +1,14 @@
 -- Each consumer that was built has a key of its own.
-use Rattle.std.proofs.Common.{◌≡◌, ◌⊎◌, ◌∙◌, ◌<◌, ◌≤◌, sym, ap, subst, ℕ, suc, List, [], ◌∷◌, ◌++◌, refl, arith, Bool, true, false, ◌&&◌, cond, Option, Some, None, inl, inr}
+use Rattle.std.proofs.Common.{◌≡◌, ◌⊎◌, ◌∙◌, ◌<◌, ◌≤◌, sym, ap, subst, ℕ, suc, List, [], ◌∷◌, ◌++◌, refl, arith, Bool, true, false, ◌&&◌, cond, Some, inl, inr}
 use Rattle.pulsar_laws.proofs.ActWords.{Act, Answers, Call, Comes, Consumer, Does, Heard, is_same, lacks_tickets, Makes, Producer, shares, ticket_of, Verdict, Who}
-use Rattle.pulsar_laws.proofs.RunWords.{Begins, begun_same, consumers_after, EndsOnce, Entry, IsRun, may_call, Options, Then, view, View}
-use Rattle.pulsar_consumer.specs.Topic.{Setup, seen}
+use Rattle.pulsar_laws.proofs.RunWords.{Begins, begun_same, consumers_after, EndsOnce, Entry, may_call, Options, Then, view, View}
+use Rattle.pulsar_consumer.specs.Topic.{Setup}
 use Rattle.pulsar_consumer.proofs.Checking.{setup_is, setup_of}
 use Rattle.pulsar_calls.specs.declared.act.Action.TheVariants.{TakeNumber}
 use Rattle.pulsar_calls.specs.declared.act.Makes.TheVariants as makes
 use Rattle.pulsar_calls.specs.declared.act.Part.TheVariants.{Calls}
 use Rattle.pulsar_calls.specs.declared.content.Joining.{Joining}
-use Rattle.pulsar_consumer_table.specs.Consumers.{Consumers, Member, keyed}
+use Rattle.pulsar_consumer_table.specs.Consumers.{Consumers, keyed}
 use Rattle.pulsar_acts.specs.View.{consumers_listed, listed_as}
 use Rattle.pulsar_laws.proofs.Cases.{none_some, some_is}
 use Rattle.pulsar_laws.proofs.calls.Same.{same_who}

@@ -82,7 +82,8 @@ module _ (s : Setup) (h : List Act) where
   abbrev one : Seen
   one = seen s h
 
-  told_at : (key clock : ℕ) (e : Engine) → e.clock ≡ clock → one.engine.clock ≡ moment s h → (told key e one).engine.clock ≡ cond (s.key == key) clock (moment s h)
+  told_at : (key clock : ℕ) (e : Engine) → e.clock ≡ clock → one.engine.clock ≡ moment s h →
+      (told key e one).engine.clock ≡ cond (s.key == key) clock (moment s h)
   told_at key clock e at was = by (one.key == key) ∙ ap (λ k. cond (k == key) clock (moment s h)) (key_is s h)
     where
       by : (b : Bool) → (cond b (record one { engine = e }) one).engine.clock ≡ cond b clock (moment s h)

@@ -448,7 +448,9 @@ module _ (o : Options) (who : Who) (u : Outcome) (older : List Entry) where
         j,
         verdict.said,
         ap (λ x. Then (Answers w (record { makes = x; said = verdict.said }))) e,
-        k.who_is ∙ ap (λ n. Consumer n (ticket_of w)) (subscribed_number j.link url (record { seen = reader.fresh (setup_of v.consumers.next_key j); seekers = [] })),
+        k.who_is
+            ∙ ap (λ n. Consumer n (ticket_of w))
+            (subscribed_number j.link url (record { seen = reader.fresh (setup_of v.consumers.next_key j); seekers = [] })),
         k.due,
       )))
   built_caused w verdict makes.Nothing e h = absurd h

@@ -402,7 +402,8 @@ made_due_so v t who verdict n none is h =
     joined_by (Call u) j made e = elim (cases_Bool (t == u)) [
       | inl same ↦
           subst (λ x. In (due_to_plan n.seen.number t) (map Told (joins v (Answers (Call x) verdict)))) (eqb-true t u same)
-          (call_due v t verdict j n made (subst (λ x. row_made (Some (member_on v.links.live j.link (setup_of v.consumers.next_key j))) (Call x) t (v.consumers.rows t) ≡ Some n)
+          (call_due v t verdict j n made
+          (subst (λ x. row_made (Some (member_on v.links.live j.link (setup_of v.consumers.next_key j))) (Call x) t (v.consumers.rows t) ≡ Some n)
           (sym (eqb-true t u same)) e) h)
       | inr other ↦ old (rw other at e)
     ]

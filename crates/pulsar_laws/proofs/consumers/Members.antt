@@ -49,7 +49,8 @@ pub record Joins (v : View) (a : Act) (t : ℕ) (m : Member) : Type 0 where
 pub born_joins : (v : View) (a : Act) (t : ℕ) (m : Member) → member_born v t a ≡ Some m → Joins v a t m
 born_joins v (Answers who verdict) t m h = by (member_made v.links.live v.consumers.next_key verdict.makes) refl who h
   where
-    by : (r : Option Member) → member_made v.links.live v.consumers.next_key verdict.makes ≡ r → (who : Who) → member_of r who t ≡ Some m → Joins v (Answers who verdict) t m
+    by : (r : Option Member) → member_made v.links.live v.consumers.next_key verdict.makes ≡ r → (who : Who) → member_of r who t ≡ Some m →
+        Joins v (Answers who verdict) t m
     by None e who k = absurd cc
     by (Some n) e (Call u) k = elim (cases_Bool (t == u)) [
       | inl q ↦

@@ -299,7 +299,8 @@ link_row : (k : ℕ) (row : Option Seat) (l : ℕ) → first_link (subscription_
 link_row k None l h = absurd (none_some h)
 link_row k (Some seat) l h = some_is h
 
-made_link : (live : ℕ → Option Seat) (key : ℕ) (m : Makes) (s : Setup) (l : ℕ) → made_as key m ≡ Some s → making_does live m ≡ subscription_does l (url_at (live l)) →
+made_link : (live : ℕ → Option Seat) (key : ℕ) (m : Makes) (s : Setup) (l : ℕ) → made_as key m ≡ Some s →
+    making_does live m ≡ subscription_does l (url_at (live l)) →
     s.is_raw ≡ false → is_some (live l) ≡ true → (j : Joining) × (m ≡ makes.Consumer j) × (j.link ≡ l)
 made_link live key (makes.Consumer j) s l how did raw alive =
     (j, refl, link_row j.link (live j.link) l (ap first_link did ∙ row_link l (live l) alive))

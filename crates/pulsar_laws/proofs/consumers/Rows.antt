@@ -51,7 +51,9 @@ module _ (once : EndsOnce) (o : Options) where
       ∙ joins_here (Call t) it (v.consumers.rows t) t (same_self (Call t)) in (
         it,
         ap (λ y. (view o y).consumers.rows t) k.there ∙ rows,
-        subscribed_number k.joining.link (url_at (v.links.live k.joining.link)) (record { seen = fresh (setup_of v.consumers.next_key k.joining); seekers = [] }) ∙ k.number,
+        subscribed_number k.joining.link (url_at (v.links.live k.joining.link))
+            (record { seen = fresh (setup_of v.consumers.next_key k.joining); seekers = [] })
+            ∙ k.number,
       )
 
   pub numbered_run : (log : List Entry) (n t : ℕ) (p : Plan) → IsRun o log → (view o log).stand (Consumer n t) ≡ Some p → Numbered o n t log

@@ -6,7 +6,7 @@ use Rattle.pulsar_laws.proofs.ActWords.{Act, Call, Consumer, Does, Heard, Notice
 use Rattle.pulsar_laws.proofs.PlanWords.{Plan, Serving, told}
 use Rattle.pulsar_laws.proofs.RunWords.{at_once, Begins, begun_same, Entry, In, IsRun, notice, Options, Then, turn_notice, view}
 use Rattle.pulsar_messages.specs.Claims.{is_spent}
-use Rattle.pulsar_outgoing.specs.declared.multi_topic.Taker.{Taker as Waiter}
+use Rattle.pulsar_outgoing.specs.declared.multi_topic.Taker.{Taker}
 use Rattle.pulsar_outgoing.specs.declared.multi_topic.Taker.TheVariants as taker
 use Rattle.pulsar_producer.specs.Laws.{AreAbove, tickets}
 use Rattle.pulsar_producer.specs.Topic as topic
@@ -43,20 +43,20 @@ no_note_of w who x h = ap (λ b. cond (is_same w who && b) 1 0) h
     ∙ (elim (is_same w who) as (λ b. ◌≡◌ {A = ℕ} (cond (b && false) 1 0) 0) [ true ↦ refl | false ↦ refl ])
 
 -- of the one that takes it, be it a call or a topic producer
-record Taker (o : Options) (log : List Entry) (who : Who) (n : ℕ) : Type 0 where
+record IsTaker (o : Options) (log : List Entry) (who : Who) (n : ℕ) : Type 0 where
   calls : (u : ℕ) → is_same (Call u) who ≡ true → IsTaking o log u n × (taken_as who ≡ u)
   is_own : (u : ℕ) → IsTicket u → u ≡ taken_as who → is_same (Call u) who ≡ true
   producers : (m : ℕ) → is_same (Producer m) who ≡ true →
       (n ≡ m) × (taken_as who ≡ behind_all) × ((p : Plan) → (view o log).stand (Producer m) ≡ Some p → holds p ≡ None)
 
-taker : (o : Options) (log : List Entry) (who : Who) (n : ℕ) → Every (AllTurns o) log → IsRun o (Then (Does who (OfTopic n TakeTurn)) ∷ log) → Taker o log who n
-taker o log (Call t) n k run = record {
+is_taker : (o : Options) (log : List Entry) (who : Who) (n : ℕ) → Every (AllTurns o) log → IsRun o (Then (Does who (OfTopic n TakeTurn)) ∷ log) → IsTaker o log who n
+is_taker o log (Call t) n k run = record {
   calls = λ u s. (let e : u ≡ t = eqb-true u t (and_parts (u == t) (u == t) s).0 in (subst (λ y. IsTaking o log y n) (sym e) (taking o log t n k run), sym e));
   is_own = λ u x y. subst (λ z. is_same (Call z) (Call t) ≡ true) (sym y) (self_same t);
   producers = λ m s. absurd cc;
 }
-taker o log (Consumer j t) n k run = (let f : is_modest (OfTopic n TakeTurn) ≡ true = server_does o log j t (OfTopic n TakeTurn) run in absurd cc)
-taker o log (Producer j) n k run = record {
+is_taker o log (Consumer j t) n k run = (let f : is_modest (OfTopic n TakeTurn) ≡ true = server_does o log j t (OfTopic n TakeTurn) run in absurd cc)
+is_taker o log (Producer j) n k run = record {
   calls = λ u s. absurd cc;
   is_own = λ u x y. absurd (not_all u x y);
   producers = λ m s.
@@ -69,11 +69,11 @@ taker o log (Producer j) n k run = record {
     plain p q h e f = let g : Some p ≡ Some q = sym e ∙ f in let i : p ≡ q = cc in ap holds i ∙ h
 
 module _ (o : Options) (log : List Entry) (who : Who) (n : ℕ) (run : IsRun o (Then (Does who (OfTopic n TakeTurn)) ∷ log)) (k : AllTurns o log)
-    (x : Taker o log who n) where
+    (x : IsTaker o log who n) where
   abbrev ps : Producers
   ps = (view o log).producers
 
-  abbrev t : Waiter
+  abbrev t : Taker
   t = taker.Call (taken_as who)
 
   abbrev it : Act
@@ -256,7 +256,7 @@ module _ (o : Options) (log : List Entry) (who : Who) (n : ℕ) (run : IsRun o (
       }
 
     -- another has it
-    module _ (other : Waiter) (busy : row.seen.holder ≡ Some other) where
+    module _ (other : Taker) (busy : row.seen.holder ≡ Some other) where
       nothing_now : says_to who (turn_said (ps.topics n)) ≡ []
       nothing_now =
           ap (λ r. says_to who (turn_said r)) is
@@ -330,7 +330,7 @@ module _ (o : Options) (log : List Entry) (who : Who) (n : ℕ) (run : IsRun o (
         own = own_busy;
       }
 
-    row_turns : (h : Option Waiter) → row.seen.holder ≡ h → AllTurns o (Then it ∷ log)
+    row_turns : (h : Option Taker) → row.seen.holder ≡ h → AllTurns o (Then it ∷ log)
     row_turns None e = free_turns e
     row_turns (Some other) e = busy_turns other e
 
@@ -340,7 +340,7 @@ module _ (o : Options) (log : List Entry) (who : Who) (n : ℕ) (run : IsRun o (
 
 -- ONE PASSES ITS TURN ON
 
-above_not : (x : ℕ) (xs : List Waiter) → AreAbove x (tickets xs) → In (taker.Call x) xs → ⊥
+above_not : (x : ℕ) (xs : List Taker) → AreAbove x (tickets xs) → In (taker.Call x) xs → ⊥
 above_not x [] h i = i
 above_not x (taker.Call y ∷ xs) h (inl e) = let lt : x < y = h.0 in let q : x ≡ y = cc in absurd
     (let f : 1 ≤ 0 = omega (arith, lt, q) in (let g : ⊥ = omega (arith, f) in g))
@@ -349,7 +349,7 @@ above_not x (taker.Copy consumer key ∷ xs) h (inl e) = absurd cc
 above_not x (taker.Copy consumer key ∷ xs) h (inr i) = above_not x xs h i
 
 -- the first of those that wait is the lowest
-lowest : (o : Options) (log : List Entry) (n : ℕ) (row : Topic) (x : ℕ) (xs : List Waiter) → IsRun o log → (view o log).producers.topics n ≡ Some row →
+lowest : (o : Options) (log : List Entry) (n : ℕ) (row : Topic) (x : ℕ) (xs : List Taker) → IsRun o log → (view o log).producers.topics n ≡ Some row →
     row.seen.waiting ≡ taker.Call x ∷ xs → AreAbove x (tickets xs)
 lowest o log n row x xs run is w =
     let a = topics_alone_lem o log n row run is in
@@ -373,7 +373,7 @@ module _ (o : Options) (log : List Entry) (who : Who) (n : ℕ) (run : IsRun o (
   is_row : was.topics n ≡ Some row
   is_row = y.has.1
 
-  told_next : (r : Option (Waiter × Option (List ℕ))) → turn_passed (was.topics n) ≡ r → (w : Who) →
+  told_next : (r : Option (Taker × Option (List ℕ))) → turn_passed (was.topics n) ≡ r → (w : Who) →
       pending o log w + 0 + sum (turn_note w) (option_to_list (option_map (turn_notice n) r)) ≡ 0 + pending o (Then pass ∷ log) w
   told_next r e w =
       let p = pend_then o log w pass run in
@@ -415,7 +415,7 @@ module _ (o : Options) (log : List Entry) (who : Who) (n : ℕ) (run : IsRun o (
       let f : 1 ≤ pending o log who = subst (λ w. 1 ≤ pending o log w) it one in
       absurd (let g : ⊥ = omega (arith, z, f) in g)
 
-  in_rest : (u : Waiter) (ts : List Waiter) → In u (rest_of ts) → In u ts
+  in_rest : (u : Taker) (ts : List Taker) → In u (rest_of ts) → In u ts
   in_rest u [] h = h
   in_rest u (x ∷ xs) h = inr h
 
@@ -476,7 +476,7 @@ module _ (o : Options) (log : List Entry) (who : Who) (n : ℕ) (run : IsRun o (
         own_keeps m (pends_apart m f) (k.own.told m f));
   }
 
-  passed_as : (ts : List Waiter) → row.seen.waiting ≡ ts → turn_passed (was.topics n) ≡ option_map (λ next. (next, row.seen.given.version)) (first_of ts)
+  passed_as : (ts : List Taker) → row.seen.waiting ≡ ts → turn_passed (was.topics n) ≡ option_map (λ next. (next, row.seen.given.version)) (first_of ts)
   passed_as ts e = ap turn_passed is_row ∙ ap (λ z. option_map (λ next. (next, row.seen.given.version)) (first_of z)) e
 
   -- nobody waits
@@ -489,7 +489,7 @@ module _ (o : Options) (log : List Entry) (who : Who) (n : ℕ) (run : IsRun o (
   }
 
   -- a copy has it now: neither a call nor a topic producer is told of that
-  module _ (consumer key : ℕ) (xs : List Waiter) (e : row.seen.waiting ≡ taker.Copy consumer key ∷ xs) where
+  module _ (consumer key : ℕ) (xs : List Taker) (e : row.seen.waiting ≡ taker.Copy consumer key ∷ xs) where
     abbrev copy_note : Notice
     copy_note = turn_notice n (taker.Copy consumer key, row.seen.given.version)
 
@@ -509,7 +509,7 @@ module _ (o : Options) (log : List Entry) (who : Who) (n : ℕ) (run : IsRun o (
     }
 
   -- the first of those that wait has it now, by its ticket
-  module _ (x : ℕ) (xs : List Waiter) (e : row.seen.waiting ≡ taker.Call x ∷ xs) where
+  module _ (x : ℕ) (xs : List Taker) (e : row.seen.waiting ≡ taker.Call x ∷ xs) where
     abbrev note : Notice
     note = turn_notice n (taker.Call x, row.seen.given.version)
 
@@ -645,7 +645,7 @@ module _ (o : Options) (log : List Entry) (who : Who) (n : ℕ) (run : IsRun o (
     next_turns : AllTurns o (Then pass ∷ log)
     next_turns = elim (cases_Bool (is_spent x)) [ inl s ↦ last_turns s | inr s ↦ call_turns s ]
 
-  pass_turns : (ts : List Waiter) → row.seen.waiting ≡ ts → AllTurns o (Then pass ∷ log)
+  pass_turns : (ts : List Taker) → row.seen.waiting ≡ ts → AllTurns o (Then pass ∷ log)
   pass_turns [] e = none_waits e
   pass_turns (taker.Call x ∷ xs) e = next_turns x xs e
   pass_turns (taker.Copy consumer key ∷ xs) e = copy_turns consumer key xs e
@@ -679,7 +679,7 @@ then_turns : (o : Options) (log : List Entry) (a : Act) → IsRun o (Then a ∷ 
 then_turns o log (Told n) run k = told_turns o log n run (here (AllTurns o) log k)
 then_turns o log (Starts who p) run k = starts_turns o log who p run (here (AllTurns o) log k)
 then_turns o log (Does who (OfTopic n TakeTurn)) run k =
-    take_turns o log who n run (here (AllTurns o) log k) (taker o log who n k run) ((view o log).producers.topics n) refl
+    take_turns o log who n run (here (AllTurns o) log k) (is_taker o log who n k run) ((view o log).producers.topics n) refl
 then_turns o log (Does who (OfTopic n PassTurn)) run k =
     let y = passing o log who n k run in pass_turns o log who n run (here (AllTurns o) log k) y y.has.0.seen.waiting refl
 then_turns o log (Does who a) run k = left_turns o log (Does who a) run refl refl (λ w. refl) (here (AllTurns o) log k)
@@ -706,7 +706,7 @@ turns_run o (Then a ∷ log) run = let k = turns_run o log run.0 in (then_turns 
 
 -- THE LAWS
 
-behind : (o : Options) (log : List Entry) (n : ℕ) (row : Topic) (next : Waiter) (left : List Waiter) → IsRun o log →
+behind : (o : Options) (log : List Entry) (n : ℕ) (row : Topic) (next : Taker) (left : List Taker) → IsRun o log →
     (view o log).producers.topics n ≡ Some row → row.seen.waiting ≡ next ∷ left → (ticket : ℕ) × (next ≡ taker.Call ticket) → AreBehind next left
 behind o log n row (taker.Call t) left run is e k = lowest o log n row t left run is e
 behind o log n row (taker.Copy consumer key) left run is e k = absurd (let no : taker.Copy consumer key ≡ taker.Call k.0 = k.1 in cc)

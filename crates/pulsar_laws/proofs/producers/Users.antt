@@ -1,5 +1,5 @@
 -- Tickets at a topic producer: whoever waits there, or is told what becomes of a batch, took a turn there, stored a message or flushed it.
-use Rattle.std.proofs.Common.{◌≡◌, inl, inr, sym, subst, ℕ, ◌+◌, List, [], ◌∷◌, refl, map, Bool, true, false, Option, Some, None}
+use Rattle.std.proofs.Common.{◌≡◌, inl, inr, sym, ap, subst, ℕ, ◌+◌, List, [], ◌∷◌, refl, map, Bool, true, false, Option, Some, None}
 use Rattle.pulsar_laws.proofs.ActWords.{Act, Action, Call, Consumer, Does, Flush, Notice, OfTopic, Outcome, Procedure, Producer, Store, TakeBatch, TakeTurn, TellAll, Told, Who, turn_of}
 use Rattle.pulsar_laws.proofs.PlanWords.{action_of, Batches, Batching, BuildingProducer as Build, Deed, Errand, Fate, Member, News, news_of, ProducerOrder, Plan, Sending as Send, told_to, Ways}
 use Rattle.pulsar_laws.proofs.RunWords.{Begins, Each, Entry, In, IsRun, notice, Options, rules, Then, View, view}

@@ -29,7 +29,8 @@ module _ {Z : Type 0} where
       ap (λ b. cond b (Some e.1) (lookup (at_text t) es)) (at_is t e.0)
       ∙ ap (λ p. cond (bytes_eq t (string_bytes e.0)) (Some e.1) p) (found_is t es)
 
-  removed_if : (b : Bool) (e : String Z × producer.Seen) (es more : Kept Z) → map named (cond b es (e ∷ more)) ≡ cond b (map named es) (named e ∷ map named more)
+  removed_if : (b : Bool) (e : String Z × producer.Seen) (es more : Kept Z) →
+      map named (cond b es (e ∷ more)) ≡ cond b (map named es) (named e ∷ map named more)
   removed_if true e es more = refl
   removed_if false e es more = refl
 
@@ -52,7 +53,8 @@ module _ {Z : Type 0} where
   put_is k v [] = refl
   put_is k v (e ∷ es) =
       put_by k v (slice_cmp nat_cmp (string_bytes k) (string_bytes e.0)) e es _
-      ∙ ap (λ more. match_ordering (slice_cmp nat_cmp (string_bytes k) (string_bytes e.0)) ((string_bytes k, v) ∷ named e ∷ map named es) ((string_bytes e.0, v) ∷ map named es) (named e ∷ more)) (put_is k v es)
+      ∙ ap (λ more. match_ordering (slice_cmp nat_cmp (string_bytes k) (string_bytes e.0)) ((string_bytes k, v) ∷ named e ∷ map named es)
+          ((string_bytes e.0, v) ∷ map named es) (named e ∷ more)) (put_is k v es)
 
   -- the producer that is found has routed a message
   pub routed_is : (t : List ℕ) (m : ProducerMessageValues) (w p : producer.Seen) (es : Kept Z) → lookup (at_text t) es ≡ Some p → w ≡ producer.after m p

@@ -33,12 +33,14 @@ passing : (w : Ways) (given : Result Dispatch Failure) (s : MultiSending) → se
 passing w given s is =
     let same : s ≡ send.Passing given = cc in (given, same, λ x. ap (λ y. multi_send_told w y x) same)
 
-builds_pass : (w : Ways) (o : ProducerOrder) (m : ProducerMessageValues) (b : Builds) (s : MultiSending) → send_builds o m b ≡ Stays s (Asks PassTurn) → AtItsEnd w s
+builds_pass : (w : Ways) (o : ProducerOrder) (m : ProducerMessageValues) (b : Builds) (s : MultiSending) → send_builds o m b ≡ Stays s (Asks PassTurn) →
+    AtItsEnd w s
 builds_pass w o m (Stays b deed) s is = absurd cc
 builds_pass w o m (Gives (Ok parts)) s is = absurd cc
 builds_pass w o m (Gives (Err f)) s is = passing w (Err f) s is
 
-waiting_passes : (w : Ways) (t : List ℕ) (m : ProducerMessageValues) (n : MultiNews) (s : MultiSending) → in_waiting t m n ≡ Stays s (Asks PassTurn) → AtItsEnd w s
+waiting_passes : (w : Ways) (t : List ℕ) (m : ProducerMessageValues) (n : MultiNews) (s : MultiSending) → in_waiting t m n ≡ Stays s (Asks PassTurn) →
+    AtItsEnd w s
 waiting_passes w t m (Said HasTurn) s is = absurd cc
 waiting_passes w t m (Said (Handed d)) s is = absurd cc
 waiting_passes w t m (Said (Absent x)) s is = absurd cc
@@ -54,11 +56,13 @@ handing_passes w (Said (Removed ns)) s is = passing w (Err (multi_failure (Said 
 handing_passes w (Said Done) s is = passing w (Err (multi_failure (Said Done))) s is
 handing_passes w (Told n) s is = passing w (Err (multi_failure (Told n))) s is
 
-building_passes : (w : Ways) (o : ProducerOrder) (m : ProducerMessageValues) (b : BuildingProducer) (n : MultiNews) (s : MultiSending) → in_building w o m b n ≡ Stays s (Asks PassTurn) → AtItsEnd w s
+building_passes : (w : Ways) (o : ProducerOrder) (m : ProducerMessageValues) (b : BuildingProducer) (n : MultiNews) (s : MultiSending) →
+    in_building w o m b n ≡ Stays s (Asks PassTurn) → AtItsEnd w s
 building_passes w o m b (Told n) s is = builds_pass w o m (build_told w o b n) s is
 building_passes w o m b (Said x) s is = absurd cc
 
-joining_passes : (w : Ways) (t : List ℕ) (m : ProducerMessageValues) (n : MultiNews) (s : MultiSending) → in_joining t m n ≡ Stays s (Asks PassTurn) → AtItsEnd w s
+joining_passes : (w : Ways) (t : List ℕ) (m : ProducerMessageValues) (n : MultiNews) (s : MultiSending) → in_joining t m n ≡ Stays s (Asks PassTurn) →
+    AtItsEnd w s
 joining_passes w t m (Said HasTurn) s is = passing w (Err (multi_failure (Said HasTurn))) s is
 joining_passes w t m (Said (Handed d)) s is = passing w (Err (multi_failure (Said (Handed d)))) s is
 joining_passes w t m (Said (Absent x)) s is = passing w (Err (multi_failure (Said (Absent x)))) s is
@@ -80,7 +84,8 @@ builds_stays o m (Stays b deed) given is = cc
 builds_stays o m (Gives (Ok parts)) given is = cc
 builds_stays o m (Gives (Err f)) given is = cc
 
-waiting_ends : (t : List ℕ) (m : ProducerMessageValues) (n : MultiNews) (given : Result Dispatch Failure) → in_waiting t m n ≡ Gives given → given ≡ Err (multi_failure n)
+waiting_ends : (t : List ℕ) (m : ProducerMessageValues) (n : MultiNews) (given : Result Dispatch Failure) → in_waiting t m n ≡ Gives given →
+    given ≡ Err (multi_failure n)
 waiting_ends t m (Said HasTurn) given is = absurd cc
 waiting_ends t m (Said (Handed d)) given is = cc
 waiting_ends t m (Said (Absent x)) given is = cc
@@ -96,7 +101,8 @@ handing_stays w (Said (Removed ns)) given is = cc
 handing_stays w (Said Done) given is = cc
 handing_stays w (Told n) given is = cc
 
-building_stays : (w : Ways) (o : ProducerOrder) (m : ProducerMessageValues) (b : BuildingProducer) (n : MultiNews) (given : Result Dispatch Failure) → in_building w o m b n ≡ Gives given → ⊥
+building_stays : (w : Ways) (o : ProducerOrder) (m : ProducerMessageValues) (b : BuildingProducer) (n : MultiNews) (given : Result Dispatch Failure) →
+    in_building w o m b n ≡ Gives given → ⊥
 building_stays w o m b (Told n) given is = builds_stays o m (build_told w o b n) given is
 building_stays w o m b (Said x) given is = cc
 
@@ -117,7 +123,8 @@ send_ends_behind_its_turn w (send.Passing r) n given is = inl (let same : r ≡ 
 
 -- A SEND THAT BUILDS
 
-pass_means_ended : (o : ProducerOrder) (m : ProducerMessageValues) (b : Builds) (s : MultiSending) → send_builds o m b ≡ Stays s (Asks PassTurn) → has_ended b ≡ true
+pass_means_ended : (o : ProducerOrder) (m : ProducerMessageValues) (b : Builds) (s : MultiSending) → send_builds o m b ≡ Stays s (Asks PassTurn) →
+    has_ended b ≡ true
 pass_means_ended o m (Stays b deed) s is = absurd cc
 pass_means_ended o m (Gives r) s is = refl
 

@@ -30,7 +30,8 @@ behind_put : (t u : List ℕ) (p : producer.Seen) (es : Topics) → cmp t u ≡ 
 behind_put t u p [] lt all = (lt, tt)
 behind_put t u p (e ∷ es) lt all = by (cmp u e.0) (behind_put t u p es lt all.1)
   where
-    by : (r : Ordering) → AreBehind t (topics_of (joined u p es)) → AreBehind t (topics_of (match_ordering r ((u, p) ∷ e ∷ es) ((e.0, p) ∷ es) (e ∷ joined u p es)))
+    by : (r : Ordering) → AreBehind t (topics_of (joined u p es)) →
+        AreBehind t (topics_of (match_ordering r ((u, p) ∷ e ∷ es) ((e.0, p) ∷ es) (e ∷ joined u p es)))
     by Less more = (lt, all)
     by Equal more = all
     by Greater more = (all.0, more)
@@ -39,7 +40,8 @@ ascend_put : (t : List ℕ) (p : producer.Seen) (es : Topics) → Ascend (topics
 ascend_put t p [] all = (tt, tt)
 ascend_put t p (e ∷ es) all = by (cmp t e.0) refl (ascend_put t p es all.1)
   where
-    by : (r : Ordering) → cmp t e.0 ≡ r → Ascend (topics_of (joined t p es)) → Ascend (topics_of (match_ordering r ((t, p) ∷ e ∷ es) ((e.0, p) ∷ es) (e ∷ joined t p es)))
+    by : (r : Ordering) → cmp t e.0 ≡ r → Ascend (topics_of (joined t p es)) →
+        Ascend (topics_of (match_ordering r ((t, p) ∷ e ∷ es) ((e.0, p) ∷ es) (e ∷ joined t p es)))
     by Less is more = ((is, behind_more t e.0 (topics_of es) is all.0), all)
     by Equal is more = all
     by Greater is more = (behind_put e.0 t p es (nat_list_cmp_total.antisymm e.0 t ∙ ap ordering_reverse is) all.0, more)
@@ -114,7 +116,8 @@ there_put t u p (e ∷ es) = by (cmp u e.0) refl (there_put t u p es)
     first true q = refl
     first false q = refl
 
-    later : (b c : Bool) (q r : Option producer.Seen) → is_some q ≡ cond c true (is_some r) → is_some (cond b (Some e.1) q) ≡ cond c true (is_some (cond b (Some e.1) r))
+    later : (b c : Bool) (q r : Option producer.Seen) → is_some q ≡ cond c true (is_some r) →
+        is_some (cond b (Some e.1) q) ≡ cond c true (is_some (cond b (Some e.1) r))
     later true true q r more = refl
     later true false q r more = refl
     later false true q r more = more
@@ -143,7 +146,8 @@ there_removed t u (e ∷ es) all = by (bytes_eq u e.0) refl (bytes_eq t u) refl 
     skips true q r is = absurd cc
     skips false q r is = refl
 
-    passes : (b c : Bool) (q r : Option producer.Seen) → is_some q ≡ cond c false (is_some r) → (c ≡ true → b ≡ false) → is_some (cond b (Some e.1) q) ≡ cond c false (is_some (cond b (Some e.1) r))
+    passes : (b c : Bool) (q r : Option producer.Seen) → is_some q ≡ cond c false (is_some r) → (c ≡ true → b ≡ false) →
+        is_some (cond b (Some e.1) q) ≡ cond c false (is_some (cond b (Some e.1) r))
     passes true true q r more apart = absurd (let f = apart refl in cc)
     passes true false q r more apart = refl
     passes false true q r more apart = more
@@ -173,7 +177,8 @@ there_routed t u m (e ∷ es) = by (bytes_eq u e.0) (there_routed t u m es)
 
 pub there_until_removed : ThereUntilRemoved
 there_until_removed name o [] t = refl
-there_until_removed name o (Takes u ∷ h) t = ap (λ es. is_some (found t es)) (takes_topics (seen name o h).holder u (seen name o h)) ∙ there_until_removed name o h t
+there_until_removed name o (Takes u ∷ h) t =
+    ap (λ es. is_some (found t es)) (takes_topics (seen name o h).holder u (seen name o h)) ∙ there_until_removed name o h t
 there_until_removed name o (Passes ∷ h) t = there_until_removed name o h t
 there_until_removed name o (Hands u m ∷ h) t = there_routed t u m (seen name o h).topics ∙ there_until_removed name o h t
 there_until_removed name o (Joins u p ∷ h) t =

@@ -35,7 +35,8 @@ multi_nobody_waits name o (act ∷ h) free = free_after act (seen name o h) (mul
 abbrev line : Act → Seen → List Taker
 line act v = option_to_list (gives_turn act v) ++ (after act v).waiting
 
-line_takes : (o : Option Taker) (t : Taker) (v : Seen) → v.holder ≡ o → (is_free v ≡ true → v.waiting ≡ []) → option_to_list (turn_if o t) ++ (takes_in o t v).waiting ≡ v.waiting ++ t ∷ []
+line_takes : (o : Option Taker) (t : Taker) (v : Seen) → v.holder ≡ o → (is_free v ≡ true → v.waiting ≡ []) →
+    option_to_list (turn_if o t) ++ (takes_in o t v).waiting ≡ v.waiting ++ t ∷ []
 line_takes None t v e all = let nobody = all (ap is_none e) in ap (λ ts. t ∷ ts) nobody ∙ sym (ap (λ ts. ts ++ t ∷ []) nobody)
 line_takes (Some other) t v e all = refl
 
@@ -57,7 +58,8 @@ first_come_first_served name o (Takes t ∷ h) =
     ∙ ap (λ ts. ts ++ t ∷ []) (first_come_first_served name o h)
 first_come_first_served name o (Passes ∷ h) =
     let v = seen name o h in
-    goes_on (served name o h) (option_to_list (first_of v.waiting)) v.waiting (rest_of v.waiting) (takers h) (line_passes v.waiting) (first_come_first_served name o h)
+    goes_on (served name o h) (option_to_list (first_of v.waiting)) v.waiting (rest_of v.waiting) (takers h) (line_passes v.waiting)
+        (first_come_first_served name o h)
 first_come_first_served name o (Hands topic m ∷ h) =
     let v = seen name o h in goes_on (served name o h) [] v.waiting v.waiting (takers h) refl (first_come_first_served name o h)
 first_come_first_served name o (Joins topic p ∷ h) =

@@ -4,9 +4,7 @@ use pulsar_addresses::content::Text;
 use pulsar_messages::ProducerOptions;
 use pulsar_messages::serialize::message_from_text;
 use pulsar_outgoing::content::Settings;
-use pulsar_outgoing::multi_topic::{
-    Dispatch, Handing, MultiAsk, MultiSaid, Taker, UserMessage,
-};
+use pulsar_outgoing::multi_topic::{Dispatch, Handing, MultiAsk, MultiSaid, Taker, UserMessage};
 use pulsar_producer::line::Line;
 use pulsar_producer::multi_topic::closing;
 use pulsar_producer::multi_topic::deed::{MultiDeed, MultiNews};

@@ -67,7 +67,8 @@ pub record Turns (o : Options) (log : List Entry) : Type 0 where
   pub one : (t n m : ℕ) (row other : Topic) → IsTicket t → (view o log).producers.topics n ≡ Some row → (view o log).producers.topics m ≡ Some other →
       In (taker.Call t) row.seen.waiting →
       In (taker.Call t) other.seen.waiting → n ≡ m
-  pub begun : (t n : ℕ) (row : Topic) → IsTicket t → (view o log).producers.topics n ≡ Some row → In (taker.Call t) row.seen.waiting → 1 ≤ counted (start_of t) log
+  pub begun : (t n : ℕ) (row : Topic) → IsTicket t → (view o log).producers.topics n ≡ Some row → In (taker.Call t) row.seen.waiting →
+      1 ≤ counted (start_of t) log
   pub few : (t : ℕ) → pending o log (Call t) ≤ 1
   pub told : (t : ℕ) → 1 ≤ pending o log (Call t) → IsPending o log t
 

@@ -40,7 +40,8 @@ pub record Step (o : Options) (log : List Entry) (a : Act) (Keeper : ℕ → Typ
   pub keeps : (t n : ℕ) → Keeper t → HasTurn (view o log) (Call t) n → HasTurn (view o (Then a ∷ log)) (Call t) n
   pub holder : (t n : ℕ) (p : Plan) → (view o log).stand (Call t) ≡ Some p → holds p ≡ Some n → Keeper t
   pub pender : (t : ℕ) → 1 ≤ pending o log (Call t) → Keeper t
-  pub back : (t n : ℕ) (row : Topic) → IsTicket t → (view o (Then a ∷ log)).producers.topics n ≡ Some row → In (taker.Call t) row.seen.waiting → Waits o log t n ⊎ New t n
+  pub back : (t n : ℕ) (row : Topic) → IsTicket t → (view o (Then a ∷ log)).producers.topics n ≡ Some row → In (taker.Call t) row.seen.waiting →
+      Waits o log t n ⊎ New t n
   pub new_at : (t n : ℕ) → New t n → IsAt n ((view o log).stand (Call t))
   pub new_apart : (t n m : ℕ) → New t n → Waits o log t m → ⊥
   pub new_one : (t n m : ℕ) → New t n → New t m → n ≡ m
@@ -212,7 +213,8 @@ module _ (o : Options) (log : List Entry) (n : Notice) (run : IsRun o (Then (Tol
   held_told t m q None e s h d = absurd (none_some (sym (it_stands (Call t) None e s) ∙ h))
   held_told t m q (Some p) e s h d = held_stays t m p q (told p n.outcome) refl e s (sym (it_stands (Call t) (Some p) e s) ∙ h) d
 
-  waits_told : (t m : ℕ) (row : Topic) → IsTicket t → (view o log).producers.topics m ≡ Some row → In (taker.Call t) row.seen.waiting → is_same (Call t) n.who ≡ true →
+  waits_told : (t m : ℕ) (row : Topic) → IsTicket t → (view o log).producers.topics m ≡ Some row → In (taker.Call t) row.seen.waiting →
+      is_same (Call t) n.who ≡ true →
       IsAt m (after_told (Call t))
   waits_told t m row x e i same = elim (cases_Bool (is_turn_told n.outcome)) [
     | inl f ↦ absurd ((k.calls.told t (pends_one (Call t) same f)).apart m row e i)

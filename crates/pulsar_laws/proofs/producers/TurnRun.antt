@@ -49,7 +49,8 @@ record IsTaker (o : Options) (log : List Entry) (who : Who) (n : ℕ) : Type 0 w
   producers : (m : ℕ) → is_same (Producer m) who ≡ true →
       (n ≡ m) × (taken_as who ≡ behind_all) × ((p : Plan) → (view o log).stand (Producer m) ≡ Some p → holds p ≡ None)
 
-is_taker : (o : Options) (log : List Entry) (who : Who) (n : ℕ) → Every (AllTurns o) log → IsRun o (Then (Does who (OfTopic n TakeTurn)) ∷ log) → IsTaker o log who n
+is_taker : (o : Options) (log : List Entry) (who : Who) (n : ℕ) → Every (AllTurns o) log → IsRun o (Then (Does who (OfTopic n TakeTurn)) ∷ log) →
+    IsTaker o log who n
 is_taker o log (Call t) n k run = record {
   calls = λ u s. (let e : u ≡ t = eqb-true u t (and_parts (u == t) (u == t) s).0 in (subst (λ y. IsTaking o log y n) (sym e) (taking o log t n k run), sym e));
   is_own = λ u x y. subst (λ z. is_same (Call z) (Call t) ≡ true) (sym y) (self_same t);

@@ -1,21 +1,17 @@
 -- A send, and a close, by a producer of many topics passes its turn once, and ends behind that.
-use Rattle.std.proofs.Common.{◌≡◌, ◌⊎◌, inl, inr, ◌∙◌, sym, ap, refl, ℕ, Bool, true, false, List, [], ◌∷◌, Option, Some, None, Result, Ok, Err}
+use Rattle.std.proofs.Common.{◌≡◌, inl, inr, ap, refl, ℕ, true, List, Result, Ok, Err}
 use Rattle.pulsar_messages.specs.Content.{ProducerMessageValues}
 use Rattle.pulsar_wire.specs.Failures.{Failure}
 use Rattle.pulsar_searches.specs.declared.turn.Ways.{Ways}
 use Rattle.pulsar_producer.specs.MultiLaws.{CloseEndsBehindItsTurn, ClosePassesAtItsEnd, FailedBuildFailsItsSend, SendEndsBehindItsTurn, SendKeepsItsTurnWhileItBuilds, SendPassesAtItsEnd, has_ended}
-use Rattle.pulsar_producer.specs.MultiPlans.{Closes, Dispatches, close_passes, close_told, in_building, in_close_waiting, in_handing, in_joining, in_removing, in_waiting, multi_failure, multi_send_told, send_builds, send_hands, send_joins, send_passes}
+use Rattle.pulsar_producer.specs.MultiPlans.{close_passes, close_told, in_building, in_close_waiting, in_handing, in_joining, in_removing, in_waiting, multi_failure, multi_send_told, send_builds, send_passes}
 use Rattle.pulsar_producer.specs.Plans.{Builds, build_begins, build_told}
 use Rattle.pulsar_producer.specs.declared.building.BuildingProducer.{BuildingProducer}
 use Rattle.pulsar_outgoing.specs.declared.orders.ProducerOrder.{ProducerOrder}
-use Rattle.pulsar_outgoing.specs.declared.content.Built.{Built}
-use Rattle.pulsar_producer.specs.declared.deed.Deed.{Deed}
-use Rattle.pulsar_producer.specs.News.{News}
 use Rattle.pulsar_searches.specs.declared.transition.Transition.TheVariants.{Stays, Gives}
 use Rattle.pulsar_producer.specs.declared.multi_topic.closing.MultiClosing.{MultiClosing}
 use Rattle.pulsar_producer.specs.declared.multi_topic.closing.MultiClosing.TheVariants as close
 use Rattle.pulsar_outgoing.specs.declared.multi_topic.Dispatch.{Dispatch}
-use Rattle.pulsar_outgoing.specs.declared.multi_topic.MultiSaid.{MultiSaid}
 use Rattle.pulsar_outgoing.specs.declared.multi_topic.MultiSaid.TheVariants.{HasTurn, Handed, Absent, Removed, Done}
 use Rattle.pulsar_outgoing.specs.declared.multi_topic.MultiAsk.TheVariants.{PassTurn}
 use Rattle.pulsar_producer.specs.declared.multi_topic.deed.MultiDeed.TheVariants.{Asks}

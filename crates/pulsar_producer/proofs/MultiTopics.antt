@@ -1,15 +1,13 @@
 -- The topics of a producer of many topics: their order, and what a change leaves.
 use Rattle.std.proofs.Common.{◌≡◌, ◌∙◌, sym, ap, refl, subst, ℕ, bytes_eq, Bool, true, false, cond, List, [], ◌∷◌, map, Option, Some, None}
 use Rattle.std.proofs.lemmas.Map.Text.{is_eq-slice_cmp}
-use Rattle.std.specs.BTreeMap.{insert_entry}
-use Rattle.std.specs.Cmp.{IsTotalOrder}
-use Rattle.std.specs.Cmp.Lexicographic.{nat_list_cmp_total, nat_list_eq_equiv, bytes_decides, slice_cmp}
+use Rattle.std.specs.Cmp.Lexicographic.{nat_list_cmp_total, bytes_decides, slice_cmp}
 use Rattle.std.specs.Option.{is_some}
 use Rattle.std.specs.Ordering.{is_eq, match_ordering, nat_cmp, ordering_reverse}
 use Rattle.std.specs.declared.cmp.Ordering.{Ordering}
 use Rattle.std.specs.declared.cmp.Ordering.TheVariants.{Less, Equal, Greater}
-use Rattle.pulsar_messages.specs.Content.{ProducerMessageValues, ProducerOptionsValues}
-use Rattle.pulsar_producer.specs.MultiLaws.{AreBehind, Ascend, ThereUntilRemoved, TopicsAscend, was_joined}
+use Rattle.pulsar_messages.specs.Content.{ProducerMessageValues}
+use Rattle.pulsar_producer.specs.MultiLaws.{AreBehind, Ascend, ThereUntilRemoved, TopicsAscend}
 use Rattle.pulsar_producer.specs.MultiTopic.{Act, Takes, Passes, Hands, Joins, Removes, Seen, Topics, after, found, joined, names, removed, routed, seen, takes_in}
 use Rattle.pulsar_producer.specs.Producer as producer
 use Rattle.pulsar_outgoing.specs.declared.multi_topic.Taker.{Taker}

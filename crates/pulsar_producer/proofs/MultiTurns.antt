@@ -1,5 +1,5 @@
 -- Turns at a producer of many topics.
-use Rattle.std.proofs.Common.{◌≡◌, ◌∙◌, sym, ap, refl, ℕ, ◌&&◌, Bool, true, false, List, [], ◌∷◌, ◌++◌, Option, Some, None, append_assoc, append-nil}
+use Rattle.std.proofs.Common.{◌≡◌, ◌∙◌, sym, ap, refl, ℕ, ◌&&◌, Bool, true, false, List, [], ◌∷◌, ◌++◌, Option, Some, None, append_assoc}
 use Rattle.std.specs.List.{list_all}
 use Rattle.std.specs.Option.{is_none, option_to_list}
 use Rattle.pulsar_messages.specs.Content.{ProducerOptionsValues}

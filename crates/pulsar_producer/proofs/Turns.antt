@@ -2,9 +2,9 @@
 use Rattle.std.proofs.Common.{◌≡◌, ◌∙◌, sym, ap, refl, subst, ℕ, ◌<◌, ◌==◌, ◌&&◌, ◌||◌, nat_lt, Bool, true, false, cond, List, [], ◌∷◌, ◌++◌, Option, Some, None, append_assoc, append-nil, arith}
 use Rattle.std.proofs.lemmas.Bool.{eq-eqb}
 use Rattle.std.proofs.lemmas.Bool.Decides.{nat_tests}
-use Rattle.std.specs.List.{list_all, list_any}
+use Rattle.std.specs.List.{list_all}
 use Rattle.std.specs.Option.{is_none, option_to_list}
-use Rattle.std.specs.Ordering.{match_ordering, nat_cmp}
+use Rattle.std.specs.Ordering.{match_ordering}
 use Rattle.std.specs.declared.cmp.Ordering.TheVariants.{Less, Equal, Greater}
 use Rattle.pulsar_messages.specs.Claims.{is_spent}
 use Rattle.pulsar_outgoing.specs.Storage.{SingleMessage}
@@ -12,7 +12,7 @@ use Rattle.pulsar_outgoing.specs.declared.multi_topic.Taker.{Taker}
 use Rattle.pulsar_outgoing.specs.declared.multi_topic.Taker.TheVariants.{Call, Copy}
 use Rattle.pulsar_producer.specs.Topic.{Act, Takes, Passes, Draws, Stores, Flushes, Cuts, TakesBatch, Seen, Setup, after, is_free, seen, takes_in}
 use Rattle.pulsar_producer.specs.Turns.{first_of, placed, queued, rest_of}
-use Rattle.pulsar_producer.specs.Laws.{AreAbove, Ascend, FirstComeFirstServed, FirstIsNext, LowestIsNext, NobodyWaitsForFree, OneAtATime, WaitsInLine, gives_turn, is_listed, is_taker, keeps, served, takers, taker_of, tickets, turn_if}
+use Rattle.pulsar_producer.specs.Laws.{AreAbove, Ascend, FirstComeFirstServed, FirstIsNext, LowestIsNext, NobodyWaitsForFree, OneAtATime, WaitsInLine, gives_turn, is_listed, is_taker, keeps, served, takers, tickets, turn_if}
 use Rattle.pulsar_producer.proofs.Waiting.{AreBelow, placed_last}
 use Rattle.pulsar_producer.proofs.Untouched.{stores_keeps, flushes_keeps, cuts_keeps, takes_batch_keeps}
 

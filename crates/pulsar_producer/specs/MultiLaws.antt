@@ -1,6 +1,6 @@
 -- What follows of every history of a producer of many topics, and of every send and close by it, in plain words. `h` has the acts of a
 -- history, newest first, and `later` those behind them.
-use Rattle.std.specs.Prelude.{◌≡◌, ◌⊎◌, ℕ, bytes_eq, Bool, true, false, if◌then◌else◌, List, [], ◌∷◌, ◌++◌, Option, Some, None, Result, Ok, Err}
+use Rattle.std.specs.Prelude.{◌≡◌, ◌⊎◌, ℕ, bytes_eq, Bool, true, false, if◌then◌else◌, List, [], ◌∷◌, ◌++◌, Option, Some, None, Result, Err}
 use Rattle.std.specs.Cmp.Lexicographic.{slice_cmp}
 use Rattle.std.specs.List.{list_all}
 use Rattle.std.specs.Option.{is_some, option_to_list}
@@ -9,7 +9,7 @@ use Rattle.std.specs.declared.cmp.Ordering.TheVariants.{Less}
 use Rattle.pulsar_messages.specs.Content.{ProducerMessageValues, ProducerOptionsValues}
 use Rattle.pulsar_wire.specs.Failures.{Failure}
 use Rattle.pulsar_searches.specs.declared.turn.Ways.{Ways}
-use Rattle.pulsar_producer.specs.MultiPlans.{Closes, Dispatches, close_told, multi_failure, multi_send_told}
+use Rattle.pulsar_producer.specs.MultiPlans.{close_told, multi_failure, multi_send_told}
 use Rattle.pulsar_producer.specs.MultiTopic.{Act, Takes, Passes, Hands, Joins, Removes, Seen, found, is_free, names, next_holder, seen}
 use Rattle.pulsar_producer.specs.Plans.{Builds, build_told}
 use Rattle.pulsar_producer.specs.declared.building.BuildingProducer.{BuildingProducer}

@@ -13,8 +13,6 @@ use Rattle.pulsar_searches.specs.declared.transition.Transition.TheVariants.{Sta
 use Rattle.pulsar_producer.specs.declared.multi_topic.closing.MultiClosing.{MultiClosing}
 use Rattle.pulsar_producer.specs.declared.multi_topic.closing.MultiClosing.TheVariants as close
 use Rattle.pulsar_outgoing.specs.declared.multi_topic.Dispatch.{Dispatch}
-use Rattle.pulsar_outgoing.specs.declared.multi_topic.Missing.{Missing}
-use Rattle.pulsar_outgoing.specs.declared.multi_topic.MultiSaid.{MultiSaid}
 use Rattle.pulsar_outgoing.specs.declared.multi_topic.MultiSaid.TheVariants.{HasTurn, Handed, Absent, Removed, Done}
 use Rattle.pulsar_outgoing.specs.declared.multi_topic.MultiAsk.TheVariants.{TakeTurn, PassTurn, Hand, Join, Remove}
 use Rattle.pulsar_producer.specs.declared.multi_topic.deed.MultiDeed.TheVariants.{Asks, Does}

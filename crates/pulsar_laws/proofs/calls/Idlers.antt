@@ -2,7 +2,6 @@
 -- calls say.
 use Rattle.std.proofs.Common.{◌≡◌, ◌⊎◌, inl, inr, ◌∙◌, sym, ap, subst, ℕ, ◌≤◌, ◌==◌, arith, List, [], ◌∷◌, refl, Bool, true, false, not, Option, Some, None}
 use Rattle.std.proofs.lemmas.Bool.{cases_Bool}
-use Rattle.std.specs.Option.{option_map}
 use Rattle.pulsar_laws.proofs.ActWords.{Act, Action, Ask, Call, Consumer, Does, Draw, Find, FindConsumer, Flush, Get, Number, OfTopic, Outcome, Producer, Recall, RecallConsumer, Rest, Store, TakeNumber, TakeTurn, Tell, TellAll, Told, Wait, Who, Word, is_same, ticket_of, turn_of, OfConsumer}
 use Rattle.pulsar_laws.proofs.PlanWords.{News}
 use Rattle.pulsar_laws.proofs.RunWords.{Begins, begun_same, Cause, counted, Entry, In, InThisStep, IsRun, notice, Options, start_of, Then, view, View}
@@ -10,14 +9,12 @@ use Rattle.pulsar_laws.proofs.LinkWords.{Exhausted, Failure, Fault, Place, Seat,
 use Rattle.pulsar_wire.specs.Failures.{Disconnected}
 use Rattle.pulsar_messages.specs.Claims.{is_spent}
 use Rattle.pulsar_outgoing.specs.declared.multi_topic.Taker.TheVariants as taker
-use Rattle.pulsar_producer.specs.Topic as topic
 use Rattle.pulsar_outgoing.specs.declared.news.News.TheVariants as news
 use Rattle.pulsar_requests.specs.Soonest.{has_come}
 use Rattle.pulsar_calls.specs.declared.act.Outcome.TheVariants as outcome
 use Rattle.pulsar_calls.specs.declared.act.Procedure.TheVariants as procedure
 use Rattle.pulsar_producer_table.specs.declared.table.Topic.{Topic}
 use Rattle.pulsar_laws.proofs.Lists.{in_each}
-use Rattle.pulsar_laws.proofs.Cases.{none_some}
 use Rattle.pulsar_laws.proofs.calls.Causes.{IsToldBy}
 use Rattle.pulsar_laws.specs.Laws.{Acts, AttemptEnds, BecomesReady, DrawsNone, Finds, GetsTurn, GrantsSo, IsDropped, IsReady, IsReplied, IsUnknown, IsWoken, LineEnds, MovesUp, RequestEnds, IsServedAs, SaysSo, WordComes}
 use Rattle.pulsar_producer_table.specs.Producers.{stored_at}

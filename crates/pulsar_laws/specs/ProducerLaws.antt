@@ -155,7 +155,7 @@ FramesAreOfTheirSends = (o : Options) (log : List Entry) (t l n s : ℕ) (name :
     (w : Ways) (e : Errand) (share : Option Share) (given : ProducerMessageValues) →
     IsRun o (Then (Does (Call t) (Ask l (words.Send n name s m block))) ∷ log) → started (Call t) log ≡ Some (procedure.Send w e share given) →
     (row : Topic) × (version : Option (List ℕ)) × ((view o log).producers.topics n ≡ Some row) × (n ≡ e.producer) × (block ≡ e.block)
-    × (row.seen.holder ≡ Some t) × (row.seen.link ≡ l) × (row.seen.given.name ≡ name) × (row.seen.next ≡ s + 1) × (m ≡ with_version version given)
+    × (row.seen.holder ≡ Some (taker.Call t)) × (row.seen.link ≡ l) × (row.seen.given.name ≡ name) × (row.seen.next ≡ s + 1) × (m ≡ with_version version given)
     × (version_told (Call t) log ≡ Some version)
 
 -- The frame that is queued for it spells these words, and nothing else does at that place,

@@ -353,6 +353,10 @@ PermitsAreGranted = (o : Options) (log : List Entry) (t : ℕ) (m : Member) (l :
     × (IsFinished s (done_to o t log) → half (batch_size m.seen.config) + weights (begun s (done_to o t log))
     ≤ permits_of (flows_since o t log) + weighed_before s (done_to o t log))
 
+-- Half of a batch size, rounded up, is just that: twice as much is the batch size, or one more.
+abbrev pub HalfIsHalf : Type 0
+HalfIsHalf = (batch : ℕ) → (batch ≤ half batch + half batch) × (half batch + half batch ≤ batch + 1)
+
 -- ACKNOWLEDGEMENTS
 
 abbrev pub is_ack : Words → Bool

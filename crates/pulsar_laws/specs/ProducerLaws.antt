@@ -5,7 +5,7 @@ use Rattle.std.specs.List.{AllByRecursion, list_any}
 use Rattle.std.specs.Map.{lookup}
 use Rattle.std.specs.Ordering.{nat_cmp}
 use Rattle.std.specs.Option.{option_map}
-use Rattle.pulsar_run.specs.Laws.{In}
+use Rattle.pulsar_run.specs.Laws.{In, InThisStep}
 use Rattle.pulsar_wire.specs.declared.error.ConnectionError.TheVariants as error
 use Rattle.pulsar_wire.specs.declared.key.RequestKey.TheVariants as key
 use Rattle.pulsar_wire.specs.Fits.{InRange}
@@ -43,7 +43,7 @@ use Rattle.pulsar_searches.specs.declared.turn.Ways.{Ways}
 use Rattle.pulsar_calls.specs.declared.act.Act.{Act}
 use Rattle.pulsar_calls.specs.declared.act.Act.TheVariants.{Answers, Does, Told}
 use Rattle.pulsar_calls.specs.declared.act.Action.TheVariants.{OfTopic, Ask}
-use Rattle.pulsar_calls.specs.declared.act.TopicAsk.TheVariants.{PassTurn, Remake}
+use Rattle.pulsar_calls.specs.declared.act.TopicAsk.TheVariants.{PassTurn, Remake, TakeTurn}
 use Rattle.pulsar_calls.specs.declared.act.Makes.{Makes}
 use Rattle.pulsar_calls.specs.declared.act.Makes.TheVariants as makes
 use Rattle.pulsar_calls.specs.declared.act.Share.{Share}
@@ -176,6 +176,13 @@ made_last n (_ ∷ log) = made_last n log
 abbrev pub AsMadeLast : Type 0
 AsMadeLast = (o : Options) (log : List Entry) (n : ℕ) (t : Topic) → (view o log).producers.topics n ≡ Some t →
     made_last n log ≡ Some (t.seen.link, t.seen.given)
+
+-- The version that one is told with its turn, had at once or passed on to it, is that with which the topic producer was made last.
+abbrev pub TurnsTellTheNewest : Type 0
+TurnsTellTheNewest = (o : Options) (log : List Entry) (who : Who) (version : Option (List ℕ)) →
+    IsRun o (Then (Told (notice who (outcome.Granted (news.HasTurn version)))) ∷ log) →
+    InThisStep (λ e older. (n link : ℕ) × (given : Given) × (made_last n older ≡ Some (link, given)) × (given.version ≡ version)
+    × ((e ≡ Then (Does who (OfTopic n TakeTurn))) ⊎ ((other : Who) × (e ≡ Then (Does other (OfTopic n PassTurn)))))) log
 
 -- No other topic producer has the number of a new one, and none that was drawn before is as great: so none is drawn twice. And it is none that a raw call
 -- has named before, where the first number of the options has 64 bits, as its type says: one of 2^64 is the number of the first topic producer, also where

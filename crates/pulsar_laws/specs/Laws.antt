@@ -422,7 +422,8 @@ RevivedDue o who e older =
 abbrev pub BuiltDue : Options → Who → Entry → List Entry → Type 0
 BuiltDue o who e older =
     (other : Who) × (j : Joining) × (said : Said) × (e ≡ Then (Answers other (record { makes = makes.Consumer j; said = said })))
-    × (who ≡ Consumer j.number (ticket_of other)) × (reader.is_due (member_on (view o older).links.live j.link (setup_of j)).seen ≡ true)
+    × (who ≡ Consumer j.number (ticket_of other))
+    × (reader.is_due (member_on (view o older).links.live j.link (setup_of (view o older).consumers.next_key j)).seen ≡ true)
 
 -- it waits for the link of a consumer, that was subscribed again, or could not be
 abbrev pub SeeksAgain : Options → Who → Entry → List Entry → Type 0

@@ -46,7 +46,7 @@ use Rattle.pulsar_consumer_table.specs.declared.numbers.Numbering.{Numbering}
 use Rattle.pulsar_consumer_table.specs.declared.numbers.Numbering.TheVariants.{Has, InUse, Spent}
 use Rattle.pulsar_consumer_table.specs.declared.row.LinkAnswer.{LinkAnswer}
 use Rattle.pulsar_consumer_table.specs.declared.row.LinkAnswer.TheVariants.{Found, Gone, Later}
-use Rattle.pulsar_laws.proofs.consumers.Members.{in_rows, polled_number, revived_number, subscribed_number}
+use Rattle.pulsar_laws.proofs.consumers.Members.{after_number, in_rows, revived_number, subscribed_number}
 use Rattle.pulsar_calls.specs.declared.act.Word.TheVariants as word
 use Rattle.pulsar_calls.specs.declared.act.Makes.TheVariants as makes
 use Rattle.pulsar_consumer_table.specs.Consumers as consumer
@@ -405,7 +405,7 @@ module _ (o : Options) (who : Who) (u : Outcome) (older : List Entry) where
   polled_caused t (Some m) e h =
       let k = due_there t (consumer.member_after (reader.Polls v.now) m) h in
       is_due_caused (Then (Comes (Polls t))) k.told
-      (inl (t, m, refl, (e, k.who_is ∙ ap (λ n. Consumer n t) (polled_number v.now m.seen)), k.due))
+      (inl (t, m, refl, (e, k.who_is ∙ ap (λ n. Consumer n t) (after_number (reader.Polls v.now) m.seen)), k.due))
 
   closed_caused : (w : Who) (l : ℕ) (request : Words) → In it (over_rows (closed_at v l request) v.consumers) →
       Cause o who u (Then (Does w (Ask l request))) older
@@ -432,10 +432,10 @@ module _ (o : Options) (who : Who) (u : Outcome) (older : List Entry) where
       is_due_caused (Then (Does w (OfConsumer (Revive l)))) k.told
       (inr (inl (l, w, m, refl, (e, k.who_is ∙ ap (λ n. Consumer n (ticket_of w)) (revived_number l (url_at (v.links.live l)) m)), k.due)))
 
-  built_caused : (w : Who) (verdict : Verdict) (m : Makes) → verdict.makes ≡ m → In it (made_due v.links.live w m) →
+  built_caused : (w : Who) (verdict : Verdict) (m : Makes) → verdict.makes ≡ m → In it (made_due v.links.live v.consumers.next_key w m) →
       Cause o who u (Then (Answers w verdict)) older
   built_caused w verdict (makes.Consumer j) e h =
-      let k = due_in (ticket_of w) (member_on v.links.live j.link (setup_of j)) h in
+      let k = due_in (ticket_of w) (member_on v.links.live j.link (setup_of v.consumers.next_key j)) h in
       let url : Option Parts = url_at (v.links.live j.link) in
       is_due_caused (Then (Answers w verdict)) k.told
       (inr (inr (
@@ -443,7 +443,9 @@ module _ (o : Options) (who : Who) (u : Outcome) (older : List Entry) where
         j,
         verdict.said,
         ap (λ x. Then (Answers w (record { makes = x; said = verdict.said }))) e,
-        k.who_is ∙ ap (λ n. Consumer n (ticket_of w)) (subscribed_number j.link url (record { seen = reader.fresh (setup_of j); seekers = [] })),
+        k.who_is
+            ∙ ap (λ n. Consumer n (ticket_of w))
+            (subscribed_number j.link url (record { seen = reader.fresh (setup_of v.consumers.next_key j); seekers = [] })),
         k.due,
       )))
   built_caused w verdict makes.Nothing e h = absurd h

@@ -304,8 +304,8 @@ module _ (l : ℕ) (bytes : List ℕ) (v : View) where
   parts_same advice (content.SendAll t ms) = shares_same (why_no_sends v.calls v.producers t) advice t ms
   parts_same advice asked = refl
 
-  made_same : (who : Who) (m : Makes) → made_due row who m ≡ made_due v.links.live who m
-  made_same who (makes.Consumer j) = ap (λ url. due_to (ticket_of who) (consumer.member_of (setup_of j) j.link url)) (url_same j.link)
+  made_same : (who : Who) (m : Makes) → made_due row v.consumers.next_key who m ≡ made_due v.links.live v.consumers.next_key who m
+  made_same who (makes.Consumer j) = ap (λ url. due_to (ticket_of who) (consumer.member_of (setup_of v.consumers.next_key j) j.link url)) (url_same j.link)
   made_same who m = refl
 
   rings_ruled : (a : Alarm) → ruled other (Comes (Rings a)) ≡ ruled v (Comes (Rings a))
@@ -476,8 +476,8 @@ module _ (l : ℕ) (bytes : List ℕ) (v : View) where
       (λ seat. ap (λ c. consumer.all_changed (consumer.loses_by k c) v.consumers) (closed_same bytes end v.now seat.seen)) k
   heard_same k x h = refl
 
-  made_so : (m : Makes) → member_made there.links.live m ≡ member_made v.links.live m
-  made_so (makes.Consumer j) = ap (λ url. Some (consumer.member_of (setup_of j) j.link url)) (url_same l bytes v j.link)
+  made_so : (m : Makes) → member_made there.links.live v.consumers.next_key m ≡ member_made v.links.live v.consumers.next_key m
+  made_so (makes.Consumer j) = ap (λ url. Some (consumer.member_of (setup_of v.consumers.next_key j) j.link url)) (url_same l bytes v j.link)
   made_so (makes.RawConsumer k made) = ap (λ url. Some (consumer.member_of (of_raw made) k url)) (url_same l bytes v k)
   made_so m = refl
 

@@ -13,6 +13,7 @@ use Rattle.pulsar_searches.specs.declared.turn.Ways.{Ways}
 use Rattle.pulsar_wire.specs.Failures.{Disconnected, Encoding, Failure, OfBatch, Shutdown}
 use Rattle.pulsar_wire.specs.declared.error.Reason.{Reason}
 use Rattle.pulsar_exchange.specs.Messages.{Reply, is_body}
+use Rattle.pulsar_outgoing.specs.declared.multi_topic.Taker.TheVariants as taker
 use Rattle.pulsar_outgoing.specs.Batch.{batch_of, entries_in, entry_of, placed}
 use Rattle.pulsar_outgoing.specs.Errors.{in_producer}
 use Rattle.pulsar_producer.specs.BatchLaws.{cut_by, items_of, joined, taken_of}
@@ -259,7 +260,7 @@ FramesOfBatches = (o : Options) (log : List Entry) (n l k s : ℕ) (name : List 
     IsRun o (Then (Does (Producer n) (Ask l (words.Send k name s m block))) ∷ log) →
     (items : List Item) × (whole : ProducerMessageValues) × (version : Option (List ℕ)) × (row : Topic) × (under_way o n log ≡ Some items)
     × (batch_of (entries_in items) ≡ Ok whole) × (m ≡ with_version version whole) × (k ≡ n) × ((view o log).producers.topics n ≡ Some row)
-    × (row.seen.holder ≡ Some behind_all) × (row.seen.link ≡ l) × (row.seen.given.name ≡ name) × (row.seen.next ≡ s + 1)
+    × (row.seen.holder ≡ Some (taker.Call behind_all)) × (row.seen.link ≡ l) × (row.seen.given.name ≡ name) × (row.seen.next ≡ s + 1)
     × (version_told (Producer n) log ≡ Some version)
 
 -- an entry asks for a frame of a topic producer by this number: that of the send of a call, or that of a batch

@@ -26,7 +26,7 @@ use Rattle.pulsar_session.specs.Link as session
 use Rattle.pulsar_session.specs.Link.{Asks, frame_at, frame_for, message_of, ticked}
 use Rattle.pulsar_exchange.specs.Messages.{Reply, is_body}
 use Rattle.pulsar_messages.specs.Message.{with_version}
-use Rattle.pulsar_producer.specs.Laws.{AreAbove}
+use Rattle.pulsar_producer.specs.Laws.{AreAbove, tickets}
 use Rattle.pulsar_producer.specs.Topic as topic
 use Rattle.pulsar_producer.specs.Topic.{Act as TopicAct}
 use Rattle.pulsar_outgoing.specs.Batch.{batch_of}
@@ -70,7 +70,10 @@ pub use Rattle.pulsar_acts.specs.View.{rung_by, topic_acts}
 use Rattle.pulsar_acts.specs.View.{View}
 use Rattle.pulsar_machine.specs.Options.{Options}
 use Rattle.pulsar_links.specs.Seats.{Seat, answer_at}
-use Rattle.pulsar_calls.specs.Who.{in_turn, is_same, turn_of as taken_as}
+use Rattle.pulsar_calls.specs.Who.{is_same, turn_of as taken_as}
+use Rattle.pulsar_producer_table.specs.Takers.{who_at}
+use Rattle.pulsar_outgoing.specs.declared.multi_topic.Taker.{Taker}
+use Rattle.pulsar_outgoing.specs.declared.multi_topic.Taker.TheVariants as taker
 use Rattle.pulsar_laws.specs.Laws.{started, outcomes, deeds, Answered}
 
 -- what is told of a frame that is queued
@@ -200,7 +203,7 @@ FramesAreOfTheirSends = (o : Options) (log : List Entry) (t l n s : ℕ) (name :
     (w : Ways) (e : Errand) (share : Option Share) (given : ProducerMessageValues) →
     IsRun o (Then (Does (Call t) (Ask l (words.Send n name s m block))) ∷ log) → started (Call t) log ≡ Some (procedure.Send w e share given) →
     (row : Topic) × (version : Option (List ℕ)) × ((view o log).producers.topics n ≡ Some row) × (n ≡ e.producer) × (block ≡ e.block)
-    × (row.seen.holder ≡ Some t) × (row.seen.link ≡ l) × (row.seen.given.name ≡ name) × (row.seen.next ≡ s + 1) × (m ≡ with_version version given)
+    × (row.seen.holder ≡ Some (taker.Call t)) × (row.seen.link ≡ l) × (row.seen.given.name ≡ name) × (row.seen.next ≡ s + 1) × (m ≡ with_version version given)
     × (version_told (Call t) log ≡ Some version)
 
 -- The frame that is queued for it spells these words, and nothing else does at that place,
@@ -335,14 +338,19 @@ turn_of p = turn_as (dealing p)
 
 -- one has the turn of a topic producer
 abbrev pub HasTurn : View → Who → (number : ℕ) → Type 0
-HasTurn v who n = (row : Topic) × (v.producers.topics n ≡ Some row) × (row.seen.holder ≡ Some (taken_as who))
+HasTurn v who n = (row : Topic) × (v.producers.topics n ≡ Some row) × (row.seen.holder ≡ Some (taker.Call (taken_as who)))
+
+-- who waits behind the one that has the turn next: all have greater tickets; nobody takes a turn for a copy
+abbrev pub AreBehind : Taker → List Taker → Type 0
+AreBehind (taker.Call t) left = AreAbove t (tickets left)
+AreBehind (taker.Copy consumer key) left = ⊥
 
 -- The turn is passed on by the one that has it, to the lowest ticket of those that wait, which is told so.
 abbrev pub PassedInTurn : Type 0
 PassedInTurn = (o : Options) (log : List Entry) (who : Who) (n : ℕ) → IsRun o (Then (Does who (OfTopic n PassTurn)) ∷ log) →
-    (row : Topic) × ((view o log).producers.topics n ≡ Some row) × (row.seen.holder ≡ Some (taken_as who))
-    × ((next : ℕ) (left : List ℕ) → row.seen.waiting ≡ next ∷ left → AreAbove next left
-    × In (notice (in_turn n next) (outcome.Granted (news.HasTurn row.seen.given.version))) (joins (view o log) (Does who (OfTopic n PassTurn))))
+    (row : Topic) × ((view o log).producers.topics n ≡ Some row) × (row.seen.holder ≡ Some (taker.Call (taken_as who)))
+    × ((next : Taker) (left : List Taker) → row.seen.waiting ≡ next ∷ left → AreBehind next left
+    × In (notice (who_at n next) (outcome.Granted (news.HasTurn row.seen.given.version))) (joins (view o log) (Does who (OfTopic n PassTurn))))
 
 -- One that is told that its turn has come has it, if it waits for it still.
 abbrev pub ToldInTurn : Type 0

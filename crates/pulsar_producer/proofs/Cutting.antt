@@ -4,6 +4,7 @@ use Rattle.std.proofs.Math.Seq.{take-append_seam, take-length}
 use Rattle.std.proofs.lemmas.Grind.{flat_map-append}
 use Rattle.std.specs.Option.{option_to_list}
 use Rattle.pulsar_messages.specs.Claims.{is_spent}
+use Rattle.pulsar_outgoing.specs.declared.multi_topic.Taker.{Taker}
 use Rattle.pulsar_producer.specs.BatchLaws.{BatchesInOrder, CutInTime, FlushIsLast, ItemsInOrder, batches_dropped, cut_by, is_full, items_dropped, joined, stored_by, taken_by, taken_of, without_last}
 use Rattle.pulsar_outgoing.specs.Storage.{Item, SingleMessage, Flush, Storage, is_ready, pushed}
 use Rattle.pulsar_producer.specs.Topic.{Act, Takes, Draws, Closes, Stores, Flushes, Cuts, TakesBatch, Halts, Seen, after, cuts, flushes, is_settled, left_of, next_of, seen, stores, takes_in}
@@ -30,7 +31,7 @@ joined_append bs cs = flat_map-append (λ b. b) bs cs
 
 -- BATCHES
 
-takes_cut : (o : Option ℕ) (t : ℕ) (v : Seen) → (takes_in o t v).cut ≡ v.cut
+takes_cut : (o : Option Taker) (t : Taker) (v : Seen) → (takes_in o t v).cut ≡ v.cut
 takes_cut None t v = refl
 takes_cut (Some other) t v = refl
 

@@ -3,11 +3,12 @@ use Rattle.std.proofs.Common.{◌≡◌, ◌∙◌, sym, ap, refl, ℕ, ◌+◌,
 use Rattle.std.specs.Option.{is_some}
 use Rattle.pulsar_messages.specs.Claims.{is_spent}
 use Rattle.pulsar_outgoing.specs.Storage.{SingleMessage}
+use Rattle.pulsar_outgoing.specs.declared.multi_topic.Taker.{Taker}
 use Rattle.pulsar_producer.specs.Topic.{Act, Takes, Draws, Stores, Flushes, Cuts, TakesBatch, Seen, Setup, after, drawn, passes, seen, takes_in}
 use Rattle.pulsar_producer.specs.Laws.{NumbersCount, NumbersRise, RefusedSpendsItsNumber, draws_of, given_by}
 use Rattle.pulsar_producer.proofs.Untouched.{stores_keeps, flushes_keeps, cuts_keeps, takes_batch_keeps}
 
-takes_next : (o : Option ℕ) (t : ℕ) (v : Seen) → (takes_in o t v).next ≡ v.next
+takes_next : (o : Option Taker) (t : Taker) (v : Seen) → (takes_in o t v).next ≡ v.next
 takes_next None t v = refl
 takes_next (Some other) t v = refl
 

@@ -3,6 +3,7 @@ use Rattle.std.proofs.Common.{◌≡◌, ◌∙◌, sym, ap, refl, subst, ℕ, �
 use Rattle.std.proofs.lemmas.Bool.Decides.{nat_tests}
 use Rattle.pulsar_messages.specs.Claims.{is_spent}
 use Rattle.pulsar_wire.specs.Sink.{capped}
+use Rattle.pulsar_outgoing.specs.declared.multi_topic.Taker.{Taker}
 use Rattle.pulsar_producer.specs.BatchLaws.{NeverReady, StoredIsNotReady, is_full, is_positive}
 use Rattle.pulsar_outgoing.specs.Storage.{Item, SingleMessage, Flush, Storage, ends_in_flush, is_ready, pushed, reaches}
 use Rattle.pulsar_producer.specs.Topic.{Act, Takes, Draws, Closes, Stores, Flushes, Cuts, TakesBatch, Halts, Seen, Setup, after, cuts, is_settled, left_of, seen, stores, takes_in}
@@ -11,7 +12,7 @@ use Rattle.pulsar_outgoing.specs.declared.storage.Limits.{Limits}
 
 -- WHERE IT STAYS
 
-pub takes_storage : (o : Option ℕ) (t : ℕ) (v : Seen) → (takes_in o t v).storage ≡ v.storage
+pub takes_storage : (o : Option Taker) (t : Taker) (v : Seen) → (takes_in o t v).storage ≡ v.storage
 takes_storage None t v = refl
 takes_storage (Some other) t v = refl
 

@@ -24,6 +24,9 @@ use Rattle.pulsar_links.specs.LinkRules.{answered_by, answered_on, dropped, ende
 use Rattle.pulsar_producer_table.specs.Notices.{stopped_call}
 use Rattle.pulsar_acts.specs.View.{pause_for, pause_of}
 use Rattle.pulsar_calls.specs.Who.{in_turn}
+use Rattle.pulsar_producer_table.specs.Takers.{who_at}
+use Rattle.pulsar_laws.proofs.producers.Users.{passes_by_ticket}
+use Rattle.pulsar_outgoing.specs.declared.multi_topic.Taker.{Taker}
 use Rattle.pulsar_producer.specs.Topic as topic
 use Rattle.pulsar_producer_table.specs.declared.table.Topic.{Topic}
 use Rattle.pulsar_producer_table.specs.Producers.{drawn, is_settled_at, is_woken, link_at, next_batch_at, number_drawn, numbers_at, recalled, stored_at, stored_by, turn_passed, turn_taken, unsent, unsent_at, waiting, waiting_at}
@@ -320,15 +323,16 @@ module _ (o : Options) (who : Who) (u : Outcome) (older : List Entry) where
 
   -- ONE JOINS
 
-  passed_caused : (w : Who) (n : ℕ) (row : Option (ℕ × Option (List ℕ))) → turn_passed (v.producers.topics n) ≡ row →
+  passed_caused : (w : Who) (n : ℕ) (row : Option (Taker × Option (List ℕ))) → IsRun o older → turn_passed (v.producers.topics n) ≡ row →
       In it (option_to_list (option_map (turn_notice n) row)) → Cause o who u (Then (Does w (OfTopic n PassTurn))) older
-  passed_caused w n None e h = absurd h
-  passed_caused w n (Some next) e (inr h) = absurd h
-  passed_caused w n (Some next) e (inl is) =
-      let a : who ≡ in_turn n next.0 = ap (λ m. m.who) is in
+  passed_caused w n None run e h = absurd h
+  passed_caused w n (Some next) run e (inr h) = absurd h
+  passed_caused w n (Some next) run e (inl is) =
+      let k = passes_by_ticket o n next.0 next.1 older run e in
+      let a : who ≡ in_turn n k.0 = ap (λ m. m.who) is ∙ ap (who_at n) k.1 in
       let b : u ≡ outcome.Granted (news.HasTurn next.1) = ap (λ m. m.outcome) is in
       named (Then (Does w (OfTopic n PassTurn))) (outcome.Granted (news.HasTurn next.1)) b
-      (inr (inl (w, n, next.0, next.1, refl, a, refl, e)))
+      (inr (inl (w, n, k.0, next.1, refl, a, refl, e ∙ ap (λ t. Some (t, next.1)) k.1)))
 
   tells_caused : (w : Who) (n : Notice) → is_said n.outcome ≡ true → In it (n ∷ []) → Cause o who u (Then (Does w (Tell n))) older
   tells_caused w n said (inr h) = absurd h
@@ -477,7 +481,7 @@ module _ (o : Options) (who : Who) (u : Outcome) (older : List Entry) where
       named (Then (Does w StopAll)) outcome.Stopped (ap (λ n. n.outcome) k.2) (inl (w, refl, inr (inr (inr (inr (r.0, listed))))))
 
   joins_caused : (b : Act) → IsRun o (Then b ∷ older) → In it (joins v b) → Cause o who u (Then b) older
-  joins_caused (Does w (OfTopic n PassTurn)) run h = passed_caused w n (turn_passed (v.producers.topics n)) refl h
+  joins_caused (Does w (OfTopic n PassTurn)) run h = passed_caused w n (turn_passed (v.producers.topics n)) run.0 refl h
   joins_caused (Does w (OfTopic n (Store entry))) run h =
       readied_caused n (topic.Stores (turn_of w) entry) (Then (Does w (OfTopic n (Store entry)))) (w, refl, refl) h
   joins_caused (Does w (OfTopic n Flush)) run h = readied_caused n (topic.Flushes (turn_of w)) (Then (Does w (OfTopic n Flush))) (w, refl, refl) h

@@ -7,6 +7,7 @@ use Rattle.pulsar_outgoing.specs.declared.replies.Given.{Given}
 use Rattle.pulsar_outgoing.specs.declared.storage.Limits.{Limits}
 use Rattle.pulsar_outgoing.specs.Storage.{Flush, is_nothing, is_ready, Item, pushed}
 use Rattle.pulsar_messages.specs.Claims.{is_spent}
+use Rattle.pulsar_outgoing.specs.declared.multi_topic.Taker.{Taker}
 use Rattle.pulsar_producer.specs.Topic as topic
 use Rattle.pulsar_producer.specs.Topic.{Act as Deed, Cuts, Draws, Flushes, Remakes, Seen, Stores, Takes, TakesBatch, is_settled, left_of, stores, takes_in}
 use Rattle.pulsar_calls.specs.declared.act.Makes.TheVariants as makes
@@ -57,7 +58,7 @@ abbrev is_remaking : Deed → Bool
 is_remaking (Remakes l g) = true
 is_remaking _ = false
 
-takes_same : (r : Option ℕ) (t : ℕ) (v : Seen) → place (takes_in r t v) ≡ place v
+takes_same : (r : Option Taker) (t : Taker) (v : Seen) → place (takes_in r t v) ≡ place v
 takes_same None t v = refl
 takes_same (Some other) t v = refl
 

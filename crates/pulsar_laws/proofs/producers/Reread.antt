@@ -29,6 +29,7 @@ use Rattle.pulsar_messages.specs.Words.{when_full}
 use Rattle.pulsar_session.specs.declared.states.Asked.{Asked as Placed}
 use Rattle.pulsar_session.specs.Link.{Seen, answer_of, can_wait, drawn, fits, frame_for, has_room, message_of, number_for, place_in, ticked}
 use Rattle.pulsar_outgoing.specs.Storage.{Item, Flush, SingleMessage, is_nothing, is_ready, pushed}
+use Rattle.pulsar_outgoing.specs.declared.multi_topic.Taker.{Taker}
 use Rattle.pulsar_producer.specs.Topic as topic
 use Rattle.pulsar_producer.specs.Topic.{Act as Deed, Takes, Passes, Draws, Remakes, Closes, Stores, Flushes, Cuts, TakesBatch, Halts, Setup, cuts, is_settled, left_of, stores, takes_in}
 use Rattle.pulsar_laws.proofs.Cases.{cond_so, cond_when}
@@ -94,7 +95,7 @@ left_low (b ∷ bs) v h = h
 one_low : (d : Deed) (v : topic.Seen) → IsLow v → IsLow (topic.after d v)
 one_low (Takes t) v h = takes v.holder
   where
-    takes : (x : Option ℕ) → IsLow (takes_in x t v)
+    takes : (x : Option Taker) → IsLow (takes_in x t v)
     takes None = h
     takes (Some u) = h
 one_low Draws v h = draws_low v h

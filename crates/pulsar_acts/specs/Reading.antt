@@ -92,6 +92,7 @@ made_due live key w makes.Client = []
 made_due live key w (makes.Consumer j) = due_to (ticket_of w) (member_on live j.link (setup_of key j))
 made_due live key w (makes.RawConsumer l made) = []
 made_due live key w (makes.Producer b) = []
+made_due live key w (makes.MultiProducer name settings) = []
 
 -- a consumer whose close is asked for needs no plan any more
 abbrev pub closed_at : View → (link : ℕ) → Words → (ticket : ℕ) → Member → List Notice

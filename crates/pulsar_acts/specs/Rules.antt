@@ -12,7 +12,7 @@ use Rattle.pulsar_session.specs.Link.{is_ready}
 use Rattle.pulsar_calls.specs.declared.act.Act.{Act}
 use Rattle.pulsar_calls.specs.declared.act.Act.TheVariants.{Comes, Starts, Told, Does, Answers, Dials}
 use Rattle.pulsar_calls.specs.declared.act.Action.{Action}
-use Rattle.pulsar_calls.specs.declared.act.Action.TheVariants.{OfTopic, OfConsumer, Get, Ask, Wait, Number, Hold, Shut, TakeNumber, Tell, TellAll, StopAll, Rest}
+use Rattle.pulsar_calls.specs.declared.act.Action.TheVariants.{OfTopic, OfMulti, OfConsumer, Get, Ask, Wait, Number, Hold, Shut, TakeNumber, Tell, TellAll, StopAll, Rest}
 use Rattle.pulsar_calls.specs.declared.act.Alarm.{Alarm}
 use Rattle.pulsar_calls.specs.declared.act.Alarm.TheVariants.{Retry, Wake, Batch, KeepAlive, CheckIdle}
 use Rattle.pulsar_calls.specs.declared.act.Arrival.{Arrival}
@@ -40,13 +40,12 @@ use Rattle.pulsar_calls.specs.declared.act.Says.TheVariants as says
 use Rattle.pulsar_calls.specs.declared.act.Verdict.{Verdict}
 use Rattle.pulsar_calls.specs.declared.act.Who.{Who}
 use Rattle.pulsar_calls.specs.declared.act.Who.TheVariants.{Call, Producer}
-use Rattle.pulsar_calls.specs.declared.content.BuiltProducer.{BuiltProducer}
 use Rattle.pulsar_links.specs.declared.addresses.Pause.{Pause}
 use Rattle.pulsar_links.specs.declared.addresses.Series.{Series}
 use Rattle.pulsar_links.specs.declared.addresses.Series.TheVariants.{Nobody, Runs, Pauses, Serves}
 use Rattle.pulsar_plans.specs.declared.plan.Plan.{Plan}
 use Rattle.pulsar_exchange.specs.Request.{named_consumer, named_producer}
-use Rattle.pulsar_messages.specs.Content.{ProducerMessageValues}
+use Rattle.pulsar_messages.specs.Content.{ProducerMessageValues, ProducerOptionsValues}
 use Rattle.pulsar_producer.specs.Routing.{Policy}
 use Rattle.pulsar_frame.specs.Batch.{EntryValues}
 use Rattle.pulsar_outgoing.specs.Batch.{entry_of}
@@ -55,6 +54,11 @@ use Rattle.pulsar_producer.specs.Topic as topic
 use Rattle.pulsar_outgoing.specs.Wanted.{ProducerWanted}
 use Rattle.pulsar_outgoing.specs.declared.orders.ProducerOrder.{ProducerOrder}
 use Rattle.pulsar_outgoing.specs.declared.content.Built.{Built}
+use Rattle.pulsar_outgoing.specs.declared.multi_topic.Joining.{Joining}
+use Rattle.pulsar_outgoing.specs.declared.multi_topic.Multi.{Multi}
+use Rattle.pulsar_outgoing.specs.declared.multi_topic.Multi.TheVariants.{Own, Made}
+use Rattle.pulsar_producer_table.specs.MultiAsks.{joined_by, removed_by}
+use Rattle.pulsar_producer_table.specs.Multis.{Multis, at}
 use Rattle.pulsar_producer.specs.News.{News}
 use Rattle.pulsar_outgoing.specs.declared.news.News.TheVariants as news
 use Rattle.pulsar_outgoing.specs.declared.orders.Errand.{Errand}
@@ -71,7 +75,7 @@ pub use Rattle.pulsar_producer_table.specs.Asks.{readied, ready_notice, turn_not
 use Rattle.pulsar_producer_table.specs.Notices.{stopped_all}
 use Rattle.pulsar_producer_table.specs.Producers.{Producers, advice, batches_in, errand_of, is_held, is_used as is_used_number, number_drawn, numbers_at, routed, stored_by, why_not}
 use Rattle.pulsar_calls.specs.Content.{next_advice}
-use Rattle.pulsar_acts.specs.View.{Tickets, Turned, View, asked_of, consumer_asked, is_live, link_given, may_call, told_some, turned, ways_of}
+use Rattle.pulsar_acts.specs.View.{Tickets, Turned, View, asked_of, consumer_asked, is_live, link_given, may_call, multi_asked_of, multi_at, told_some, turned, ways_of}
 use Rattle.pulsar_machine.specs.Options.{Chosen, Options}
 use Rattle.pulsar_links.specs.Seats.{Addresses, Base, Links, Seat, arrival_at, later}
 use Rattle.pulsar_consumer_table.specs.Consumers as consumer
@@ -213,6 +217,40 @@ checks ps t = unless (why_not ps t) (procedure.Go Checks (numbers_at (ps.built t
 abbrev pub closes : Producers → (producer : ℕ) → Procedure
 closes ps t = if is_some (ps.built t) then procedure.Close t (numbers_at (ps.built t)) else procedure.Refuse refusal.UnknownTicket
 
+-- CALLS ON PRODUCERS OF MANY TOPICS. One names such a producer by the ticket of the call that made it; a post goes by the client's own.
+
+abbrev pub why_no_multi : Multis → (ticket : ℕ) → Option CallRefusal
+why_no_multi ms t = if is_some (at (Made t) ms) then None else Some refusal.UnknownTicket
+
+abbrev pub multi_sends_by : Option Ways → Multi → Option Share → (topic : List ℕ) → ProducerMessageValues → Procedure
+multi_sends_by None m share topic message = fails_as share refusal.NoAddress
+multi_sends_by (Some ways) m share topic message = procedure.MultiSend ways m share topic message
+
+abbrev pub posts : Chosen → (topic : List ℕ) → ProducerMessageValues → Procedure
+posts o topic message = multi_sends_by (ways_of o) Own None topic message
+
+abbrev pub multi_sends : Chosen → Multis → (producer : ℕ) → (topic : List ℕ) → ProducerMessageValues → Procedure
+multi_sends o ms t topic message = unless (why_no_multi ms t) (multi_sends_by (ways_of o) (Made t) None topic message)
+
+-- several messages are sent one by one, each by the next ticket
+abbrev pub multi_shares_of : Chosen → (of ticket : ℕ) → Multi → (topic : List ℕ) → List ProducerMessageValues → List Act
+multi_shares_of o of ticket m topic [] = []
+multi_shares_of o of ticket m topic (x ∷ xs) =
+    Starts (Call ticket) (multi_sends_by (ways_of o) m (share of ticket) topic x) ∷ multi_shares_of o of (ticket + 1) m topic xs
+
+abbrev pub why_no_multi_sends : Tickets → Multis → (producer : ℕ) → Option CallRefusal
+why_no_multi_sends c ms t = if may_call c then why_no_multi ms t else Some refusal.Shutdown
+
+abbrev pub multi_shares_unless : Option CallRefusal → View → (producer : ℕ) → (topic : List ℕ) → List ProducerMessageValues → List Act
+multi_shares_unless (Some r) v t topic xs = []
+multi_shares_unless None v t topic xs = multi_shares_of v.chosen v.calls.drawn (v.calls.drawn + 1) (Made t) topic xs
+
+abbrev pub multi_gathers : Tickets → Multis → (producer : ℕ) → List ProducerMessageValues → Procedure
+multi_gathers c ms t xs = unless (why_no_multi ms t) (procedure.Gather (c.drawn + 1) (length xs))
+
+abbrev pub multi_closes : Multis → (producer : ℕ) → (topic : List ℕ) → Procedure
+multi_closes ms t topic = unless (why_no_multi ms t) (procedure.MultiClose (Made t) topic)
+
 -- a raw call leaves the numbers of the client's producers and consumers alone
 abbrev pub is_taken : Producers → Option ℕ → Bool
 is_taken ps None = false
@@ -237,12 +275,17 @@ procedure_for o c cs ps advice (content.Topics namespace mode) = unless_refused 
 procedure_for o c cs ps advice (content.Lookup topic) = unless_refused (may_call c) (searches (ways_of o) (sought.Look topic))
 procedure_for o c cs ps advice (content.Partitions topic) = unless_refused (may_call c) (searches (ways_of o) (sought.CountPartitions topic))
 procedure_for o c cs ps advice (content.Brokers topic) = unless_refused (may_call c) (searches (ways_of o) (sought.Name topic))
+procedure_for o c cs ps advice (content.Post topic m) = unless_refused (may_call c) (posts o topic m)
 procedure_for o c cs ps advice (content.Producer wanted) = unless_refused (may_call c) (produces o wanted)
 procedure_for o c cs ps advice (content.Send t m) = unless_refused (may_call c) (sends o ps (next_advice advice) t m)
 procedure_for o c cs ps advice (content.SendAll t ms) = unless_refused (may_call c) (gathers c ps t ms)
 procedure_for o c cs ps advice (content.Flush t) = unless_refused (may_call c) (flushes ps t)
 procedure_for o c cs ps advice (content.CheckProducer t) = unless_refused (may_call c) (checks ps t)
 procedure_for o c cs ps advice (content.CloseProducer t) = unless_refused (may_call c) (closes ps t)
+procedure_for o c cs ps advice (content.MultiProducer wanted) = unless_refused (may_call c) (procedure.MakeMulti wanted.name wanted.options)
+procedure_for o c cs ps advice (content.MultiSend t topic m) = unless_refused (may_call c) (multi_sends o ps.multis t topic m)
+procedure_for o c cs ps advice (content.MultiSendAll t topic ms) = unless_refused (may_call c) (multi_gathers c ps.multis t ms)
+procedure_for o c cs ps advice (content.MultiClose t topic) = unless_refused (may_call c) (multi_closes ps.multis t topic)
 procedure_for o c cs ps advice (content.Consumer wanted) = unless_refused (may_call c) (subscribes o c.drawn wanted)
 procedure_for o c cs ps advice (content.Ack t name id cumulative) =
     unless_refused (may_call c) (acknowledges cs t (λ n. words.SendAck n (id ∷ []) cumulative))
@@ -257,12 +300,17 @@ parts_of v advice (content.Topics namespace mode) = []
 parts_of v advice (content.Lookup topic) = []
 parts_of v advice (content.Partitions topic) = []
 parts_of v advice (content.Brokers topic) = []
+parts_of v advice (content.Post topic m) = []
 parts_of v advice (content.Producer wanted) = []
+parts_of v advice (content.MultiProducer wanted) = []
 parts_of v advice (content.Send t m) = []
 parts_of v advice (content.SendAll t ms) = shares_unless (why_no_sends v.calls v.producers t) v advice t ms
 parts_of v advice (content.Flush t) = []
 parts_of v advice (content.CheckProducer t) = []
 parts_of v advice (content.CloseProducer t) = []
+parts_of v advice (content.MultiSend t topic m) = []
+parts_of v advice (content.MultiSendAll t topic ms) = multi_shares_unless (why_no_multi_sends v.calls v.producers.multis t) v t topic ms
+parts_of v advice (content.MultiClose t topic) = []
 parts_of v advice (content.Consumer wanted) = []
 parts_of v advice (content.Ack t name id cumulative) = []
 parts_of v advice (content.Nack t name id) = []
@@ -290,6 +338,21 @@ gets_from who p (Serves link) = tells who (outcome.GotLink link)
 abbrev pub gets : Who → Place → Series → List Act
 gets who p series = if is_reachable p then gets_from who p series else tells who outcome.NotFound
 
+-- Each topic producer of a producer that sends batches sends them by a plan of its own, which begins with it.
+abbrev pub batches_by : Ways → (block : Bool) → Built → Act
+batches_by ways block b = Starts (Producer b.number) (procedure.Batch ways (record { producer = b.number; block = block }))
+
+abbrev pub batches_from : Option Ways → (block : Bool) → List Built → List Act
+batches_from None block bs = []
+batches_from (Some ways) block bs = map (batches_by ways block) bs
+
+abbrev pub batches_for : Option Ways → ProducerOptionsValues → List Built → List Act
+batches_for ways settings bs = if is_batching settings then batches_from ways settings.block_queue_if_full bs else []
+
+abbrev pub batches_joined : Option Ways → Option Joining → List Act
+batches_joined ways None = []
+batches_joined ways (Some j) = batches_for ways j.settings j.parts
+
 -- WHAT PLANS ASK OF TOPIC PRODUCERS AND CONSUMERS is told at once, but for what is waited for.
 
 abbrev pub grants : Who → News → List Act
@@ -313,6 +376,7 @@ performs v who (Ask l request) = says_to who (link_given v who l request).says
 performs v who StopAll = stops who v.links
 performs v who (Wait delay) = []
 performs v who (OfTopic n ask) = says_to who (asked_of v who n ask).says
+performs v who (OfMulti m ask) = batches_joined (ways_of v.chosen) (joined_by ask (multi_at v m)) ++ says_to who (multi_asked_of v who m ask).says
 performs v who (OfConsumer ask) = says_to who (consumer_asked v who ask).says
 performs v who Number = tells who (number_said (number_drawn v.producers))
 performs v who (Hold l n) = grants who news.Done
@@ -365,23 +429,13 @@ rung v (Batch n) = []
 rung v (KeepAlive l) = keeps_alive l (v.links.live l)
 rung v CheckIdle = over_links (idle_act v) v.links
 
--- Each topic producer of a producer that sends batches sends them by a plan of its own, which begins with it.
-abbrev pub batches_by : Ways → (block : Bool) → Built → Act
-batches_by ways block b = Starts (Producer b.number) (procedure.Batch ways (record { producer = b.number; block = block }))
-
-abbrev pub batches_from : Option Ways → BuiltProducer → List Act
-batches_from None b = []
-batches_from (Some ways) b = map (batches_by ways b.settings.block_queue_if_full) b.parts
-
-abbrev pub batches_made : Option Ways → BuiltProducer → List Act
-batches_made ways b = if is_batching b.settings then batches_from ways b else []
-
 abbrev pub left_with : Option Ways → Who → Makes → List Act
 left_with ways w makes.Nothing = []
 left_with ways w makes.Client = []
 left_with ways w (makes.Consumer j) = serves_by ways w j
 left_with ways w (makes.RawConsumer l made) = []
-left_with ways w (makes.Producer b) = batches_made ways b
+left_with ways w (makes.Producer b) = batches_for ways b.settings b.parts
+left_with ways w (makes.MultiProducer name settings) = []
 
 abbrev pub at_once : View → Act → List Act
 at_once v (Comes (Calls asked advice)) = called v advice asked
@@ -413,6 +467,7 @@ joins v (Comes (Polls t)) = polled_due v.now t (v.consumers.rows t)
 joins v (Does who (Ask l request)) = over_rows (closed_at v l request) v.consumers
 joins v (Answers who verdict) = made_due v.links.live v.consumers.next_key who verdict.makes
 joins v (Does who (OfTopic n ask)) = (asked_of v who n ask).serves
+joins v (Does who (OfMulti m ask)) = (multi_asked_of v who m ask).serves ++ map closed_notice (stored_by v.producers (removed_by ask (multi_at v m)))
 joins v (Does who (OfConsumer ask)) = (consumer_asked v who ask).serves
 joins v (Does who (Shut t)) = map closed_notice (stored_by v.producers (numbers_at (v.producers.built t)))
 joins v (Does who (Tell n)) = n ∷ []

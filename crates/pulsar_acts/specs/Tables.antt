@@ -11,7 +11,7 @@ use Rattle.pulsar_calls.specs.declared.act.Arrival.{Arrival}
 use Rattle.pulsar_calls.specs.declared.act.End.TheVariants.{Idles}
 use Rattle.pulsar_calls.specs.declared.act.LinkAct.TheVariants.{Ends}
 use Rattle.pulsar_calls.specs.declared.act.Makes.{Makes}
-use Rattle.pulsar_calls.specs.declared.act.Makes.TheVariants.{Nothing, Client, Consumer, RawConsumer, Producer}
+use Rattle.pulsar_calls.specs.declared.act.Makes.TheVariants.{Nothing, Client, Consumer, RawConsumer, Producer, MultiProducer}
 use Rattle.pulsar_calls.specs.declared.act.Part.TheVariants.{ToLink}
 use Rattle.pulsar_calls.specs.declared.act.TopicAsk.{TopicAsk}
 use Rattle.pulsar_calls.specs.declared.act.TopicAsk.TheVariants.{TakeTurn, PassTurn, Draw, Recall, Remake, Find, Store, Flush, TakeBatch}
@@ -20,12 +20,13 @@ use Rattle.pulsar_calls.specs.declared.act.Who.TheVariants as who
 use Rattle.pulsar_calls.specs.Who.{rank}
 use Rattle.pulsar_consumer_table.specs.Consumers as consumer
 use Rattle.pulsar_consumer_table.specs.Consumers.{Consumers, Member, is_heard}
-use Rattle.pulsar_producer_table.specs.Producers.{Producers, is_bare, is_held, joined, timeout_at}
+use Rattle.pulsar_producer_table.specs.Producers.{Producers, is_bare, is_held, joined, timeout_at, with_multi}
 use Rattle.pulsar_acts.specs.declared.settings.Settings.{Settings}
 use Rattle.pulsar_acts.specs.declared.tables.Tables.{Tables}
 use Rattle.pulsar_calls.specs.Content.{Shown, Retry}
 use Rattle.pulsar_links.specs.Alarms.{set}
 use Rattle.pulsar_links.specs.Kept.{addresses_of, links_in}
+use Rattle.pulsar_producer.specs.Routing.{Policy}
 use Rattle.pulsar_producer_table.specs.KeptProducers.{producers_of}
 use Rattle.pulsar_consumer_table.specs.KeptConsumers.{consumers_in}
 use Rattle.pulsar_acts.specs.View.{Turned, View, alarms_on, alarms_rung, alarms_waiting, base_on, delay_with, keyed_for, member_made, pause_on, pause_rung, waits_on}
@@ -49,10 +50,12 @@ chosen_of s =
       now = s.start;
     }
 
+-- they have no policies: these are lent to each step
 abbrev pub view_of : Tables → View
 view_of c =
     record {
       chosen = chosen_of c.settings;
+      policies = [];
       now = c.clock;
       stand = stand_of c.plans;
       calls = record { drawn = c.tickets; is_built = c.is_built; is_stopped = c.is_stopped };
@@ -62,6 +65,9 @@ view_of c =
       consumers = consumers_in c.consumers.rows c.consumers.numbers;
       producers = producers_of c.producers;
     }
+
+abbrev pub with_policies : List Policy → View → View
+with_policies ps v = record v { policies = ps }
 
 -- what a link turns whose next frame was read
 abbrev pub welcomed : (link : ℕ) → Arrival → Option Seat → Option Turned
@@ -147,3 +153,4 @@ producers_made o who Client ps = ps
 producers_made o who (Consumer made) ps = ps
 producers_made o who (RawConsumer link made) ps = ps
 producers_made o who (Producer made) ps = joined (rank who).1 made o.seed o.first_number ps
+producers_made o who (MultiProducer name settings) ps = with_multi (rank who).1 name settings ps

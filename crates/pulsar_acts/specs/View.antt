@@ -1,5 +1,5 @@
 -- What is seen of a run, and what an act makes of it: one small function for each field.
-use Rattle.std.specs.Prelude.{ℕ, ◌+◌, ◌==◌, bytes_eq, nat_le, ◌&&◌, not, Bool, true, false, if◌then◌else◌, List, [], ◌∷◌, ◌++◌, Option, Some, None, ◌≡◌, ◌⊎◌}
+use Rattle.std.specs.Prelude.{ℕ, ◌+◌, ◌==◌, bytes_eq, nat_le, ◌&&◌, not, Bool, true, false, if◌then◌else◌, List, [], ◌∷◌, ◌++◌, map, Option, Some, None, ◌≡◌, ◌⊎◌}
 use Rattle.std.specs.List.{list_any}
 use Rattle.std.specs.Option.{is_some, option_map}
 use Rattle.pulsar_addresses.specs.Address.{Place, address_key, behind, is_reachable}
@@ -16,7 +16,7 @@ use Rattle.pulsar_exchange.specs.Request.{closed_consumer}
 use Rattle.pulsar_messages.specs.Words.{Words}
 use Rattle.pulsar_calls.specs.declared.act.Act.{Act}
 use Rattle.pulsar_calls.specs.declared.act.Act.TheVariants.{Comes, Starts, Told, Does, Answers, Dials}
-use Rattle.pulsar_calls.specs.declared.act.Action.TheVariants.{OfTopic, OfConsumer, Get, Ask, Wait, Number, Hold, Shut, TakeNumber, StopAll}
+use Rattle.pulsar_calls.specs.declared.act.Action.TheVariants.{OfTopic, OfMulti, OfConsumer, Get, Ask, Wait, Number, Hold, Shut, TakeNumber, StopAll}
 use Rattle.pulsar_calls.specs.declared.act.TopicAsk.{TopicAsk}
 use Rattle.pulsar_calls.specs.declared.act.TopicAsk.TheVariants.{Store, Flush}
 use Rattle.pulsar_calls.specs.declared.act.ConsumerAsk.{ConsumerAsk}
@@ -26,7 +26,7 @@ use Rattle.pulsar_calls.specs.declared.act.End.{End}
 use Rattle.pulsar_calls.specs.declared.act.LinkAct.{LinkAct}
 use Rattle.pulsar_calls.specs.declared.act.LinkAct.TheVariants.{Reads, Ends}
 use Rattle.pulsar_calls.specs.declared.act.Makes.{Makes}
-use Rattle.pulsar_calls.specs.declared.act.Makes.TheVariants.{Nothing, Client, Consumer, RawConsumer, Producer}
+use Rattle.pulsar_calls.specs.declared.act.Makes.TheVariants.{Nothing, Client, Consumer, RawConsumer, Producer, MultiProducer}
 use Rattle.pulsar_calls.specs.declared.act.Outcome.{Outcome}
 use Rattle.pulsar_calls.specs.declared.act.Part.TheVariants.{Calls, ToLink, Rings, Polls}
 use Rattle.pulsar_calls.specs.declared.act.Verdict.{Verdict}
@@ -46,10 +46,19 @@ use Rattle.pulsar_links.specs.Links.{Change, Remains, Becomes, IsOver, change_by
 use Rattle.pulsar_plans.specs.Plan.{begins, told}
 use Rattle.pulsar_run.specs.Things.{row_after, row_by}
 use Rattle.pulsar_outgoing.specs.Storage.{limits_of}
+use Rattle.pulsar_outgoing.specs.declared.multi_topic.Joining.{Joining}
+use Rattle.pulsar_outgoing.specs.declared.multi_topic.Multi.{Multi}
+use Rattle.pulsar_outgoing.specs.declared.multi_topic.MultiAsk.{MultiAsk}
+use Rattle.pulsar_producer.specs.MultiTopic as multi
+use Rattle.pulsar_producer.specs.Routing.{Policy}
+use Rattle.pulsar_producer_table.specs.MultiAsks as of_multi
+use Rattle.pulsar_producer_table.specs.MultiAsks.{joined_by, removed_by}
+use Rattle.pulsar_producer_table.specs.Multis.{all_changed, at}
+use Rattle.pulsar_producer_table.specs.Takers.{taker_of}
 use Rattle.pulsar_calls.specs.declared.content.BuiltProducer.{BuiltProducer}
 use Rattle.pulsar_producer_table.specs.Asks.{Around, Given, around_in, given}
 use Rattle.pulsar_producer_table.specs.declared.table.Topic.{Topic}
-use Rattle.pulsar_producer_table.specs.Producers.{Producers, called_on, freed, holding, is_bare, link_at, listed, none, numbered, numbers_at, shut_by, timeout_at, topic_after, topic_in}
+use Rattle.pulsar_producer_table.specs.Producers.{Producers, called_on, freed, holding, is_bare, link_at, listed, none, numbered, numbers_at, of_call, of_multi as owned_by, shut_by, timeout_at, topic_after, topic_in, with_multi}
 use Rattle.pulsar_producer.specs.Topic as topic
 use Rattle.pulsar_consumer_table.specs.Asks as of_consumer
 use Rattle.pulsar_consumer_table.specs.Asks.{link_asked, ticket_asked}
@@ -71,9 +80,11 @@ pub record Tickets : Type 0 where
   pub is_built : Bool
   pub is_stopped : Bool
 
--- all: the options, the clock, where each plan stands, the calls, the links, the addresses, the alarms, the consumers, and the producers
+-- all: the options, the policies of the client, the clock, where each plan stands, the calls, the links, the addresses, the alarms, the
+-- consumers, and the producers
 pub record View : Type 0 where
   pub chosen : Chosen
+  pub policies : List Policy
   pub now : ℕ
   pub stand : Who → Option Plan
   pub calls : Tickets
@@ -88,6 +99,7 @@ abbrev pub new : Options → View
 new o =
     record {
       chosen = o.chosen;
+      policies = o.policies;
       now = o.chosen.now;
       stand = λ w. None;
       calls = record { drawn = 0; is_built = false; is_stopped = false };
@@ -189,6 +201,7 @@ builds Client b = true
 builds (Consumer made) b = b
 builds (RawConsumer link made) b = b
 builds (Producer made) b = b
+builds (MultiProducer name settings) b = b
 
 abbrev pub built_after : Act → Bool → Bool
 built_after (Answers who verdict) b = builds verdict.makes b
@@ -355,6 +368,11 @@ abbrev pub addresses_after : View → Act → Addresses
 addresses_after v a =
     record { base = λ key. base_after v a key (v.addresses.base key); pause = λ l. pause_after v a l (v.addresses.pause l) }
 
+-- PRODUCERS OF MANY TOPICS
+
+abbrev pub multi_at : View → Multi → Option multi.Seen
+multi_at v m = at m v.producers.multis
+
 -- ALARMS
 
 -- how often the links are looked at that nothing uses
@@ -411,6 +429,7 @@ alarms_after v (Comes (Rings a)) = if rings v.now a v.alarms then alarms_rung v.
 alarms_after v (Does who (Wait delay)) = set (Wake who) (later v.now delay) v.alarms
 alarms_after v (Does who (OfTopic n (Store e))) = alarms_on_topic v n (topic.Stores (turn_of who) e)
 alarms_after v (Does who (OfTopic n Flush)) = alarms_on_topic v n (topic.Flushes (turn_of who))
+alarms_after v (Does who (OfMulti m ask)) = clear_all (removed_by ask (multi_at v m)) v.alarms
 alarms_after v (Does who (Shut t)) = clear_all (numbers_at (v.producers.built t)) v.alarms
 alarms_after v (Does who StopAll) = []
 alarms_after v (Answers who verdict) = alarms_built v.now (not v.calls.is_built && builds verdict.makes false) v.alarms
@@ -432,6 +451,7 @@ member_made live key Client = None
 member_made live key (Consumer made) = Some (member_on live made.link (setup_of key made))
 member_made live key (RawConsumer l made) = Some (member_on live l (of_raw made))
 member_made live key (Producer made) = None
+member_made live key (MultiProducer name settings) = None
 
 -- its key is drawn
 abbrev pub keyed_for : Makes → Consumers → Consumers
@@ -440,6 +460,7 @@ keyed_for Client cs = cs
 keyed_for (Consumer made) cs = consumer.keyed cs
 keyed_for (RawConsumer l made) cs = cs
 keyed_for (Producer made) cs = cs
+keyed_for (MultiProducer name settings) cs = cs
 
 -- and that is listed
 abbrev pub listed_as : Who → Consumers → Consumers
@@ -453,6 +474,7 @@ consumers_listed w Client cs = cs
 consumers_listed w (Consumer made) cs = listed_as w (consumer.keyed cs)
 consumers_listed w (RawConsumer l made) cs = listed_as w cs
 consumers_listed w (Producer made) cs = cs
+consumers_listed w (MultiProducer name settings) cs = cs
 
 -- and a call that has ended holds no number
 abbrev pub consumers_left : Who → Consumers → Consumers
@@ -524,6 +546,7 @@ producers_listed o who Client ps = ps
 producers_listed o who (Consumer made) ps = ps
 producers_listed o who (RawConsumer link made) ps = ps
 producers_listed o who (Producer made) ps = listed (rank who).1 made o.seed ps
+producers_listed o who (MultiProducer name settings) ps = with_multi (rank who).1 name settings ps
 
 -- and a call that has ended makes none any more
 abbrev pub producers_left : Who → Producers → Producers
@@ -540,6 +563,26 @@ around v who n = around_in v.producers n (turn_of who) (room_of v n)
 abbrev pub asked_of : View → Who → (number : ℕ) → TopicAsk → Given
 asked_of v who n ask = given (around v who n) ask (v.producers.topics n)
 
+-- WHAT IS ASKED OF A PRODUCER OF MANY TOPICS
+
+-- what is around one that is asked, and what it gives
+abbrev pub around_multi : View → Who → of_multi.Around
+around_multi v who = record { seed = v.chosen.seed; ticket = ticket_of who; taker = taker_of who; policies = v.policies }
+
+abbrev pub multi_asked_of : View → Who → Multi → MultiAsk → of_multi.Given
+multi_asked_of v who m ask = of_multi.given (around_multi v who) ask (multi_at v m)
+
+-- the numbers of the topic producers that are made for it: the call that made them holds them no longer by itself
+abbrev pub with_numbers : (ticket : ℕ) → Option Joining → Producers → Producers
+with_numbers t None ps = ps
+with_numbers t (Some j) ps = record (freed t ps) { numbers = ps.numbers ++ map (λ b. b.number) j.parts }
+
+abbrev pub multi_asked : View → Who → Multi → MultiAsk → Producers
+multi_asked v who m ask =
+    record (with_numbers (ticket_of who) (joined_by ask (multi_at v m)) v.producers) {
+      multis = all_changed m (multi_asked_of v who m ask).acts v.producers.multis;
+    }
+
 -- what is stored is cut once it has waited
 abbrev pub rung_by : (rings : Bool) → List topic.Act
 rung_by rings = if rings then topic.Cuts ∷ [] else []
@@ -555,6 +598,7 @@ topic_rung rings CheckIdle n = []
 abbrev pub topic_acts : View → (number : ℕ) → Act → List topic.Act
 topic_acts v n (Comes (Rings a)) = topic_rung (rings v.now a v.alarms) a n
 topic_acts v n (Does who (OfTopic m ask)) = if n == m then (asked_of v who m ask).acts else []
+topic_acts v n (Does who (OfMulti m ask)) = shut_by n (removed_by ask (multi_at v m))
 topic_acts v n (Does who (Shut t)) = shut_by n (numbers_at (v.producers.built t))
 topic_acts v n (Does who StopAll) = topic.Halts ∷ []
 topic_acts v n _ = []
@@ -566,13 +610,20 @@ building_of Client = None
 building_of (Consumer made) = None
 building_of (RawConsumer link made) = None
 building_of (Producer made) = Some made
+building_of (MultiProducer name settings) = None
 
 abbrev pub topic_of : Option BuiltProducer → Who → Chosen → (number : ℕ) → Option Topic
 topic_of None who o n = None
-topic_of (Some b) who o n = topic_in (rank who).1 o.first_number (limits_of b.settings) b.parts n
+topic_of (Some b) who o n = topic_in (of_call (rank who).1) o.first_number (limits_of b.settings) b.parts n
+
+-- or those of a producer that was built for a producer of many topics
+abbrev pub topic_joined : Option Joining → Who → Multi → Chosen → (number : ℕ) → Option Topic
+topic_joined None who m o n = None
+topic_joined (Some j) who m o n = topic_in (owned_by (ticket_of who) m) o.first_number (limits_of j.settings) j.parts n
 
 abbrev pub topic_born : View → (number : ℕ) → Act → Option Topic
 topic_born v n (Answers who verdict) = topic_of (building_of verdict.makes) who v.chosen n
+topic_born v n (Does who (OfMulti m ask)) = topic_joined (joined_by ask (multi_at v m)) who m v.chosen n
 topic_born v n _ = None
 
 -- what becomes of it
@@ -584,6 +635,7 @@ abbrev pub others_after : View → Act → Producers
 others_after v (Comes (Calls asked advice)) =
     if lacks_tickets v.calls.drawn (shares asked) then v.producers else called_on (may_call v.calls) asked v.producers
 others_after v (Does who Number) = numbered v.producers
+others_after v (Does who (OfMulti m ask)) = multi_asked v who m ask
 others_after v (Does who (Hold l n)) = holding (ticket_of who) l n v.producers
 others_after v (Answers who verdict) = producers_left who (producers_listed v.chosen who verdict.makes v.producers)
 others_after v _ = v.producers
@@ -611,6 +663,7 @@ abbrev pub after : Act → View → View
 after a v =
     record {
       chosen = v.chosen;
+      policies = v.policies;
       now = v.now;
       stand = λ w. stand_after a w (v.stand w);
       calls = calls_after a v.calls;

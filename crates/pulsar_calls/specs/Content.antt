@@ -37,12 +37,17 @@ pub data Asked : Type 0 where
   Lookup : (topic : List ℕ) → Asked
   Partitions : (topic : List ℕ) → Asked
   Brokers : (topic : List ℕ) → Asked
+  Post : (topic : List ℕ) (message : ProducerMessageValues) → Asked
   Producer : ProducerWanted → Asked
+  MultiProducer : ProducerWanted → Asked
   Send : (producer : ℕ) (message : ProducerMessageValues) → Asked
   SendAll : (producer : ℕ) (messages : List ProducerMessageValues) → Asked
   Flush : (producer : ℕ) → Asked
   CheckProducer : (producer : ℕ) → Asked
   CloseProducer : (producer : ℕ) → Asked
+  MultiSend : (producer : ℕ) (topic : List ℕ) (message : ProducerMessageValues) → Asked
+  MultiSendAll : (producer : ℕ) (topic : List ℕ) (messages : List ProducerMessageValues) → Asked
+  MultiClose : (producer : ℕ) (topic : List ℕ) → Asked
   Consumer : ConsumerWanted → Asked
   Ack : (consumer : ℕ) (topic : List ℕ) (id : Values message_id) (cumulative : Bool) → Asked
   Nack : (consumer : ℕ) (topic : List ℕ) (id : Values message_id) → Asked
@@ -95,12 +100,17 @@ asked (call.Topics namespace mode) = Topics (string_bytes namespace) mode
 asked (call.Lookup topic) = Lookup (string_bytes topic)
 asked (call.Partitions topic) = Partitions (string_bytes topic)
 asked (call.Brokers topic) = Brokers (string_bytes topic)
+asked (call.Post topic message) = Post (string_bytes topic) (message_content message)
 asked (call.Producer builder) = Producer (producer_wanted builder)
+asked (call.MultiProducer builder) = MultiProducer (producer_wanted builder)
 asked (call.Send producer message) = Send producer (message_content message)
 asked (call.SendAll producer messages) = SendAll producer (map message_content messages.items)
 asked (call.Flush producer) = Flush producer
 asked (call.CheckProducer producer) = CheckProducer producer
 asked (call.CloseProducer producer) = CloseProducer producer
+asked (call.MultiSend producer topic message) = MultiSend producer (string_bytes topic) (message_content message)
+asked (call.MultiSendAll producer topic messages) = MultiSendAll producer (string_bytes topic) (map message_content messages.items)
+asked (call.MultiClose producer topic) = MultiClose producer (string_bytes topic)
 asked (call.Consumer builder) = Consumer (consumer_wanted builder)
 asked (call.Ack consumer topic id cumulative) = Ack consumer (string_bytes topic) (message_id_values id) cumulative
 asked (call.Nack consumer topic id) = Nack consumer (string_bytes topic) (message_id_values id)
@@ -115,19 +125,24 @@ shares (Topics namespace mode) = 0
 shares (Lookup topic) = 0
 shares (Partitions topic) = 0
 shares (Brokers topic) = 0
+shares (Post topic message) = 0
 shares (Producer wanted) = 0
+shares (MultiProducer wanted) = 0
 shares (Send producer message) = 0
 shares (SendAll producer messages) = length messages
 shares (Flush producer) = 0
 shares (CheckProducer producer) = 0
 shares (CloseProducer producer) = 0
+shares (MultiSend producer topic message) = 0
+shares (MultiSendAll producer topic messages) = length messages
+shares (MultiClose producer topic) = 0
 shares (Consumer wanted) = 0
 shares (Ack consumer topic id cumulative) = 0
 shares (Nack consumer topic id) = 0
 shares (CloseConsumer consumer) = 0
 shares (Raw link words) = 0
 
--- the messages that a call sends, by the producer of a ticket
+-- The messages that a call sends by the producer of a ticket. Where a producer of many topics sends them it is not known yet by which.
 abbrev pub sent_by : Asked → Option (ℕ × List ProducerMessageValues)
 sent_by Build = None
 sent_by Stop = None
@@ -135,12 +150,17 @@ sent_by (Topics namespace mode) = None
 sent_by (Lookup topic) = None
 sent_by (Partitions topic) = None
 sent_by (Brokers topic) = None
+sent_by (Post topic message) = None
 sent_by (Producer wanted) = None
+sent_by (MultiProducer wanted) = None
 sent_by (Send producer message) = Some (producer, message ∷ [])
 sent_by (SendAll producer messages) = Some (producer, messages)
 sent_by (Flush producer) = None
 sent_by (CheckProducer producer) = None
 sent_by (CloseProducer producer) = None
+sent_by (MultiSend producer topic message) = None
+sent_by (MultiSendAll producer topic messages) = None
+sent_by (MultiClose producer topic) = None
 sent_by (Consumer wanted) = None
 sent_by (Ack consumer topic id cumulative) = None
 sent_by (Nack consumer topic id) = None

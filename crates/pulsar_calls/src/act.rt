@@ -1,16 +1,24 @@
 //! What a step is made of: acts, each one thing that happens. There are six kinds of act, and all that is special to a kind of
 //! call, thing or event stands one level below them.
 
+use crate::boxed::Boxed;
 use crate::content::{Advice, Asking, Granted, Joined, Made, Notices, Recalled, Remade, Said};
-use pulsar_addresses::content::{Address, Cause, Refusal as Failure};
+use pulsar_addresses::content::{Address, Cause, Refusal as Failure, Text};
 use pulsar_exchange::content::{Received, Request, Subscribed};
 use pulsar_incoming::orders::ConsumerOrder;
 use pulsar_outgoing::batch::Receipt;
-use pulsar_outgoing::content::{Entry, Numbers, Outgoing};
+use pulsar_outgoing::content::{Entry, Numbers, Outgoing, Settings};
+use pulsar_outgoing::multi_topic::{Multi, MultiAsk, MultiSaid, UserMessage};
 use pulsar_outgoing::orders::{Errand, ProducerOrder};
 use pulsar_searches::plan::Sought;
 use pulsar_searches::turn::Ways;
 use pulsar_wire::error::IoKind;
+
+/// What is asked of a producer of many topics, in a box.
+pub type ToMulti = Boxed<MultiAsk>;
+
+/// What a producer of many topics says to that, in a box.
+pub type FromMulti = Boxed<MultiSaid>;
 
 /// One that has a plan. A cause serves them in the order of their ranks.
 #[derive(Clone, Copy, PartialEq, Eq, PartialOrd, Ord)]
@@ -79,6 +87,8 @@ pub enum Outcome {
     Woken,
     /// What it asked of a topic producer, or of their numbers, is done, and gives this.
     Granted(Granted),
+    /// A producer of many topics says this to what it asked.
+    OfMulti(FromMulti),
     /// The send of this ticket, which is a part of it, was queued, or it failed so before.
     Parted {
         ticket: u64,
@@ -233,6 +243,24 @@ pub enum Procedure {
         producer: u64,
         numbers: Numbers,
     },
+    /// Make a producer of many topics, whose producers are made with this name and in this way.
+    MakeMulti {
+        name: Option<Text>,
+        settings: Settings,
+    },
+    /// Send a message to a topic by a producer of many topics, in its turn there.
+    MultiSend {
+        ways: Ways,
+        multi: Multi,
+        share: Option<Share>,
+        topic: Text,
+        message: UserMessage,
+    },
+    /// Close the producer that a producer of many topics has for a topic, in its turn there.
+    MultiClose {
+        multi: Multi,
+        topic: Text,
+    },
     /// Build a consumer.
     Subscribe {
         ways: Ways,
@@ -313,6 +341,8 @@ pub enum Action {
     Hold { link: u64, number: u64 },
     /// The producer of this ticket takes no sends from now on.
     Shut(u64),
+    /// Ask this of a producer of many topics.
+    OfMulti { multi: Multi, ask: ToMulti },
     /// Take this number for a new consumer, or draw one.
     TakeNumber(Option<u64>),
     /// Ask this of a consumer: of its own, unless the ask names another.
@@ -336,9 +366,17 @@ pub enum Makes {
     /// A consumer of one topic.
     Consumer(Joined),
     /// A consumer of a raw call to subscribe, on this link.
-    RawConsumer { link: u64, made: Subscribed },
+    RawConsumer {
+        link: u64,
+        made: Subscribed,
+    },
     /// A producer.
     Producer(Made),
+    /// A producer of many topics, whose producers are made with this name and in this way.
+    MultiProducer {
+        name: Option<Text>,
+        settings: Settings,
+    },
 }
 
 /// What a plan gives at its end.

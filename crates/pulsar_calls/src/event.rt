@@ -1,8 +1,9 @@
 //! What comes to a client.
 
-ghost use Rattle.std.specs.Prelude.{◌≡◌, IfOk, map};
+ghost use Rattle.std.specs.Prelude.{◌≡◌, IfOk, map, string_bytes};
 ghost use Rattle.pulsar_messages.specs.Content.{message_content};
-ghost use Rattle.pulsar_calls.specs.Content.{asked, heard};
+ghost use Rattle.pulsar_wire.specs.Views.{message_id_values};
+ghost use Rattle.pulsar_calls.specs.Content.{Ack, MultiSend, MultiSendAll, Nack, Post, asked, heard};
 
 use pulsar_exchange::raw_call::RawCall;
 use pulsar_incoming::builder::ConsumerBuilder;
@@ -36,8 +37,15 @@ pub enum Call {
     Brokers {
         topic: String,
     },
+    /// Sends a message to a topic by the client's own producer of many topics.
+    Post {
+        topic: String,
+        message: Message,
+    },
     /// Builds a producer.
     Producer(ProducerBuilder),
+    /// Makes a producer of many topics. The topic of the builder is not used.
+    MultiProducer(ProducerBuilder),
     /// Sends a message by the producer that the call of this ticket built. It ends with the receipt.
     Send {
         producer: u64,
@@ -59,6 +67,24 @@ pub enum Call {
     /// Closes a producer: it takes no sends from now on.
     CloseProducer {
         producer: u64,
+    },
+    /// Sends a message to a topic by the producer of many topics that the call of this ticket made. It builds the producer of the topic where
+    /// there is none, and ends with the receipt.
+    MultiSend {
+        producer: u64,
+        topic: String,
+        message: Message,
+    },
+    /// Sends messages to a topic one by one, each by a ticket of its own: the next ones. It ends once each was queued, or failed before.
+    MultiSendAll {
+        producer: u64,
+        topic: String,
+        messages: Vec<Message>,
+    },
+    /// Closes the producer that a producer of many topics has for a topic, where there is one.
+    MultiClose {
+        producer: u64,
+        topic: String,
     },
     /// Builds a consumer of one topic.
     Consumer(ConsumerBuilder),
@@ -128,7 +154,9 @@ impl Call {
             Call::Brokers { topic } => Ok(Call::Brokers {
                 topic: topic.clone()?,
             }),
+            Call::Post { topic, message } => post(topic, message),
             Call::Producer(builder) => Ok(Call::Producer(builder.copy()?)),
+            Call::MultiProducer(builder) => Ok(Call::MultiProducer(builder.copy()?)),
             Call::Send { producer, message } => Ok(Call::Send {
                 producer: *producer,
                 message: message.copy()?,
@@ -146,27 +174,32 @@ impl Call {
             Call::CloseProducer { producer } => Ok(Call::CloseProducer {
                 producer: *producer,
             }),
+            Call::MultiSend {
+                producer,
+                topic,
+                message,
+            } => multi_send(*producer, topic, message),
+            Call::MultiSendAll {
+                producer,
+                topic,
+                messages,
+            } => multi_send_all(*producer, topic, messages),
+            Call::MultiClose { producer, topic } => Ok(Call::MultiClose {
+                producer: *producer,
+                topic: topic.clone()?,
+            }),
             Call::Consumer(builder) => Ok(Call::Consumer(builder.copy()?)),
             Call::Ack {
                 consumer,
                 topic,
                 id,
                 cumulative,
-            } => Ok(Call::Ack {
-                consumer: *consumer,
-                topic: topic.clone()?,
-                id: id.copy()?,
-                cumulative: *cumulative,
-            }),
+            } => ack(*consumer, topic, id, *cumulative),
             Call::Nack {
                 consumer,
                 topic,
                 id,
-            } => Ok(Call::Nack {
-                consumer: *consumer,
-                topic: topic.clone()?,
-                id: id.copy()?,
-            }),
+            } => nack(*consumer, topic, id),
             Call::CloseConsumer { consumer } => Ok(Call::CloseConsumer {
                 consumer: *consumer,
             }),
@@ -176,6 +209,61 @@ impl Call {
             }),
         }
     }
+}
+
+fn post(topic: &String, message: &Message) -> Result<Call, NoMemory>
+    ensures { IfOk result (λ c. asked c ≡ Post (string_bytes topic.now) (message_content message.now)) }
+{
+    Ok(Call::Post {
+        topic: topic.clone()?,
+        message: message.copy()?,
+    })
+}
+
+fn multi_send(producer: u64, topic: &String, message: &Message) -> Result<Call, NoMemory>
+    ensures { IfOk result (λ c. asked c ≡ MultiSend producer (string_bytes topic.now) (message_content message.now)) }
+{
+    Ok(Call::MultiSend {
+        producer,
+        topic: topic.clone()?,
+        message: message.copy()?,
+    })
+}
+
+fn multi_send_all(producer: u64, topic: &String, messages: &Vec<Message>) -> Result<Call, NoMemory>
+    ensures { IfOk result (λ c. asked c ≡ MultiSendAll producer (string_bytes topic.now) (map message_content messages.now.items)) }
+{
+    Ok(Call::MultiSendAll {
+        producer,
+        topic: topic.clone()?,
+        messages: copy_all(messages)?,
+    })
+}
+
+fn ack(
+    consumer: u64,
+    topic: &String,
+    id: &MessageIdData,
+    cumulative: bool,
+) -> Result<Call, NoMemory>
+    ensures { IfOk result (λ c. asked c ≡ Ack consumer (string_bytes topic.now) (message_id_values id.now) cumulative) }
+{
+    Ok(Call::Ack {
+        consumer,
+        topic: topic.clone()?,
+        id: id.copy()?,
+        cumulative,
+    })
+}
+
+fn nack(consumer: u64, topic: &String, id: &MessageIdData) -> Result<Call, NoMemory>
+    ensures { IfOk result (λ c. asked c ≡ Nack consumer (string_bytes topic.now) (message_id_values id.now)) }
+{
+    Ok(Call::Nack {
+        consumer,
+        topic: topic.clone()?,
+        id: id.copy()?,
+    })
 }
 
 fn copy_all(messages: &Vec<Message>) -> Result<Vec<Message>, NoMemory>

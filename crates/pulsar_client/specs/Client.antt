@@ -1,15 +1,17 @@
 -- What a client stands for.
-use Rattle.std.specs.Prelude.{◌≡◌, ◌<◌, ℕ, true, false, List, map, string_bytes}
+use Rattle.std.specs.Prelude.{◌≡◌, ◌<◌, ℕ, true, false, List, ◌∷◌, map, string_bytes}
 use Rattle.std.specs.declared.alloc.Global.{Global}
 use Rattle.std.specs.declared.dyn_box.DynBox.{DynBox}
 use Rattle.pulsar_client.specs.declared.options.ClientOptions.{ClientOptions}
 use Rattle.pulsar_client.specs.declared.pulsar.Pulsar.{Pulsar}
 use Rattle.std.specs.Option.{option_map}
-use Rattle.pulsar_messages.specs.Content.{authentication_values}
+use Rattle.pulsar_messages.specs.Content.{authentication_values, message_content}
+use Rattle.pulsar_messages.specs.declared.producer_message.Message.{Message}
 use Rattle.pulsar_producer.specs.Routing.{Policy}
 use Rattle.pulsar_addresses.specs.Address.{base_in}
-use Rattle.pulsar_calls.specs.Content.{Heard}
-use Rattle.pulsar_acts.specs.Run.{Good, tickets_in, view}
+use Rattle.pulsar_calls.specs.declared.effect.Effect.{Effect}
+use Rattle.pulsar_calls.specs.Content.{Called, Heard, Post, shown}
+use Rattle.pulsar_acts.specs.Run.{Good, ticket_for, tickets_in, view}
 use Rattle.pulsar_calls.specs.Steps.{Step}
 use Rattle.pulsar_client.specs.History.{Stands}
 use Rattle.pulsar_client.specs.Taken.{held_but, held_in, is_in}
@@ -69,3 +71,13 @@ InEachRun routes c P = Always routes c (λ o h taken. (g : Good o h) → P (view
 abbrev pub IsDead : {X : Type 0} {d : X → Type 0} → (routes : DynBox X Global d → Policy) → Pulsar X d → Heard → Type 0
 IsDead routes c e =
     (o : Options) × (h : List Step) × (taken : List ℕ) × StandsFor routes o c h taken × ((g : Good o h) → is_live (view o g.log) e ≡ false)
+
+-- a message was posted to a topic: a step with that call, which has this ticket and these effects
+abbrev pub posted : (topic : List ℕ) → Message → List Effect → Step
+posted topic m effects = record { event = Called (Post topic (message_content m)); effects = map shown effects }
+
+abbrev pub IsPosted : {X : Type 0} {d : X → Type 0} → (routes : DynBox X Global d → Policy) → (before after : Pulsar X d) → (topic : List ℕ) → Message →
+    (ticket : ℕ) → List Effect → Type 0
+IsPosted routes before after topic m ticket effects =
+    Always routes before (λ o h taken. StandsFor routes o after (posted topic m effects ∷ h) taken
+    × (ticket ≡ ticket_for (Post topic (message_content m)) (tickets_in h)))

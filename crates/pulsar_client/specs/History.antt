@@ -9,16 +9,16 @@ use Rattle.pulsar_acts.specs.Run.{rules}
 use Rattle.pulsar_calls.specs.Steps.{Step}
 use Rattle.pulsar_agenda.specs.Agenda.{Agenda}
 use Rattle.pulsar_acts.specs.declared.tables.Tables.{Tables}
-use Rattle.pulsar_acts.specs.Tables.{view_of}
+use Rattle.pulsar_acts.specs.Tables.{view_of, with_policies}
 use Rattle.pulsar_machine.specs.Options.{Options}
 
 -- the tables stand for a history
 abbrev pub Stands : Options → Tables → List Step → Type 0
-Stands o c history = standing.Stands rules o (view_of c) history
+Stands o c history = standing.Stands rules o (with_policies o.policies (view_of c)) history
 
 -- inside a step: what is left to do, and the effects so far
 abbrev pub InStep : Options → Tables → Agenda → Heard → List Shown → List Step → Type 0
-InStep o c g event out history = standing.InStep rules o (view_of c) g event out history
+InStep o c g event out history = standing.InStep rules o (with_policies o.policies (view_of c)) g event out history
 
 -- a step of a history
 abbrev pub step : Event → List Effect → Step

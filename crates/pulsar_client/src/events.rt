@@ -108,10 +108,15 @@ fn advice(
         | Call::Lookup { .. }
         | Call::Partitions { .. }
         | Call::Brokers { .. }
+        | Call::Post { .. }
         | Call::Producer(_)
+        | Call::MultiProducer(_)
         | Call::Flush { .. }
         | Call::CheckProducer { .. }
         | Call::CloseProducer { .. }
+        | Call::MultiSend { .. }
+        | Call::MultiSendAll { .. }
+        | Call::MultiClose { .. }
         | Call::Consumer(_)
         | Call::Ack { .. }
         | Call::Nack { .. }

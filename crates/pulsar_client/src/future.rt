@@ -1,18 +1,21 @@
 //! A send that has been asked for.
 
-ghost use Rattle.std.specs.Prelude.{◌≡◌, ◌⊎◌, ℕ, List, MatchOption, MatchResult, Ok, Err};
+ghost use Rattle.std.specs.Prelude.{◌≡◌, ◌⊎◌, ℕ, List, IfOk, IsErr, MatchOption, MatchResult, Ok, Err};
 ghost use Rattle.pulsar_wire.specs.Failures.{failure};
 ghost use Rattle.pulsar_outgoing.specs.Errors.{IsNoMemory};
 ghost use Rattle.pulsar_calls.specs.Steps.{Step};
-ghost use Rattle.pulsar_client.specs.Client.{Always, StandsFor};
+ghost use Rattle.pulsar_client.specs.Client.{Always, HasFailed, IsPosted, StandsFor, options_of};
 ghost use Rattle.pulsar_calls.specs.Content.{answered, said};
 ghost use Rattle.pulsar_client.specs.Taken.{IsPolled, IsTaken, is_lost, poll_said, polled_answer, taken_with};
 
 use crate::answers::Taken;
 use crate::pulsar::Pulsar;
-use pulsar_calls::effect::Answer;
+use pulsar_calls::effect::{Answer, Effect};
+use pulsar_calls::event::Call;
+use pulsar_messages::Message;
+use pulsar_messages::serialize::SerializeMessage;
 use pulsar_wire::commands::producer::CommandSendReceipt;
-use pulsar_wire::error::{ConnectionError, Error, ProducerError};
+use pulsar_wire::error::{ConnectionError, Error, NoMemory, ProducerError};
 use std::alloc::Global;
 
 /// A send that has been asked for, by its ticket.
@@ -31,6 +34,43 @@ impl SendFuture {
     {
         let taken = client.take_answer(self.ticket);
         told(client.allocator(), taken)
+    }
+}
+
+impl Pulsar {
+    /// A message is sent to a topic by the client's own producer of many topics: a step with that call. It fails where its content can't be
+    /// sent, which changes nothing, and for want of memory.
+    pub fn send<M: SerializeMessage>(
+        &mut self,
+        topic: &str,
+        message: M,
+    ) -> Result<(SendFuture, Vec<Effect>), Error>
+        ensures sent { MatchResult result
+            (λ r. (m : Message) × M.serializes message (Ok m) × IsPosted (λ p. routes p) self.old self.new topic.now m r.0.ticket r.1.items)
+            (λ e. (M.serializes message (Err e) × (self.new ≡ self.old)) ⊎ IsNoMemory (failure e)) }
+        ensures stays { HasFailed self.old → IsErr result × HasFailed self.new }
+        ensures options { options_of self.new ≡ options_of self.old }
+    {
+        let message = M::serialize_message(self.allocator(), message)?;
+        match self.posts(topic, message) {
+            Ok(sent) => Ok(sent),
+            Err(NoMemory) => Err(Error::Connection(ConnectionError::NoMemory)),
+        }
+    }
+
+    /// The same of a message.
+    fn posts(
+        &mut self,
+        topic: &str,
+        message: Message,
+    ) -> Result<(SendFuture, Vec<Effect>), NoMemory>
+        ensures sent { IfOk result (λ r. IsPosted (λ p. routes p) self.old self.new topic.now message r.0.ticket r.1.items) }
+        ensures stays { HasFailed self.old → IsErr result × HasFailed self.new }
+        ensures options { options_of self.new ≡ options_of self.old }
+    {
+        let topic = String::from_str(self.allocator(), topic)?;
+        let (ticket, effects) = self.submit(Call::Post { topic, message })?;
+        Ok((SendFuture { ticket }, effects))
     }
 }
 

@@ -12,6 +12,7 @@ ghost use Rattle.std.specs.Option.{option_copied, option_map};
 ghost use Rattle.pulsar_outgoing.specs.Wanted.{no_producer, producer_wanted};
 ghost use Rattle.pulsar_incoming.specs.Content.{consumer_wanted, no_consumer};
 ghost use Rattle.pulsar_consumer_table.specs.Consumers.{built_at};
+ghost use Rattle.pulsar_producer_table.specs.Multis.{at};
 ghost use Rattle.pulsar_client.specs.Client as meaning;
 ghost use Rattle.pulsar_client.specs.Client.{Always, HasFailed, InEachRun, IsDead, StandsFor, options_of};
 ghost use Rattle.pulsar_client.specs.Taken.{IsTaken, taken_with};
@@ -25,7 +26,9 @@ use pulsar_calls::effect::Effect;
 use pulsar_calls::event::{Call, Event};
 use pulsar_consumer::consumer::Consumer;
 use pulsar_incoming::builder::ConsumerBuilder;
+use pulsar_outgoing::multi_topic::Multi;
 use pulsar_outgoing::producer_builder::ProducerBuilder;
+use pulsar_producer::MultiTopicProducer;
 use pulsar_producer::producer::Producer;
 use pulsar_session::states::Stage;
 use pulsar_wire::error::NoMemory;
@@ -61,7 +64,7 @@ impl Pulsar {
         let settings = options.settings(alloc)?;
         Ok(Pulsar {
             options,
-            tables: Tables::new(alloc, settings),
+            tables: Tables::new(alloc, settings)?,
             answers: Answers::new(alloc),
             failed: false,
         })
@@ -138,6 +141,13 @@ impl Pulsar {
         ensures { InEachRun (λ p. routes p) self.now (λ v. option_copied result ≡ v.producers.built ticket) }
     {
         self.tables.producers.built.get(&ticket)
+    }
+
+    /// The producer of many topics that the call of this ticket made.
+    pub fn multi_producer_at(&self, ticket: u64) -> Option<&MultiTopicProducer>
+        ensures { InEachRun (λ p. routes p) self.now (λ v. option_copied result ≡ at (Multi.Made ticket) v.producers.multis) }
+    {
+        self.tables.producers.multis.at(Multi::Made(ticket))
     }
 
     /// A consumer that is to be built.

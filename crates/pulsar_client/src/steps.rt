@@ -36,21 +36,26 @@ pub fn step(
     let mut out = Vec::with_capacity(tables.alloc, 2)?;
     let parts = begins(tables, event, policies)?;
     let mut tasks = Tasks::new(tables.alloc, parts);
-    work(tables, &mut tasks, &mut out)?;
+    work(tables, policies, &mut tasks, &mut out)?;
     arrange(&mut out)?;
     Ok(out)
 }
 
 /// Does all that is left to do, and all that arises from it.
-fn work(tables: &mut Tables, tasks: &mut Tasks, out: &mut Vec<Effect>) -> Result<(), NoMemory>
-    ensures stands { OnOk result ((o : Options) (e : Heard) (h : List Step) → InStep o tables.old (agenda_of tasks.old) e (map shown out.old.items) h
+fn work(
+    tables: &mut Tables,
+    policies: &[Box<dyn CustomRoutingPolicy>],
+    tasks: &mut Tasks,
+    out: &mut Vec<Effect>,
+) -> Result<(), NoMemory>
+    ensures stands { OnOk result ((o : Options) (e : Heard) (h : List Step) → o.policies ≡ map (λ p. routes p) policies.now → InStep o tables.old (agenda_of tasks.old) e (map shown out.old.items) h
         → Stands o tables.new (record { event = e; effects = arranged effect_below (map shown out.new.items) } ∷ h)) }
     ensures settings { tables.new.settings ≡ tables.old.settings }
 {
     for _ in 0..u64::MAX {
         match tasks.next() {
             None => return Ok(()),
-            Some(act) => tables.treat(act, tasks, out)?,
+            Some(act) => tables.treat(act, policies, tasks, out)?,
         }
     }
     Err(NoMemory)

@@ -4,7 +4,7 @@ use Rattle.std.specs.List.{slice_split}
 use Rattle.std.specs.Str.{bytes_eq}
 use Rattle.pulsar_wire.specs.Field.{◌>>=◌}
 use Rattle.pulsar_messages.specs.Content.{AuthenticationValues}
-use Rattle.pulsar_calls.specs.Content.{Asked, Build, Stop, Topics, Lookup, Partitions, Brokers, Producer, Send, SendAll, Flush, CheckProducer, CloseProducer, Consumer, Ack, Nack, CloseConsumer, Raw, Heard, Called, Opened, FailedToOpen, Bytes, Lost, Drain, Ticked, Poll}
+use Rattle.pulsar_calls.specs.Content.{Asked, Build, Stop, Topics, Lookup, Partitions, Brokers, Post, Producer, MultiProducer, Send, SendAll, Flush, CheckProducer, CloseProducer, MultiSend, MultiSendAll, MultiClose, Consumer, Ack, Nack, CloseConsumer, Raw, Heard, Called, Opened, FailedToOpen, Bytes, Lost, Drain, Ticked, Poll}
 use Rattle.pulsar_grammar.specs.Words.{words, number, text, hex}
 use Rattle.pulsar_grammar.specs.Choices.{kind, mode}
 use Rattle.pulsar_grammar.specs.ConsumerWords.{consumer}
@@ -91,6 +91,50 @@ check_producer ws = ticket ws >>= λ t. Some (CheckProducer t)
 abbrev pub close_producer : List (List ℕ) → Option Asked
 close_producer ws = ticket ws >>= λ t. Some (CloseProducer t)
 
+-- call post TOPIC MESSAGE
+abbrev pub post : List (List ℕ) → Option Asked
+post [] = None
+post (t ∷ ws) = do
+  topic ← text t
+  message ← message ws
+  Some (Post topic message)
+
+-- call multi-producer ..
+abbrev pub multi_builds : List (List ℕ) → Option Asked
+multi_builds ws = producer ws >>= λ p. Some (MultiProducer p)
+
+-- call multi-send TICKET TOPIC MESSAGE
+abbrev pub multi_send_by : (producer : ℕ) → List (List ℕ) → Option Asked
+multi_send_by producer [] = None
+multi_send_by producer (t ∷ ws) = do
+  topic ← text t
+  message ← message ws
+  Some (MultiSend producer topic message)
+
+abbrev pub multi_send : List (List ℕ) → Option Asked
+multi_send [] = None
+multi_send (n ∷ ws) = number n >>= λ producer. multi_send_by producer ws
+
+-- call multi-send-all TICKET TOPIC MESSAGE / MESSAGE ..
+abbrev pub multi_send_all_by : (producer : ℕ) → List (List ℕ) → Option Asked
+multi_send_all_by producer [] = None
+multi_send_all_by producer (t ∷ ws) = do
+  topic ← text t
+  messages ← messages ws
+  Some (MultiSendAll producer topic messages)
+
+abbrev pub multi_send_all : List (List ℕ) → Option Asked
+multi_send_all [] = None
+multi_send_all (n ∷ ws) = number n >>= λ producer. multi_send_all_by producer ws
+
+-- call multi-close TICKET TOPIC
+abbrev pub multi_close : List (List ℕ) → Option Asked
+multi_close (n ∷ t ∷ []) = do
+  producer ← number n
+  topic ← text t
+  Some (MultiClose producer topic)
+multi_close _ = None
+
 -- call consumer ..
 abbrev pub consumes : List (List ℕ) → Option Asked
 consumes ws = consumer ws >>= λ c. Some (Consumer c)
@@ -127,6 +171,16 @@ consumer_call w ws =
     else if bytes_eq w (codes "close") then close ws
     else None
 
+-- a word that belongs to a producer of many topics, or to a consumer
+abbrev pub multi_call : (word : List ℕ) → List (List ℕ) → Option Asked
+multi_call w ws =
+    if bytes_eq w (codes "post") then post ws
+    else if bytes_eq w (codes "multi-producer") then multi_builds ws
+    else if bytes_eq w (codes "multi-send") then multi_send ws
+    else if bytes_eq w (codes "multi-send-all") then multi_send_all ws
+    else if bytes_eq w (codes "multi-close") then multi_close ws
+    else consumer_call w ws
+
 -- a word that belongs to a producer, or to a consumer
 abbrev pub member_call : (word : List ℕ) → List (List ℕ) → Option Asked
 member_call w ws =
@@ -136,7 +190,7 @@ member_call w ws =
     else if bytes_eq w (codes "flush") then flush ws
     else if bytes_eq w (codes "check-producer") then check_producer ws
     else if bytes_eq w (codes "close-producer") then close_producer ws
-    else consumer_call w ws
+    else multi_call w ws
 
 -- what stands behind `call`
 abbrev pub call : List (List ℕ) → Option Asked

@@ -6,6 +6,7 @@ pub mod consumer;
 pub mod encoded;
 pub mod line;
 pub mod message;
+pub mod multi;
 pub mod producer;
 pub mod raw;
 pub mod setting;

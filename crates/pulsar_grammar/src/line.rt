@@ -10,6 +10,7 @@ use crate::choice::{kind, mode};
 use crate::consumer::consumer;
 use crate::encoded::id;
 use crate::message::{message, messages};
+use crate::multi::multi_call;
 use crate::producer::producer;
 use crate::raw::raw_call;
 use crate::setting::{Setting, set};
@@ -220,12 +221,16 @@ fn member_call(alloc: Global, word: &[u8], words: &[&[u8]]) -> Result<Option<Cal
     } else if is(word, "close-producer") {
         Ok(close_producer(words))
     } else {
-        consumer_call(alloc, word, words)
+        multi_call(alloc, word, words)
     }
 }
 
 /// A word that belongs to a consumer, and what follows it.
-fn consumer_call(alloc: Global, word: &[u8], words: &[&[u8]]) -> Result<Option<Call>, NoMemory>
+pub(crate) fn consumer_call(
+    alloc: Global,
+    word: &[u8],
+    words: &[&[u8]],
+) -> Result<Option<Call>, NoMemory>
     ensures { IfOk result (λ c. option_map asked c ≡ consumer_call word.now (map (λ w. w.now) words.now)) }
 {
     if is(word, "consumer") {

@@ -12,11 +12,11 @@ use Rattle.pulsar_exchange.specs.Messages.{Reply, Written, is_body}
 use Rattle.pulsar_exchange.specs.Refusals.{refused}
 use Rattle.pulsar_exchange.specs.Request.{Subscribed, answer_of, is_answered, request_number, subscribed}
 use Rattle.pulsar_calls.specs.declared.act.Action.{Action}
-use Rattle.pulsar_calls.specs.declared.act.Action.TheVariants.{OfTopic, Get, Ask, Wait, Number, Hold, Shut, TakeNumber, OfConsumer, Tell, TellAll, StopAll, Rest}
+use Rattle.pulsar_calls.specs.declared.act.Action.TheVariants.{OfTopic, OfMulti, Get, Ask, Wait, Number, Hold, Shut, TakeNumber, OfConsumer, Tell, TellAll, StopAll, Rest}
 use Rattle.pulsar_calls.specs.declared.act.TopicAsk.TheVariants.{TakeTurn, PassTurn, Draw, Recall, Remake, Find, Store, Flush, TakeBatch}
 use Rattle.pulsar_calls.specs.declared.act.ConsumerAsk.TheVariants as consumer_ask
 use Rattle.pulsar_calls.specs.declared.act.Makes.{Makes}
-use Rattle.pulsar_calls.specs.declared.act.Makes.TheVariants.{Nothing, Client, Consumer, RawConsumer, Producer}
+use Rattle.pulsar_calls.specs.declared.act.Makes.TheVariants.{Nothing, Client, Consumer, RawConsumer, Producer, MultiProducer}
 use Rattle.pulsar_calls.specs.declared.act.Round.{Round}
 use Rattle.pulsar_calls.specs.declared.act.Notice.{Notice}
 use Rattle.pulsar_calls.specs.declared.act.Round.TheVariants.{Checks, Flushes, Closes}
@@ -38,7 +38,7 @@ use Rattle.pulsar_calls.specs.declared.act.Word.TheVariants as word
 use Rattle.pulsar_plans.specs.declared.plan.Plan.{Plan}
 use Rattle.pulsar_plans.specs.declared.plan.At.{At as Stage}
 use Rattle.pulsar_plans.specs.declared.plan.At.TheVariants as at
-use Rattle.pulsar_plans.specs.declared.plan.Plan.TheVariants.{Building, Getting, Asking, Awaiting, Searching, Producing, Sending, Reporting, Storing, Stored, Batching, Leaving, Gathering, Shutting, Visiting, Subscribing, Serving, Acknowledging, Departing, Stopping}
+use Rattle.pulsar_plans.specs.declared.plan.Plan.TheVariants.{Building, Getting, Asking, Awaiting, Searching, Producing, Sending, Reporting, Storing, Stored, Batching, Leaving, Gathering, Shutting, Visiting, MultiSending, MultiClosing, Subscribing, Serving, Acknowledging, Departing, Stopping}
 use Rattle.pulsar_plans.specs.declared.service.Service.{Service}
 use Rattle.pulsar_plans.specs.declared.service.Service.TheVariants as service
 use Rattle.pulsar_plans.specs.declared.states.Resubscribing.{Resubscribing}
@@ -68,6 +68,7 @@ use Rattle.pulsar_wire.specs.Row.{Values, spelling}
 use Rattle.pulsar_wire.specs.Rows.{send_receipt}
 use Rattle.pulsar_producer.specs.Batching as batches
 use Rattle.pulsar_producer.specs.Batching.{is_sent_send}
+use Rattle.pulsar_producer.specs.MultiPlans as multi
 use Rattle.pulsar_producer.specs.Plans as produce
 use Rattle.pulsar_producer.specs.Plans.{fault_told}
 use Rattle.pulsar_outgoing.specs.declared.batch.Fate.{Fate}
@@ -81,6 +82,15 @@ use Rattle.pulsar_outgoing.specs.declared.content.Built.{Built}
 use Rattle.pulsar_producer.specs.declared.deed.Deed.{Deed}
 use Rattle.pulsar_producer.specs.declared.deed.Deed.TheVariants as deed
 use Rattle.pulsar_producer.specs.News.{News as Granting}
+use Rattle.pulsar_producer.specs.declared.multi_topic.closing.MultiClosing.{MultiClosing as MultiClose}
+use Rattle.pulsar_producer.specs.declared.multi_topic.deed.MultiDeed.{MultiDeed}
+use Rattle.pulsar_producer.specs.declared.multi_topic.deed.MultiDeed.TheVariants.{Asks, Does}
+use Rattle.pulsar_producer.specs.declared.multi_topic.deed.MultiNews.{MultiNews}
+use Rattle.pulsar_producer.specs.declared.multi_topic.deed.MultiNews.TheVariants as multi_news
+use Rattle.pulsar_producer.specs.declared.multi_topic.sending.MultiSending.{MultiSending as MultiSend}
+use Rattle.pulsar_outgoing.specs.declared.multi_topic.Dispatch.{Dispatch}
+use Rattle.pulsar_outgoing.specs.declared.multi_topic.Dispatch.TheVariants as dispatch
+use Rattle.pulsar_outgoing.specs.declared.multi_topic.Multi.{Multi}
 use Rattle.pulsar_outgoing.specs.declared.news.News.TheVariants as granting
 use Rattle.pulsar_outgoing.specs.declared.orders.Errand.{Errand}
 use Rattle.pulsar_producer.specs.declared.sending.Sending.{Sending as Send}
@@ -167,6 +177,7 @@ fault_of outcome.TimedOut = Io io_kind.TimedOut
 fault_of outcome.Disconnected = Disconnected
 fault_of Woken = Disconnected
 fault_of (Granted n) = fault_told n
+fault_of (outcome.OfMulti said) = Disconnected
 fault_of (Parted ticket f) = Disconnected
 fault_of (Settled f) = Disconnected
 fault_of (Hears w) = Disconnected
@@ -336,6 +347,7 @@ overrides outcome.TimedOut = false
 overrides outcome.Disconnected = false
 overrides Woken = false
 overrides (Granted n) = false
+overrides (outcome.OfMulti said) = false
 overrides (Parted ticket f) = false
 overrides (Settled f) = false
 overrides (Hears w) = false
@@ -457,6 +469,43 @@ told_at r n left at.Finding o = in_finding r n left o
 told_at r n left at.Asking o = in_asking r n left o
 told_at r n left at.Passing o = in_passing r n left o
 told_at r n left at.Awaiting o = in_awaiting r n left o
+
+-- SENDS AND CLOSES BY A PRODUCER OF MANY TOPICS are machines of pulsar_producer, along the same outcomes.
+
+-- what one does there
+abbrev pub multi_action_of : Multi → MultiDeed → Action
+multi_action_of m (Asks ask) = OfMulti m ask
+multi_action_of m (Does d) = action_of d
+
+-- what it is told
+abbrev pub multi_news_of : Outcome → MultiNews
+multi_news_of (outcome.OfMulti said) = multi_news.Said said
+multi_news_of o = multi_news.Told (news_of o)
+
+-- A message that is handed on is sent, or stored, as any other.
+abbrev pub dispatches : Ways → Option Share → Result Dispatch Failure → PlanTransition
+dispatches w share (Ok (dispatch.Send e m)) = goes_on_sending w e share (produce.send_begins e m)
+dispatches w share (Ok (dispatch.Store n e)) = Stays (Storing share) (OfTopic n (Store e))
+dispatches w share (Err f) = leaves share f
+
+abbrev pub multi_sends : Ways → Multi → Option Share → multi.Dispatches → PlanTransition
+multi_sends w m share (Stays s d) = Stays (MultiSending w m share s) (multi_action_of m d)
+multi_sends w m share (Gives given) = dispatches w share given
+
+-- the stop of the client overrides it
+abbrev pub told_multi_send : Ways → Multi → Option Share → MultiSend → Outcome → PlanTransition
+told_multi_send w m share s o =
+    if overrides o then halted share o else multi_sends w m share (multi.multi_send_told w s (multi_news_of o))
+
+-- Where a producer of the topic was removed, its topic producers are closed as those of any other: in their turns, and once all that they
+-- store is settled.
+abbrev pub multi_closes : Multi → multi.Closes → PlanTransition
+multi_closes m (Stays s d) = Stays (MultiClosing m s) (multi_action_of m d)
+multi_closes m (Gives (Ok numbers)) = goes_round Closes numbers
+multi_closes m (Gives (Err f)) = fails_with f
+
+abbrev pub told_multi_close : Multi → MultiClose → Outcome → PlanTransition
+told_multi_close m s o = if overrides o then Gives (fails (fault_of o)) else multi_closes m (multi.close_told s (multi_news_of o))
 
 -- CONSUMERS. Their plans are machines of pulsar_consumer, along the same outcomes. What is to be known of a consumer is told at once.
 
@@ -621,6 +670,9 @@ begins (procedure.FailShare share r) = leaves (Some share) (failure_of r)
 begins (procedure.Gather first count) = gathers first count count []
 begins (procedure.Go round numbers) = goes_round round numbers
 begins (procedure.Close ticket numbers) = Stays (Shutting numbers) (Shut ticket)
+begins (procedure.MakeMulti name settings) = Gives (verdict (MultiProducer name settings) Done)
+begins (procedure.MultiSend ways m share topic message) = multi_sends ways m share (multi.send_begins topic message)
+begins (procedure.MultiClose m topic) = multi_closes m (multi.close_begins topic)
 begins (procedure.Subscribe ways order) = subscribes ways order (consume.build_begins ways order)
 begins (procedure.Serve ways number) = stays_so ways number service.Resting
 begins (procedure.Acknowledge link request) = acknowledges link request
@@ -655,6 +707,8 @@ told (Gathering first count left failures) o = Gives (fails (fault_of o))
 told (Shutting numbers) (Granted granting.Done) = goes_round Closes numbers
 told (Shutting numbers) o = Gives (fails (fault_of o))
 told (Visiting r n left x) o = if overrides o then Gives (fails (fault_of o)) else told_at r n left x o
+told (MultiSending w m share s) o = told_multi_send w m share s o
+told (MultiClosing m s) o = told_multi_close m s o
 told (Subscribing w order b) o = told_subscribing w order b o
 told (Serving w n s) o = told_serving w n s o
 told Acknowledging o = is_over

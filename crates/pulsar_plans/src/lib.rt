@@ -5,6 +5,7 @@ pub mod answers;
 pub mod batches;
 pub mod departing;
 pub mod gathering;
+pub mod multi;
 pub mod plan;
 pub mod producing;
 pub mod search;

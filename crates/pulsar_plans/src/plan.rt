@@ -6,9 +6,9 @@ ghost use Rattle.pulsar_plans.specs.Plan.{asks, begins, failure_of, fails, fails
 ghost use Rattle.pulsar_calls.specs.Content.{Done, Failed};
 
 use crate::service::Service;
-use crate::states::{BatchState, BuildState, ConsumerState, SearchState, SendState};
+use crate::states::{BatchState, BuildState, ConsumerState, MultiState, SearchState, SendState};
 use crate::{
-    answers, batches, departing, gathering, producing, search, sends, serving, subscribing,
+    answers, batches, departing, gathering, multi, producing, search, sends, serving, subscribing,
     visiting,
 };
 use pulsar_addresses::content::Refusal as Failure;
@@ -20,8 +20,10 @@ use pulsar_calls::effect::Answer;
 use pulsar_exchange::content::{Received, Request, Subscribed};
 use pulsar_incoming::orders::ConsumerOrder;
 use pulsar_outgoing::content::Numbers;
+use pulsar_outgoing::multi_topic::Multi;
 use pulsar_outgoing::orders::{Errand, ProducerOrder};
 use pulsar_producer::deed;
+use pulsar_producer::multi_topic::closing::MultiClosing;
 use pulsar_searches::transition::Transition;
 use pulsar_searches::turn::{SearchTransition, Ways};
 use pulsar_wire::error::{
@@ -102,6 +104,18 @@ pub enum Plan {
         number: u64,
         left: Numbers,
         at: At,
+    },
+    /// It sends a message by a producer of many topics, and has not handed it on. Where it is a part of another call, that is told.
+    MultiSending {
+        ways: Ways,
+        multi: Multi,
+        share: Option<Share>,
+        sending: MultiState,
+    },
+    /// It removes the producer of a topic from a producer of many topics.
+    MultiClosing {
+        multi: Multi,
+        closing: MultiClosing,
     },
     /// It builds a consumer.
     Subscribing {
@@ -188,6 +202,17 @@ pub fn begins(alloc: Global, procedure: Procedure) -> Result<PlanTransition, NoM
             Plan::Shutting(numbers),
             Action::Shut(producer),
         )),
+        Procedure::MakeMulti { name, settings } => {
+            done(alloc, Makes::MultiProducer { name, settings })
+        }
+        Procedure::MultiSend {
+            ways,
+            multi,
+            share,
+            topic,
+            message,
+        } => multi::sends(alloc, ways, multi, share, topic, message),
+        Procedure::MultiClose { multi, topic } => multi::closes(alloc, multi, topic),
         Procedure::Subscribe { ways, order } => subscribing::begins(alloc, ways, order),
         Procedure::Serve { ways, number } => Ok(serving::begins(ways, number)),
         Procedure::Acknowledge { link, request } => departing::acknowledges(alloc, link, request),
@@ -239,6 +264,15 @@ pub fn told(alloc: Global, plan: Plan, outcome: Outcome) -> Result<PlanTransitio
             left,
             at,
         } => visiting::told(alloc, round, number, left, at, outcome),
+        Plan::MultiSending {
+            ways,
+            multi,
+            share,
+            sending,
+        } => multi::sending_told(alloc, ways, multi, share, sending, outcome),
+        Plan::MultiClosing { multi, closing } => multi::closing_told(
+            alloc, multi, closing, outcome,
+        ),
         Plan::Subscribing {
             ways,
             order,
@@ -480,6 +514,7 @@ pub fn overrides(outcome: &Outcome) -> bool
         | Outcome::Disconnected
         | Outcome::Woken
         | Outcome::Granted(_)
+        | Outcome::OfMulti(_)
         | Outcome::Parted { .. }
         | Outcome::Settled(_)
         | Outcome::Word(_) => false,
@@ -503,6 +538,7 @@ pub fn error_of(outcome: Outcome) -> ConnectionError
         | Outcome::InLine
         | Outcome::Replied(_)
         | Outcome::Woken
+        | Outcome::OfMulti(_)
         | Outcome::Parted { .. }
         | Outcome::Settled(_)
         | Outcome::Word(_)

@@ -173,7 +173,11 @@ pub fn leaves(
 }
 
 /// The client is stopped before it is queued, and so is the call that it is a part of.
-fn halted(alloc: Global, share: Option<Share>, outcome: Outcome) -> Result<PlanTransition, NoMemory>
+pub fn halted(
+    alloc: Global,
+    share: Option<Share>,
+    outcome: Outcome,
+) -> Result<PlanTransition, NoMemory>
     ensures { IfOk result (λ turn. turn ≡ halted share outcome) }
 {
     let refusal = Refusal::in_connection(alloc, error_of(outcome))?;

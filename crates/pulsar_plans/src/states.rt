@@ -5,6 +5,7 @@ use pulsar_consumer::building::BuildingConsumer;
 use pulsar_consumer::resuming::Resuming;
 use pulsar_producer::batching::Batching;
 use pulsar_producer::building::BuildingProducer;
+use pulsar_producer::multi_topic::sending::MultiSending;
 use pulsar_producer::sending::Sending;
 use pulsar_searches::making::Command;
 use pulsar_searches::plan::SearchPlan;
@@ -20,6 +21,9 @@ pub type SendState = Boxed<Sending>;
 
 /// Where the batches of a topic producer stand.
 pub type BatchState = Boxed<Batching>;
+
+/// Where a send by a producer of many topics stands.
+pub type MultiState = Boxed<MultiSending>;
 
 /// Where the building of a consumer stands.
 pub type ConsumerState = Boxed<BuildingConsumer>;

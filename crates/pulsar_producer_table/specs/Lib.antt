@@ -1,7 +1,9 @@
 pub mod Takers
-pub mod Producers
+pub mod Partitions
 pub mod Multis
+pub mod Producers
 pub mod Notices
-pub mod KeptProducers
 pub mod KeptMultis
+pub mod KeptProducers
 pub mod Asks
+pub mod MultiAsks

@@ -1,4 +1,4 @@
--- The producers of many topics of a client: what is seen of them, what becomes of that, and what is asked of them.
+-- The producers of many topics of a client: what is seen of them, and what becomes of that.
 -- (Apache Pulsar, Concepts, Producers)
 use Rattle.std.specs.Prelude.{ℕ, ◌==◌, Bool, if◌then◌else◌, List, [], ◌∷◌, ◌++◌, length, map, Option, Some, None}
 use Rattle.std.specs.BTreeMap.{insert_entry}
@@ -21,7 +21,7 @@ use Rattle.pulsar_outgoing.specs.declared.multi_topic.MultiAsk.TheVariants as as
 use Rattle.pulsar_outgoing.specs.declared.multi_topic.Multi.{Multi}
 use Rattle.pulsar_outgoing.specs.declared.multi_topic.Multi.TheVariants.{Own, Made}
 use Rattle.pulsar_outgoing.specs.declared.multi_topic.Taker.{Taker}
-use Rattle.pulsar_producer_table.specs.Producers.{numbers_at, partition_of}
+use Rattle.pulsar_producer_table.specs.Partitions.{numbers_at, partition_of}
 
 -- the client's own, of default options, and by the tickets of the calls that made them all others
 pub record Multis : Type 0 where
@@ -53,23 +53,14 @@ abbrev pub changed : Multi → Act → Multis → Multis
 changed Own act ms = record ms { own = multi.after act ms.own }
 changed (Made t) act ms = record ms { made = made_changed t act ms.made }
 
--- WHAT IS ASKED OF ONE
-
 -- the producer of a topic that was built: it begins behind an index that is drawn for the one who built it
 abbrev pub joining : (seed ticket : ℕ) → Joining → Option producer.Seen
 joining seed t j = made j.topic j.settings (map partition_of j.parts) (first_index seed t (length j.parts))
 
--- the act on it, where that is one: who takes its turn is one who uses such producers
-abbrev pub act_of : (seed ticket : ℕ) → Option Taker → MultiAsk → Option Act
-act_of seed t taker ask.TakeTurn = option_map Takes taker
-act_of seed t taker ask.PassTurn = Some Passes
-act_of seed t taker (ask.Hand h) = Some (Hands h.topic h.message)
-act_of seed t taker (ask.Join j) = option_map (Joins j.topic) (joining seed t j)
-act_of seed t taker (ask.Remove topic) = Some (Removes topic)
-
-abbrev pub changed_by : Multi → Option Act → Multis → Multis
-changed_by m None ms = ms
-changed_by m (Some act) ms = changed m act ms
+-- and several acts, the newest first
+abbrev pub all_changed : Multi → List Act → Multis → Multis
+all_changed m [] ms = ms
+all_changed m (act ∷ acts) ms = changed m act (all_changed m acts ms)
 
 -- the topic producers of a topic, by their numbers in order
 abbrev pub found_in : (topic : List ℕ) → Option multi.Seen → Option producer.Seen
@@ -83,18 +74,6 @@ topic_numbers t row = numbers_at (found_in t row)
 abbrev pub advice_at : List Policy → Handing → Option multi.Seen → Option ℕ
 advice_at policies h None = None
 advice_at policies h (Some s) = multi.advice policies h.topic h.message s
-
--- What it says at once. The turn it gives only where that is free, and to one who uses such producers.
-abbrev pub turn_said : (is_free : Bool) → Option Taker → List MultiSaid
-turn_said is_free None = []
-turn_said is_free (Some t) = if is_free then HasTurn ∷ [] else []
-
-abbrev pub says : List Policy → Option Taker → MultiAsk → multi.Seen → List MultiSaid
-says policies taker ask.TakeTurn s = turn_said (is_free s) taker
-says policies taker ask.PassTurn s = Done ∷ []
-says policies taker (ask.Hand h) s = handed (multi.advice policies h.topic h.message s) h s ∷ []
-says policies taker (ask.Join j) s = Done ∷ []
-says policies taker (ask.Remove topic) s = Removed (topic_numbers topic (Some s)) ∷ []
 
 -- who has the turn once it is passed on
 abbrev pub next_on : Option multi.Seen → Option Taker

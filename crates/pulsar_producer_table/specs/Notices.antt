@@ -13,10 +13,10 @@ use Rattle.pulsar_producer_table.specs.Takers.{who_of}
 abbrev pub stopped_call : (ticket : ℕ) → Notice
 stopped_call t = notice (Call t) outcome.Stopped
 
--- those that wait for a turn, and those whose messages are not under way
-abbrev pub stopped_all : Producers → List Notice
-stopped_all ps = map stopped_one (waiting ps) ++ map stopped_call (unsent ps)
-
 -- those that wait for the turn of a producer of many topics
 abbrev pub stopped_takers : Multis → List Notice
 stopped_takers ms = map stopped_one (map who_of (multi.waiting ms))
+
+-- those that wait for a turn, those whose messages are not under way, and those that wait to hand theirs to a producer of many topics
+abbrev pub stopped_all : Producers → List Notice
+stopped_all ps = (map stopped_one (waiting ps) ++ map stopped_call (unsent ps)) ++ stopped_takers ps.multis

@@ -5,7 +5,7 @@ use Rattle.std.specs.List.{flat_map, list_any}
 use Rattle.std.specs.Option.{is_some, option_map}
 use Rattle.std.specs.Ordering.{nat_cmp}
 use Rattle.pulsar_run.specs.Things.{row_by}
-use Rattle.pulsar_messages.specs.Content.{ProducerMessageValues}
+use Rattle.pulsar_messages.specs.Content.{ProducerMessageValues, ProducerOptionsValues}
 use Rattle.pulsar_messages.specs.Claims.{is_spent}
 use Rattle.pulsar_exchange.specs.Request.{named_producer}
 use Rattle.pulsar_searches.specs.declared.making.Command.{Command}
@@ -20,6 +20,7 @@ use Rattle.pulsar_producer.specs.Topic.{Act, Closes, Halts, fresh, is_free, is_s
 use Rattle.pulsar_outgoing.specs.Storage.{is_nothing}
 use Rattle.pulsar_outgoing.specs.declared.content.Built.{Built}
 use Rattle.pulsar_outgoing.specs.declared.news.Drawn.{Drawn}
+use Rattle.pulsar_outgoing.specs.declared.multi_topic.Multi.{Multi}
 use Rattle.pulsar_outgoing.specs.declared.multi_topic.Taker.{Taker}
 use Rattle.pulsar_producer.specs.declared.routing.Partition.{Partition}
 use Rattle.pulsar_outgoing.specs.declared.orders.Errand.{Errand}
@@ -29,16 +30,20 @@ use Rattle.pulsar_calls.specs.declared.act.CallRefusal.TheVariants as refusal
 use Rattle.pulsar_calls.specs.declared.content.BuiltProducer.{BuiltProducer}
 use Rattle.pulsar_calls.specs.declared.act.Who.{Who}
 use Rattle.pulsar_producer_table.specs.declared.table.Held.{Held}
+use Rattle.pulsar_producer_table.specs.declared.table.Owner.{Owner}
 use Rattle.pulsar_producer_table.specs.declared.table.Topic.{Topic}
 use Rattle.pulsar_calls.specs.Content as content
 use Rattle.pulsar_calls.specs.Content.{Asked, sent_by}
+use Rattle.pulsar_producer_table.specs.Multis.{Multis, at, only_own, with_made}
+pub use Rattle.pulsar_producer_table.specs.Partitions.{numbers_at, partition_of}
 use Rattle.pulsar_producer_table.specs.Takers.{who_at}
 
--- The producers, by the tickets of the calls that built them; their topic producers by number, and these numbers in the order in which they
--- were made; those that were made for calls that still make others; the numbers that raw calls have named, in order; and the number from which
--- on the next one is drawn.
+-- The producers, by the tickets of the calls that built them, and those of many topics; all topic producers by number, and these numbers in the
+-- order in which they were made; those that were made for calls that still make others; the numbers that raw calls have named, in order; and
+-- the number from which on the next one is drawn.
 pub record Producers : Type 0 where
   pub built : (ticket : ℕ) → Option producer.Seen
+  pub multis : Multis
   pub topics : (number : ℕ) → Option Topic
   pub numbers : List ℕ
   pub held : List Held
@@ -48,7 +53,7 @@ pub record Producers : Type 0 where
 -- at first
 abbrev pub none : (first_number : ℕ) → Producers
 none first_number =
-    record { built = λ t. None; topics = λ n. None; numbers = []; held = []; named = []; next = first_number }
+    record { built = λ t. None; multis = only_own; topics = λ n. None; numbers = []; held = []; named = []; next = first_number }
 
 -- TOPIC PRODUCERS
 
@@ -122,13 +127,21 @@ waiting_at n (Some t) = map (who_at n) t.seen.waiting
 abbrev pub waiting : Producers → List Who
 waiting ps = flat_map (λ n. waiting_at n (ps.topics n)) ps.numbers
 
--- the command by which one is made again, with the options of its producer
-abbrev pub recalled_by : Topic → Option producer.Seen → Option Command
-recalled_by t row = option_map (λ p. command_of p.options t.seen) row
+-- the options of the producer that one belongs to
+abbrev pub options_by : Producers → (ticket : ℕ) → Option Multi → Option ProducerOptionsValues
+options_by ps t None = option_map (λ p. p.options) (ps.built t)
+options_by ps t (Some m) = option_map (λ s. s.options) (at m ps.multis)
+
+abbrev pub options_of : Producers → Owner → Option ProducerOptionsValues
+options_of ps owner = options_by ps owner.ticket owner.multi
+
+-- the command by which one is made again, with these options
+abbrev pub recalled_by : Topic → Option ProducerOptionsValues → Option Command
+recalled_by t options = option_map (λ o. command_of o t.seen) options
 
 abbrev pub recalled_at : Producers → Option Topic → Option Command
 recalled_at ps None = None
-recalled_at ps (Some t) = recalled_by t (ps.built t.owner)
+recalled_at ps (Some t) = recalled_by t (options_of ps t.owner)
 
 abbrev pub recalled : Producers → (number : ℕ) → Option Command
 recalled ps number = recalled_at ps (ps.topics number)
@@ -168,13 +181,13 @@ abbrev pub unsent : Producers → List ℕ
 unsent ps = flat_map (λ n. unsent_at (ps.topics n)) ps.numbers
 
 -- how long what is stored waits, by the options of its producer
-abbrev pub timeout_in : Option producer.Seen → Option ℕ
+abbrev pub timeout_in : Option ProducerOptionsValues → Option ℕ
 timeout_in None = None
-timeout_in (Some p) = p.options.batch_timeout
+timeout_in (Some o) = o.batch_timeout
 
 abbrev pub timeout_at : Producers → Option Topic → Option ℕ
 timeout_at ps None = None
-timeout_at ps (Some t) = timeout_in (ps.built t.owner)
+timeout_at ps (Some t) = timeout_in (options_of ps t.owner)
 
 -- the client is stopped: nothing is stored any longer
 abbrev pub halted : Producers → Producers
@@ -225,11 +238,6 @@ abbrev pub why_not : Producers → (ticket : ℕ) → Option CallRefusal
 why_not ps t =
     if is_some (ps.built t) then (if is_closed_at ps (ps.built t) then Some refusal.Closed else None) else Some refusal.UnknownTicket
 
--- the numbers of its topic producers, in order
-abbrev pub numbers_at : Option producer.Seen → List ℕ
-numbers_at None = []
-numbers_at (Some p) = map (λ q. q.number) p.routes.partitions
-
 -- the tickets of what its topic producers store
 abbrev pub stored_by : Producers → List ℕ → List ℕ
 stored_by ps ns = flat_map (λ n. stored_at (ps.topics n)) ns
@@ -278,18 +286,18 @@ all_routed t [] ps = ps
 all_routed t (m ∷ ms) ps = all_routed t ms (routed t m ps)
 
 -- one is built, with its topic producers
-abbrev pub fresh_topic : (owner first_number : ℕ) → Limits → Built → Topic
+abbrev pub fresh_topic : Owner → (first_number : ℕ) → Limits → Built → Topic
 fresh_topic owner first_number limits b =
     record { owner = owner; seen = fresh (record { built = b; first_number = first_number; limits = limits }) }
 
-abbrev pub with_topic : (owner first_number : ℕ) → Limits → Built → Producers → Producers
+abbrev pub with_topic : Owner → (first_number : ℕ) → Limits → Built → Producers → Producers
 with_topic owner first_number limits b ps =
     record ps {
       topics = λ n. if n == b.number then Some (fresh_topic owner first_number limits b) else ps.topics n;
       numbers = ps.numbers ++ b.number ∷ [];
     }
 
-abbrev pub with_topics : (owner first_number : ℕ) → Limits → List Built → Producers → Producers
+abbrev pub with_topics : Owner → (first_number : ℕ) → Limits → List Built → Producers → Producers
 with_topics owner first_number limits [] ps = ps
 with_topics owner first_number limits (b ∷ bs) ps = with_topics owner first_number limits bs (with_topic owner first_number limits b ps)
 
@@ -298,13 +306,17 @@ abbrev pub last_of : Option Topic → Option Topic → Option Topic
 last_of None row = row
 last_of (Some t) row = Some t
 
-abbrev pub topic_in : (owner first_number : ℕ) → Limits → List Built → (number : ℕ) → Option Topic
+abbrev pub topic_in : Owner → (first_number : ℕ) → Limits → List Built → (number : ℕ) → Option Topic
 topic_in owner first_number limits [] n = None
 topic_in owner first_number limits (b ∷ bs) n =
     last_of (topic_in owner first_number limits bs n) (if n == b.number then Some (fresh_topic owner first_number limits b) else None)
 
-abbrev pub partition_of : Built → Partition
-partition_of b = record { name = b.topic; number = b.number }
+-- the topic producers of the producer that the call of a ticket builds, and those that it makes for a producer of many topics
+abbrev pub of_call : (ticket : ℕ) → Owner
+of_call t = record { ticket = t; multi = None }
+
+abbrev pub of_multi : (ticket : ℕ) → Multi → Owner
+of_multi t m = record { ticket = t; multi = Some m }
 
 -- it begins behind an index that is drawn for it
 abbrev pub made_of : (seed ticket : ℕ) → BuiltProducer → Option producer.Seen
@@ -320,7 +332,12 @@ abbrev pub listed : (ticket : ℕ) → BuiltProducer → (seed : ℕ) → Produc
 listed t b seed ps = with_built t (made_of seed t b) (record ps { numbers = ps.numbers ++ map (λ q. q.number) b.parts })
 
 abbrev pub joined : (ticket : ℕ) → BuiltProducer → (seed first_number : ℕ) → Producers → Producers
-joined t b seed first_number ps = with_built t (made_of seed t b) (with_topics t first_number (limits_of b.settings) b.parts ps)
+joined t b seed first_number ps =
+    with_built t (made_of seed t b) (with_topics (of_call t) first_number (limits_of b.settings) b.parts ps)
+
+-- one of many topics is made
+abbrev pub with_multi : (ticket : ℕ) → Option (List ℕ) → ProducerOptionsValues → Producers → Producers
+with_multi t name options ps = record ps { multis = with_made t name options ps.multis }
 
 -- CALLS
 
@@ -335,12 +352,17 @@ opened_on (content.Topics namespace mode) ps = ps
 opened_on (content.Lookup topic) ps = ps
 opened_on (content.Partitions topic) ps = ps
 opened_on (content.Brokers topic) ps = ps
+opened_on (content.Post topic m) ps = ps
 opened_on (content.Producer wanted) ps = ps
+opened_on (content.MultiProducer wanted) ps = ps
 opened_on (content.Send t m) ps = sent_on t (m ∷ []) ps
 opened_on (content.SendAll t ms) ps = sent_on t ms ps
 opened_on (content.Flush t) ps = ps
 opened_on (content.CheckProducer t) ps = ps
 opened_on (content.CloseProducer t) ps = ps
+opened_on (content.MultiSend t topic m) ps = ps
+opened_on (content.MultiSendAll t topic ms) ps = ps
+opened_on (content.MultiClose t topic) ps = ps
 opened_on (content.Consumer wanted) ps = ps
 opened_on (content.Ack t name id cumulative) ps = ps
 opened_on (content.Nack t name id) ps = ps

@@ -1,11 +1,17 @@
 -- Who has a turn at a topic producer, or at a producer of many topics: a call, the batches of the topic producer itself, or a consumer for the
 -- copy of one of its dead letters.
-use Rattle.std.specs.Prelude.{ℕ}
+use Rattle.std.specs.Prelude.{ℕ, Option, Some, None}
 use Rattle.pulsar_outgoing.specs.declared.multi_topic.Taker.{Taker}
 use Rattle.pulsar_outgoing.specs.declared.multi_topic.Taker.TheVariants as taker
 use Rattle.pulsar_calls.specs.declared.act.Who.{Who}
-use Rattle.pulsar_calls.specs.declared.act.Who.TheVariants.{Call, Consumer}
+use Rattle.pulsar_calls.specs.declared.act.Who.TheVariants.{Call, Consumer, Producer}
 use Rattle.pulsar_calls.specs.Who.{in_turn}
+
+-- as whom one takes a turn at a producer of many topics: a call does, by its ticket
+abbrev pub taker_of : Who → Option Taker
+taker_of (Call ticket) = Some (taker.Call ticket)
+taker_of (Consumer number ticket) = None
+taker_of (Producer number) = None
 
 abbrev pub who_of : Taker → Who
 who_of (taker.Call ticket) = Call ticket

@@ -3,6 +3,7 @@
 #![tactic(auto)]
 
 pub mod asks;
+pub mod multi_asks;
 pub mod multis;
 pub mod table;
 pub mod takers;

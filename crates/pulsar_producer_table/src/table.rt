@@ -3,7 +3,7 @@
 ghost use Rattle.std.specs.Prelude.{◌≡◌, ◌==◌, ◌&&◌, ◌+◌, ◌-◌, ◌^◌, nat_lt, ◌++◌, not, ℕ, IfOk, OnOk, Some, length, map, if◌then◌else◌};
 ghost use Rattle.std.specs.BTreeMap.{get};
 ghost use Rattle.std.specs.List.{filter, flat_map, list_any};
-ghost use Rattle.std.specs.Option.{is_some, option_map};
+ghost use Rattle.std.specs.Option.{is_some, option_copied, option_map};
 ghost use Rattle.std.specs.Ordering.{nat_cmp};
 ghost use Rattle.pulsar_messages.specs.Content.{message_content};
 ghost use Rattle.pulsar_producer.specs.Producer.{made};
@@ -16,13 +16,14 @@ ghost use Rattle.pulsar_producer_table.specs.Notices.{stopped_all, stopped_call}
 ghost use Rattle.pulsar_producer_table.specs.Takers.{who_at};
 ghost use Rattle.pulsar_producer_table.specs.KeptProducers.{producers_of};
 
+use crate::multis::Multis;
 use crate::takers::who_at;
 use pulsar_addresses::content::Text;
 use pulsar_calls::act::{Notice, Outcome, Who};
 use pulsar_calls::content::{Advice, BuiltProducer, Remaking};
 use pulsar_messages::Message;
 use pulsar_outgoing::content::{Batch, Built, Entry, Numbers, Parts, Settings, Version};
-use pulsar_outgoing::multi_topic::Taker;
+use pulsar_outgoing::multi_topic::{Multi, Taker};
 use pulsar_outgoing::news::Drawn;
 use pulsar_outgoing::orders::Errand;
 use pulsar_outgoing::storage::Limits;
@@ -34,9 +35,16 @@ use pulsar_wire::error::NoMemory;
 use std::alloc::Global;
 use std::collections::{BTreeMap, BTreeSet, VecDeque};
 
-/// A topic producer, and the ticket of the producer that it belongs to.
+/// Whose a topic producer is: the ticket of the call that made it, and the producer of many topics that it was made for, if it was for one.
+#[derive(Clone, Copy)]
+pub struct Owner {
+    pub ticket: u64,
+    pub multi: Option<Multi>,
+}
+
+/// A topic producer, and whose it is.
 pub struct Topic {
-    pub owner: u64,
+    pub owner: Owner,
     pub seen: TopicProducer,
 }
 
@@ -54,12 +62,13 @@ pub struct Held {
     pub number: u64,
 }
 
-/// The producers of a client, by the tickets of the calls that built them; their topic producers, by number, and the numbers in the order
-/// in which they were made; those that were made for calls that still make others; the numbers that raw calls have named; and the number from
-/// which on the next is drawn.
+/// The producers of a client, by the tickets of the calls that built them, and those of many topics; all topic producers, by number, and the
+/// numbers in the order in which they were made; those that were made for calls that still make others; the numbers that raw calls have
+/// named; and the number from which on the next is drawn.
 pub struct Producers {
     pub alloc: Global,
     pub built: BTreeMap<u64, Producer>,
+    pub multis: Multis,
     pub topics: BTreeMap<u64, Topic>,
     pub numbers: Vec<u64>,
     pub held: Vec<Held>,
@@ -72,6 +81,7 @@ impl Drop for Producers {
         let Producers {
             alloc: _,
             built: _,
+            multis: _,
             topics: _,
             numbers: _,
             held: _,
@@ -83,18 +93,19 @@ impl Drop for Producers {
 
 impl Producers {
     /// None is built. The first number is this.
-    pub fn new(alloc: Global, first_number: u64) -> Producers
-        ensures { producers_of result ≡ meaning.none first_number }
+    pub fn new(alloc: Global, first_number: u64) -> Result<Producers, NoMemory>
+        ensures { IfOk result (λ p. producers_of p ≡ meaning.none first_number) }
     {
-        Producers {
+        Ok(Producers {
             alloc,
             built: BTreeMap::new(alloc),
+            multis: Multis::new(alloc)?,
             topics: BTreeMap::new(alloc),
             numbers: Vec::new(alloc),
             held: Vec::new(alloc),
             named: BTreeSet::new(alloc),
             next: first_number,
-        }
+        })
     }
 
     /// There is a producer of this ticket.
@@ -280,9 +291,19 @@ impl Producers {
         let Some(topic) = self.topics.get(&number) else {
             return Ok(None);
         };
-        match self.built.get(&topic.owner) {
-            Some(producer) => Ok(Some(topic.seen.command(self.alloc, producer.settings())?)),
+        match self.settings(topic.owner) {
+            Some(settings) => Ok(Some(topic.seen.command(self.alloc, settings)?)),
             None => Ok(None),
+        }
+    }
+
+    /// How the producer is made that a topic producer belongs to.
+    fn settings(&self, owner: Owner) -> Option<&Settings>
+        ensures { option_copied result ≡ meaning.options_of (producers_of self.now) owner }
+    {
+        match owner.multi {
+            Some(multi) => Some(self.multis.at(multi)?.settings()),
+            None => Some(self.built.get(&owner.ticket)?.settings()),
         }
     }
 
@@ -337,7 +358,11 @@ impl Producers {
             parts,
         } = building;
         let limits = settings.limits();
-        let partitions = self.make_all(ticket, limits, parts, first_number)?;
+        let owner = Owner {
+            ticket,
+            multi: None,
+        };
+        let partitions = self.make_all(owner, limits, parts, first_number)?;
         match made_of(seed, ticket, topic, settings, partitions) {
             Some(producer) => drop(self.built.insert(ticket, producer)?),
             None => {}
@@ -346,9 +371,9 @@ impl Producers {
     }
 
     /// The topic producers of a producer, as its partitions.
-    fn make_all(
+    pub(crate) fn make_all(
         &mut self,
-        owner: u64,
+        owner: Owner,
         limits: Limits,
         parts: Parts,
         first_number: u64,
@@ -366,7 +391,7 @@ impl Producers {
 
     fn make(
         &mut self,
-        owner: u64,
+        owner: Owner,
         limits: Limits,
         built: Built,
         first_number: u64,
@@ -387,12 +412,14 @@ impl Producers {
         is_held(&self.numbers, &self.topics, link) || is_on_link(&self.held, link)
     }
 
-    /// Those that wait for a turn, or for a batch that is not under way, are told that the client is stopped.
+    /// Those that wait for a turn, for a batch that is not under way, or to hand a message to a producer of many topics, are told that the client
+    /// is stopped.
     pub fn stop(&self, notices: &mut Vec<Notice>) -> Result<(), NoMemory>
         ensures { OnOk result (notices.new.items ≡ notices.old.items ++ stopped_all (producers_of self.now)) }
     {
         self.stop_waiting(notices)?;
-        self.stop_unsent(notices)
+        self.stop_unsent(notices)?;
+        self.multis.stop(notices)
     }
 
     /// Those that wait for a turn.
@@ -440,8 +467,8 @@ impl Producers {
         ensures { result ≡ meaning.timeout_at (producers_of self.now) ((producers_of self.now).topics number) }
     {
         let topic = self.topics.get(&number)?;
-        let producer = self.built.get(&topic.owner)?;
-        producer.settings().batch_timeout()
+        let settings = self.settings(topic.owner)?;
+        settings.batch_timeout()
     }
 
     /// A topic producer stores nothing.
@@ -537,7 +564,7 @@ fn advice_of(
 }
 
 /// The numbers of the topic producers of these partitions, in order.
-fn numbers_of(alloc: Global, partitions: &[Partition]) -> Result<Numbers, NoMemory>
+pub(crate) fn numbers_of(alloc: Global, partitions: &[Partition]) -> Result<Numbers, NoMemory>
     ensures { IfOk result (λ ns. ns ≡ map (λ q. q.number) partitions.now) }
 {
     let mut numbers = Numbers::new(alloc);
@@ -548,7 +575,7 @@ fn numbers_of(alloc: Global, partitions: &[Partition]) -> Result<Numbers, NoMemo
 }
 
 /// A producer that begins behind an index that is drawn for it. There is none of too many partitions.
-fn made_of(
+pub(crate) fn made_of(
     seed: u64,
     ticket: u64,
     topic: Text,
@@ -596,7 +623,7 @@ fn close(topics: &mut BTreeMap<u64, Topic>, number: u64)
 }
 
 /// The topic producers of these partitions are closed.
-fn close_all(topics: &mut BTreeMap<u64, Topic>, partitions: &[Partition])
+pub(crate) fn close_all(topics: &mut BTreeMap<u64, Topic>, partitions: &[Partition])
     ensures { (ps : Seen) → ps.topics ≡ get nat_cmp topics.old
         → meaning.shut_all (map (λ q. q.number) partitions.now) ps ≡ record ps { topics = get nat_cmp topics.new } }
 {
@@ -709,7 +736,7 @@ fn stop_calls(tickets: Vec<u64>, notices: &mut Vec<Notice>) -> Result<(), NoMemo
 }
 
 /// The tickets of the messages that the topic producers of these partitions store.
-fn stored_in(
+pub(crate) fn stored_in(
     alloc: Global,
     topics: &BTreeMap<u64, Topic>,
     partitions: &[Partition],

@@ -1,11 +1,21 @@
 //! Who has a turn at a topic producer, or at a producer of many topics.
 
 ghost use Rattle.std.specs.Prelude.{◌≡◌};
-ghost use Rattle.pulsar_producer_table.specs.Takers.{who_at, who_of};
+ghost use Rattle.pulsar_producer_table.specs.Takers.{taker_of, who_at, who_of};
 
 use pulsar_calls::act::Who;
 use pulsar_calls::who::in_turn;
 use pulsar_outgoing::multi_topic::Taker;
+
+/// As whom one takes a turn at a producer of many topics: a call does.
+pub fn taker_of(who: Who) -> Option<Taker>
+    ensures { result ≡ taker_of who }
+{
+    match who {
+        Who::Call(ticket) => Some(Taker::Call(ticket)),
+        Who::Consumer { .. } | Who::Producer(_) => None,
+    }
+}
 
 /// Who has a turn at a producer of many topics so.
 pub(crate) fn who_of(taker: Taker) -> Who

@@ -14,7 +14,7 @@ use Rattle.pulsar_messages.specs.Content.{ProducerMessageValues}
 use Rattle.pulsar_messages.specs.Words.{Words}
 use Rattle.pulsar_incoming.specs.Content.{ConsumerWanted}
 use Rattle.pulsar_outgoing.specs.Wanted.{ProducerWanted}
-use Rattle.pulsar_calls.specs.Content.{Asked, Build, Stop, Topics, Lookup, Partitions, Brokers, Producer, Send, SendAll, Flush, CheckProducer, CloseProducer, Consumer, Ack, Nack, CloseConsumer, Raw, Heard, Called, Opened, FailedToOpen, Bytes, Lost, Drain, Ticked, Poll}
+use Rattle.pulsar_calls.specs.Content.{Asked, Build, Stop, Topics, Lookup, Partitions, Brokers, Post, Producer, MultiProducer, Send, SendAll, Flush, CheckProducer, CloseProducer, MultiSend, MultiSendAll, MultiClose, Consumer, Ack, Nack, CloseConsumer, Raw, Heard, Called, Opened, FailedToOpen, Bytes, Lost, Drain, Ticked, Poll}
 use Rattle.pulsar_grammar.specs.Words.{words}
 use Rattle.pulsar_printing.specs.WordText.{word}
 use Rattle.pulsar_grammar.specs.Choices.{kind as kind_in}
@@ -69,6 +69,24 @@ send-reads producer m lt can = rw (number-decimal producer lt, message-reads m c
 send-all-reads : (producer : ℕ) (ms : List ProducerMessageValues) → producer < 2 ^ 64 → AllByRecursion CanBeSent ms → 0 < length ms → words_line (codes "call" ∷ codes "send-all" ∷ decimal producer ∷ messages_words ms) ≡ Happens (Called (SendAll producer ms))
 send-all-reads producer ms lt can some = rw (number-decimal producer lt, messages-read ms can some) refl
 
+post-reads : (topic : List ℕ) (m : ProducerMessageValues) → IsText topic × CanBeSent m → words_line (codes "call" ∷ codes "post" ∷ word topic ∷ message_words m) ≡ Happens (Called (Post topic m))
+post-reads topic m can = rw (text-word topic can.0.0 can.0.1, message-reads m can.1) refl
+
+multi-producer-is-read : (w : ProducerWanted) → Where IsText w.topic → Where IsText w.name → CanBeMade w.options → words_line (codes "call" ∷ codes "multi-producer" ∷ producer_words w) ≡ Happens (Called (MultiProducer w))
+multi-producer-is-read w topic name can = rw (producer-reads w topic name can) refl
+
+multi-send-reads : (producer : ℕ) (topic : List ℕ) (m : ProducerMessageValues) → IsText topic × IsNumber producer × CanBeSent m
+    → words_line (codes "call" ∷ codes "multi-send" ∷ decimal producer ∷ word topic ∷ message_words m) ≡ Happens (Called (MultiSend producer topic m))
+multi-send-reads producer topic m can = rw (number-decimal producer can.1, text-word topic can.0.0 can.0.1, message-reads m can.2) refl
+
+multi-send-all-reads : (producer : ℕ) (topic : List ℕ) (ms : List ProducerMessageValues) → IsText topic → IsNumber producer → AllByRecursion CanBeSent ms → 0 < length ms
+    → words_line (codes "call" ∷ codes "multi-send-all" ∷ decimal producer ∷ word topic ∷ messages_words ms) ≡ Happens (Called (MultiSendAll producer topic ms))
+multi-send-all-reads producer topic ms is lt can some = rw (number-decimal producer lt, text-word topic is.0 is.1, messages-read ms can some) refl
+
+multi-close-reads : (producer : ℕ) (topic : List ℕ) → IsText topic × IsNumber producer
+    → words_line (codes "call" ∷ codes "multi-close" ∷ decimal producer ∷ word topic ∷ []) ≡ Happens (Called (MultiClose producer topic))
+multi-close-reads producer topic can = rw (number-decimal producer can.1, text-word topic can.0.0 can.0.1) refl
+
 -- a call whose words are the ticket of a producer, or of a consumer
 of-ticket : (first : List ℕ) (n : ℕ) → n < 2 ^ 64 → words_line (codes "call" ∷ first ∷ words (decimal n)) ≡ words_line (codes "call" ∷ first ∷ decimal n ∷ [])
 of-ticket first n lt = ap (λ (ws : List (List ℕ)). words_line (codes "call" ∷ ws)) (one-number first n lt)
@@ -100,9 +118,15 @@ asked-read (Topics namespace m) can =
 asked-read (Lookup topic) can = one-topic (codes "lookup") topic can ∙ rw (text-word topic can.0 can.1) refl
 asked-read (Partitions topic) can = one-topic (codes "partitions") topic can ∙ rw (text-word topic can.0 can.1) refl
 asked-read (Brokers topic) can = one-topic (codes "brokers") topic can ∙ rw (text-word topic can.0 can.1) refl
+asked-read (Post topic message) can =
+    ap (λ (ws : List (List ℕ)). words_line (codes "call" ∷ codes "post" ∷ ws)) (words-behind (word topic) (message_words message) (word-within topic can.0.0) (message-said message can.1).within)
+    ∙ post-reads topic message can
 asked-read (Producer wanted) can =
     ap (λ (ws : List (List ℕ)). words_line (codes "call" ∷ ws)) (words-behind (codes "producer") (producer_words wanted) (tested-within (codes "producer") refl) (producer-within wanted can.0 can.1 can.2))
     ∙ producer-is-read wanted can.0 can.1 can.2
+asked-read (MultiProducer wanted) can =
+    ap (λ (ws : List (List ℕ)). words_line (codes "call" ∷ ws)) (words-behind (codes "multi-producer") (producer_words wanted) (tested-within (codes "multi-producer") refl) (producer-within wanted can.0 can.1 can.2))
+    ∙ multi-producer-is-read wanted can.0 can.1 can.2
 asked-read (Send producer message) can =
     ap (λ (ws : List (List ℕ)). words_line (codes "call" ∷ codes "send" ∷ ws)) (words-behind (decimal producer) (message_words message) (decimal-within producer can.0) (message-said message can.1).within)
     ∙ send-reads producer message can.0 can.1
@@ -112,6 +136,15 @@ asked-read (SendAll producer messages) can =
 asked-read (Flush producer) can = of-ticket (codes "flush") producer can ∙ rw (number-decimal producer can) refl
 asked-read (CheckProducer producer) can = of-ticket (codes "check-producer") producer can ∙ rw (number-decimal producer can) refl
 asked-read (CloseProducer producer) can = of-ticket (codes "close-producer") producer can ∙ rw (number-decimal producer can) refl
+asked-read (MultiSend producer topic message) can =
+    ap (λ (ws : List (List ℕ)). words_line (codes "call" ∷ codes "multi-send" ∷ ws)) (words-behind (decimal producer) (word topic ∷ message_words message) (decimal-within producer can.1) (word-within topic can.0.0, (message-said message can.2).within))
+    ∙ multi-send-reads producer topic message can
+asked-read (MultiSendAll producer topic messages) can =
+    ap (λ (ws : List (List ℕ)). words_line (codes "call" ∷ codes "multi-send-all" ∷ ws)) (words-behind (decimal producer) (word topic ∷ messages_words messages) (decimal-within producer can.1) (word-within topic can.0.0, messages-within messages can.2))
+    ∙ multi-send-all-reads producer topic messages can.0 can.1 can.2 can.3
+asked-read (MultiClose producer topic) can =
+    ap (λ (ws : List (List ℕ)). words_line (codes "call" ∷ ws)) (two-words (codes "multi-close") (decimal producer) (word topic) (decimal-within producer can.1) (one-word (word topic) (word-within topic can.0.0)))
+    ∙ multi-close-reads producer topic can
 asked-read (Consumer wanted) can =
     ap (λ (ws : List (List ℕ)). words_line (codes "call" ∷ ws)) (words-behind (codes "consumer") (consumer_words wanted) (tested-within (codes "consumer") refl) (consumer-within wanted can))
     ∙ consumer-is-read wanted can

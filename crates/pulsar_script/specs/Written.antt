@@ -5,7 +5,7 @@ use Rattle.std.specs.List.{AllByRecursion}
 use Rattle.hex.specs.Hex.{IsBytes, encode_lower}
 use Rattle.pulsar_wire.specs.Row.{Values}
 use Rattle.pulsar_wire.specs.Rows.{message_id}
-use Rattle.pulsar_calls.specs.Content.{Asked, Build, Stop, Topics, Lookup, Partitions, Brokers, Producer, Send, SendAll, Flush, CheckProducer, CloseProducer, Consumer, Ack, Nack, CloseConsumer, Raw, Heard, Called, Opened, FailedToOpen, Bytes, Lost, Drain, Ticked, Poll}
+use Rattle.pulsar_calls.specs.Content.{Asked, Build, Stop, Topics, Lookup, Partitions, Brokers, Post, Producer, MultiProducer, Send, SendAll, Flush, CheckProducer, CloseProducer, MultiSend, MultiSendAll, MultiClose, Consumer, Ack, Nack, CloseConsumer, Raw, Heard, Called, Opened, FailedToOpen, Bytes, Lost, Drain, Ticked, Poll}
 use Rattle.pulsar_grammar.specs.Grammar.{Setting, Url, Auth, Outbound, Timeout, RetryDelay, OpRetries, Retries, MinBackoff, MaxBackoff, ConnectionTimeout, KeepAlive, MaxIdle, Seed, First, Now, Sets, Happens, line}
 use Rattle.pulsar_printing.specs.ErrorText.{io_kind}
 use Rattle.pulsar_printing.specs.WordText.{word}
@@ -28,12 +28,18 @@ call_words (Topics namespace mode) = codes "topics " ++ word namespace ++ 32 ∷
 call_words (Lookup topic) = codes "lookup " ++ word topic
 call_words (Partitions topic) = codes "partitions " ++ word topic
 call_words (Brokers topic) = codes "brokers " ++ word topic
+call_words (Post topic message) = codes "post " ++ word topic ++ behind_blanks (message_words message)
 call_words (Producer wanted) = codes "producer" ++ behind_blanks (producer_words wanted)
+call_words (MultiProducer wanted) = codes "multi-producer" ++ behind_blanks (producer_words wanted)
 call_words (Send producer message) = codes "send " ++ decimal producer ++ behind_blanks (message_words message)
 call_words (SendAll producer messages) = codes "send-all " ++ decimal producer ++ behind_blanks (messages_words messages)
 call_words (Flush producer) = codes "flush " ++ decimal producer
 call_words (CheckProducer producer) = codes "check-producer " ++ decimal producer
 call_words (CloseProducer producer) = codes "close-producer " ++ decimal producer
+call_words (MultiSend producer topic message) = codes "multi-send " ++ decimal producer ++ behind_blanks (word topic ∷ message_words message)
+call_words (MultiSendAll producer topic messages) =
+    codes "multi-send-all " ++ decimal producer ++ behind_blanks (word topic ∷ messages_words messages)
+call_words (MultiClose producer topic) = codes "multi-close " ++ decimal producer ++ 32 ∷ word topic
 call_words (Consumer wanted) = codes "consumer" ++ behind_blanks (consumer_words wanted)
 call_words (Ack consumer topic id cumulative) = ack_word cumulative ++ behind_blanks (acked_words consumer topic id)
 call_words (Nack consumer topic id) = codes "nack" ++ behind_blanks (acked_words consumer topic id)
@@ -60,12 +66,17 @@ CanBeAsked (Topics namespace mode) = IsText namespace
 CanBeAsked (Lookup topic) = IsText topic
 CanBeAsked (Partitions topic) = IsText topic
 CanBeAsked (Brokers topic) = IsText topic
+CanBeAsked (Post topic message) = IsText topic × CanBeSent message
 CanBeAsked (Producer wanted) = Where IsText wanted.topic × Where IsText wanted.name × CanBeMade wanted.options
+CanBeAsked (MultiProducer wanted) = Where IsText wanted.topic × Where IsText wanted.name × CanBeMade wanted.options
 CanBeAsked (Send producer message) = IsNumber producer × CanBeSent message
 CanBeAsked (SendAll producer messages) = IsNumber producer × AllByRecursion CanBeSent messages × (0 < length messages)
 CanBeAsked (Flush producer) = IsNumber producer
 CanBeAsked (CheckProducer producer) = IsNumber producer
 CanBeAsked (CloseProducer producer) = IsNumber producer
+CanBeAsked (MultiSend producer topic message) = IsText topic × IsNumber producer × CanBeSent message
+CanBeAsked (MultiSendAll producer topic messages) = IsText topic × IsNumber producer × AllByRecursion CanBeSent messages × (0 < length messages)
+CanBeAsked (MultiClose producer topic) = IsText topic × IsNumber producer
 CanBeAsked (Consumer wanted) = CanConsume wanted
 CanBeAsked (Ack consumer topic id cumulative) = IsNumber consumer × IsText topic × IsId id
 CanBeAsked (Nack consumer topic id) = IsNumber consumer × IsText topic × IsId id

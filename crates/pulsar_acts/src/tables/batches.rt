@@ -6,7 +6,7 @@ ghost use Rattle.pulsar_producer_table.specs.KeptProducers.{producers_of};
 ghost use Rattle.pulsar_plans.specs.Plan.{closed_notice};
 ghost use Rattle.pulsar_producer.specs.Topic as topic;
 ghost use Rattle.pulsar_producer_table.specs.Producers.{changed, numbers_at};
-ghost use Rattle.pulsar_acts.specs.Rules.{batches_by, batches_from, batches_made, ready_notice, woken};
+ghost use Rattle.pulsar_acts.specs.Rules.{batches_by, batches_for, batches_from, ready_notice, woken};
 ghost use Rattle.pulsar_calls.specs.Order.{below, opens};
 ghost use Rattle.pulsar_acts.specs.Run.{goes_on};
 ghost use Rattle.pulsar_agenda.specs.Agenda.{agenda_of};
@@ -19,8 +19,8 @@ use crate::tables::alarms::later;
 use pulsar_addresses::content::Refusal;
 use pulsar_agenda::agenda::Tasks;
 use pulsar_calls::act::{Act as Deed, Action, Alarm, Notice, Outcome, Procedure, Who};
-use pulsar_calls::content::{BuiltProducer, Granted, Notices};
-use pulsar_outgoing::content::Built;
+use pulsar_calls::content::{Granted, Notices};
+use pulsar_outgoing::content::{Built, Parts, Settings};
 use pulsar_outgoing::orders::Errand;
 use pulsar_producer::deed::News;
 use pulsar_searches::turn::Ways;
@@ -114,15 +114,22 @@ impl Tables {
         Ok(())
     }
 
-    /// The topic producers of a producer that is made send their batches, where they do, each by a plan of its own.
-    pub(super) fn batches_made(&self, building: &BuiltProducer) -> Result<VecDeque<Deed>, NoMemory>
-        ensures { IfOk result (λ acts. acts.items ≡ batches_made (ways_of (chosen_of self.now.settings)) building.now) }
+    /// The topic producers of a producer that is made in this way send their batches, where they do, each by a plan of its own.
+    pub(super) fn batches_for(
+        &self,
+        settings: &Settings,
+        parts: &Parts,
+    ) -> Result<VecDeque<Deed>, NoMemory>
+        ensures { IfOk result (λ acts. acts.items ≡ batches_for (ways_of (chosen_of self.now.settings)) settings.now parts.now) }
     {
-        if !building.settings.is_batching() {
+        if !settings.is_batching() {
             return Ok(VecDeque::new(self.alloc));
         }
         match self.settings.ways(self.alloc)? {
-            Some(ways) => batches_from(self.alloc, &ways, building),
+            Some(ways) => {
+                let block = settings.options().block_queue_if_full;
+                batches_from(self.alloc, &ways, block, parts)
+            }
             None => Ok(VecDeque::new(self.alloc)),
         }
     }
@@ -132,23 +139,24 @@ impl Tables {
 fn batches_from(
     alloc: Global,
     ways: &Ways,
-    building: &BuiltProducer,
+    block: bool,
+    parts: &Parts,
 ) -> Result<VecDeque<Deed>, NoMemory>
-    ensures { IfOk result (λ acts. acts.items ≡ batches_from (Some ways.now) building.now) }
+    ensures { IfOk result (λ acts. acts.items ≡ batches_from (Some ways.now) block parts.now) }
 {
     let mut acts = VecDeque::new(alloc);
-    for built in building.parts.all() {
-        acts.push_back(batches_by(ways.copy(alloc)?, building, built))?;
+    for built in parts.all() {
+        acts.push_back(batches_by(ways.copy(alloc)?, block, built))?;
     }
     Ok(acts)
 }
 
-fn batches_by(ways: Ways, building: &BuiltProducer, built: &Built) -> Deed
-    ensures { result ≡ batches_by ways building.now.settings.block_queue_if_full built.now }
+fn batches_by(ways: Ways, block: bool, built: &Built) -> Deed
+    ensures { result ≡ batches_by ways block built.now }
 {
     let errand = Errand {
         producer: built.number,
-        block: building.settings.options().block_queue_if_full,
+        block,
     };
     Deed::Starts {
         who: Who::Producer(built.number),

@@ -12,7 +12,7 @@ ghost use Rattle.pulsar_acts.specs.Reading.{unless};
 ghost use Rattle.pulsar_acts.specs.Rules.{asks_raw, asks_topics, builds_with, does, follows, from_base, is_taken, parts_of, procedure_for, searches, taken_by, unless_refused};
 ghost use Rattle.pulsar_acts.specs.Run.{goes_on, ticket_for};
 ghost use Rattle.pulsar_agenda.specs.Agenda.{agenda_of};
-ghost use Rattle.pulsar_acts.specs.Tables.{chosen_of, view_of};
+ghost use Rattle.pulsar_acts.specs.Tables.{chosen_of, view_of, with_policies};
 ghost use Rattle.pulsar_plans.specs.Standing.{stand_of};
 ghost use Rattle.pulsar_acts.specs.View.{after, alarms_built, builds, may_call, stays, ways_of};
 ghost use Rattle.pulsar_calls.specs.Who.{is_same};
@@ -21,6 +21,7 @@ ghost use Rattle.pulsar_calls.specs.declared.act.Who.{Who as Meant};
 use crate::tables::Tables;
 use crate::tables::alarms::{IDLE_PERIOD, later};
 use crate::tables::consumers::{join_all, join_some};
+use crate::tables::multi::multi_made;
 use pulsar_addresses::content::{Address, Text as Topic};
 use pulsar_agenda::agenda::Tasks;
 use pulsar_calls::act::{
@@ -35,6 +36,7 @@ use pulsar_exchange::raw_call::RawCall;
 use pulsar_links::addresses::Series;
 use pulsar_plans::plan::{Plan, PlanTransition, begins, failure, told};
 use pulsar_plans::table::Plans;
+use pulsar_producer::CustomRoutingPolicy;
 use pulsar_searches::plan::Sought;
 use pulsar_searches::transition::Transition;
 use pulsar_wire::commands::topics::Mode;
@@ -154,7 +156,9 @@ impl Tables {
             Call::Lookup { topic } => self.searches(Sought::Look(Topic::new(topic))),
             Call::Partitions { topic } => self.searches(Sought::CountPartitions(Topic::new(topic))),
             Call::Brokers { topic } => self.searches(Sought::Name(Topic::new(topic))),
+            Call::Post { topic, message } => self.posts(topic, message),
             Call::Producer(builder) => self.produces(builder),
+            Call::MultiProducer(builder) => multi_made(self.alloc, builder),
             Call::Send { producer, message } => self.sends(producer, message, advice.next()),
             Call::SendAll { producer, messages } => {
                 self.sends_all(producer, messages, advice, parts)
@@ -162,6 +166,17 @@ impl Tables {
             Call::Flush { producer } => self.flushes(producer),
             Call::CheckProducer { producer } => self.checks(producer),
             Call::CloseProducer { producer } => self.closes(producer),
+            Call::MultiSend {
+                producer,
+                topic,
+                message,
+            } => self.multi_sends(producer, topic, message),
+            Call::MultiSendAll {
+                producer,
+                topic,
+                messages,
+            } => self.multi_sends_all(producer, topic, messages, parts),
+            Call::MultiClose { producer, topic } => Ok(self.multi_closes(producer, topic)),
             Call::Consumer(builder) => self.subscribes(builder),
             Call::Ack {
                 consumer,
@@ -279,11 +294,13 @@ impl Tables {
         &mut self,
         who: Who,
         action: Action,
+        policies: &[Box<dyn CustomRoutingPolicy>],
         tasks: &mut Tasks,
         out: &mut Vec<Effect>,
     ) -> Result<(), NoMemory>
         ensures out { OnOk result (map shown out.new.items ≡ map shown out.old.items ++ effects (view_of self.old) (Act.Does who action)) }
-        ensures left { OnOk result (agenda_of tasks.new ≡ goes_on (view_of self.old) (Act.Does who action) (agenda_of tasks.old)) }
+        ensures left { OnOk result (agenda_of tasks.new ≡ goes_on (with_policies (map (λ p. routes p) policies.now) (view_of self.old)) (Act.Does who action)
+            (agenda_of tasks.old)) }
         ensures sees { OnOk result (view_of self.new ≡ after (Act.Does who action) (view_of self.old)) }
         ensures settings { self.new.settings ≡ self.old.settings }
     {
@@ -292,6 +309,7 @@ impl Tables {
             Action::Ask { link, request } => self.asks(who, link, request, tasks, out),
             Action::Wait(delay) => self.alarms.set(Alarm::Wake(who), later(self.clock, delay)),
             Action::OfTopic { number, ask } => self.asks_topic(who, number, ask, tasks),
+            Action::OfMulti { multi, ask } => self.asks_multi(who, multi, ask, policies, tasks),
             Action::OfConsumer(ask) => self.asks_consumer(who, ask, tasks),
             Action::Number => self.numbers(who, tasks),
             Action::Hold { link, number } => self.holds(who, link, number, tasks),
@@ -488,8 +506,11 @@ fn builds(makes: &Makes, is_built: bool) -> bool
 {
     match makes {
         Makes::Client => true,
-        Makes::Nothing | Makes::Consumer(_) | Makes::RawConsumer { .. } | Makes::Producer(_) =>
-            is_built,
+        Makes::Nothing
+        | Makes::Consumer(_)
+        | Makes::RawConsumer { .. }
+        | Makes::Producer(_)
+        | Makes::MultiProducer { .. } => is_built,
     }
 }
 
@@ -511,17 +532,26 @@ fn shares(call: &Call) -> u64
             producer: _,
             messages,
         } => messages.len() as u64,
+        Call::MultiSendAll {
+            producer: _,
+            topic: _,
+            messages,
+        } => messages.len() as u64,
         Call::Build
         | Call::Stop
         | Call::Topics { .. }
         | Call::Lookup { .. }
         | Call::Partitions { .. }
         | Call::Brokers { .. }
+        | Call::Post { .. }
         | Call::Producer(_)
+        | Call::MultiProducer(_)
         | Call::Send { .. }
         | Call::Flush { .. }
         | Call::CheckProducer { .. }
         | Call::CloseProducer { .. }
+        | Call::MultiSend { .. }
+        | Call::MultiClose { .. }
         | Call::Consumer(_)
         | Call::Ack { .. }
         | Call::Nack { .. }

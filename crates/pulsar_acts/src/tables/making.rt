@@ -54,6 +54,10 @@ impl Tables {
                 )?;
                 Ok(None)
             }
+            Makes::MultiProducer { name, settings } => {
+                self.producers.multis.make(rank(who).1, name, settings)?;
+                Ok(None)
+            }
         }
     }
 
@@ -139,11 +143,15 @@ impl Tables {
         ensures { IfOk result (λ acts. acts.items ≡ left_with (ways_of (chosen_of self.now.settings)) who makes.now) }
     {
         match makes {
-            Makes::Producer(made) => self.batches_made(made.get()),
-            Makes::Consumer(joined) => self.serves(who, joined.get()),
-            Makes::Nothing | Makes::Client | Makes::RawConsumer { .. } => {
-                Ok(VecDeque::new(self.alloc))
+            Makes::Producer(made) => {
+                let made = made.get();
+                self.batches_for(&made.settings, &made.parts)
             }
+            Makes::Consumer(joined) => self.serves(who, joined.get()),
+            Makes::Nothing
+            | Makes::Client
+            | Makes::RawConsumer { .. }
+            | Makes::MultiProducer { .. } => Ok(VecDeque::new(self.alloc)),
         }
     }
 

@@ -1,13 +1,13 @@
 //! The tables of a client, and what each act does to them.
 
-ghost use Rattle.std.specs.Prelude.{◌≡◌, ◌++◌, List, map, OnOk};
+ghost use Rattle.std.specs.Prelude.{◌≡◌, ◌++◌, List, map, IfOk, OnOk};
 ghost use Rattle.pulsar_calls.specs.Content.{shown};
 ghost use Rattle.pulsar_producer.specs.Routing.{Policy};
 ghost use Rattle.pulsar_acts.specs.Effects.{effects};
 ghost use Rattle.pulsar_acts.specs.View.{after, new};
 ghost use Rattle.pulsar_agenda.specs.Agenda.{agenda_of};
 ghost use Rattle.pulsar_acts.specs.Run.{goes_on};
-ghost use Rattle.pulsar_acts.specs.Tables.{chosen_of, view_of};
+ghost use Rattle.pulsar_acts.specs.Tables.{chosen_of, view_of, with_policies};
 
 mod alarms;
 mod batches;
@@ -15,6 +15,7 @@ mod calls;
 mod consumers;
 mod links;
 mod making;
+mod multi;
 mod producers;
 mod sends;
 
@@ -27,6 +28,7 @@ use pulsar_links::addresses::Addresses;
 use pulsar_links::alarms::Alarms;
 use pulsar_links::links::Links;
 use pulsar_plans::table::Plans;
+use pulsar_producer::CustomRoutingPolicy;
 use pulsar_producer_table::table::Producers;
 use pulsar_wire::error::NoMemory;
 use std::alloc::Global;
@@ -71,12 +73,12 @@ impl Drop for Tables {
 }
 
 impl Tables {
-    pub fn new(alloc: Global, settings: Settings) -> Tables
-        ensures { (policies : List Policy) → view_of result ≡ new (record { chosen = chosen_of settings; policies = policies }) }
+    pub fn new(alloc: Global, settings: Settings) -> Result<Tables, NoMemory>
+        ensures { IfOk result (λ c. (policies : List Policy) → with_policies policies (view_of c) ≡ new (record { chosen = chosen_of settings; policies = policies })) }
     {
         let clock = settings.start;
         let first_number = settings.first_number;
-        Tables {
+        Ok(Tables {
             alloc,
             settings,
             clock,
@@ -88,19 +90,20 @@ impl Tables {
             addresses: Addresses::new(alloc),
             alarms: Alarms::new(alloc),
             consumers: Consumers::new(alloc, first_number),
-            producers: Producers::new(alloc, first_number),
-        }
+            producers: Producers::new(alloc, first_number)?,
+        })
     }
 
     /// One act: its effects, what arises from it, and the tables after it.
     pub fn treat(
         &mut self,
         act: Act,
+        policies: &[Box<dyn CustomRoutingPolicy>],
         tasks: &mut Tasks,
         out: &mut Vec<Effect>,
     ) -> Result<(), NoMemory>
         ensures out { OnOk result (map shown out.new.items ≡ map shown out.old.items ++ effects (view_of self.old) act) }
-        ensures left { OnOk result (agenda_of tasks.new ≡ goes_on (view_of self.old) act (agenda_of tasks.old)) }
+        ensures left { OnOk result (agenda_of tasks.new ≡ goes_on (with_policies (map (λ p. routes p) policies.now) (view_of self.old)) act (agenda_of tasks.old)) }
         ensures sees { OnOk result (view_of self.new ≡ after act (view_of self.old)) }
         ensures settings { self.new.settings ≡ self.old.settings }
     {
@@ -111,7 +114,7 @@ impl Tables {
             Act::Comes(Part::Polls(ticket)) => self.polls(ticket, tasks, out),
             Act::Starts { who, procedure } => self.starts(who, procedure, tasks),
             Act::Told(Notice { who, outcome }) => self.told(who, outcome, tasks),
-            Act::Does { who, action } => self.does(who, action, tasks, out),
+            Act::Does { who, action } => self.does(who, action, policies, tasks, out),
             Act::Answers { who, verdict } => self.answers(who, verdict, tasks, out),
             Act::Dials {
                 address,

@@ -280,7 +280,7 @@ fn stores_as(
 }
 
 /// A send is not made.
-fn fails(share: Option<Share>, refusal: CallRefusal) -> Procedure
+pub(super) fn fails(share: Option<Share>, refusal: CallRefusal) -> Procedure
     ensures { result ≡ rules.fails_as share refusal }
 {
     match share {
@@ -289,13 +289,13 @@ fn fails(share: Option<Share>, refusal: CallRefusal) -> Procedure
     }
 }
 
-fn following(ticket: u64) -> Result<u64, NoMemory>
+pub(super) fn following(ticket: u64) -> Result<u64, NoMemory>
     ensures { IfOk result (λ t. t ≡ ticket + 1) }
 {
     ticket.checked_add(1).ok_or(NoMemory)
 }
 
-fn text(name: Option<String>) -> Option<Text>
+pub(super) fn text(name: Option<String>) -> Option<Text>
     ensures { result ≡ option_map string_bytes name }
 {
     match name {

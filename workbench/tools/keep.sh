@@ -3,11 +3,11 @@
 exec 9>/work/l/.keep; flock 9
 cd /work/main || exit 1
 heads=""
-for d in /work/h/trans /work/l/bars /work/l/holes /work/l/letters2 /work/l/multis2 /work/h/ninth /work/l/letters3 /work/l/multis3 /work/h/wb; do
+add() { git fetch -q "$1" "$2" 2>/dev/null || return; h=$(git rev-parse FETCH_HEAD); git merge-base --is-ancestor $h HEAD || heads="$heads $h"; }
+for b in tenth eleventh; do add /work/h/trans $b; done
+for d in /work/h/wb /work/l/letters /work/l/multis /work/l/calls4 /work/l/letters3 /work/l/multis /work/l/laws /work/l/measure /work/l/client; do
   [ -d $d/.git ] || continue
-  h=$(git -C $d rev-parse HEAD 2>/dev/null) || continue
-  git fetch -q $d HEAD 2>/dev/null || continue
-  git merge-base --is-ancestor $h HEAD || heads="$heads $h"
+  add $d HEAD
 done
 [ -z "$heads" ] && exit 0
 git merge -q -s ours -m "Keep the work of branches under way" $heads && git log --oneline | head -1

@@ -18,7 +18,8 @@ use Rattle.pulsar_calls.specs.declared.content.BuiltProducer.{BuiltProducer}
 use Rattle.pulsar_calls.specs.Content as content
 use Rattle.pulsar_calls.specs.Content.{Asked}
 use Rattle.pulsar_producer_table.specs.Asks.{grants_it, turn_said}
-use Rattle.pulsar_producer_table.specs.Producers.{Producers, all_routed, called_on, changed, done_to, fresh_topic, joined, last_of, listed, made_of, names_in, opened_on, routed, sent_on, shut_all, shut_by, topic_after, topic_in, turn_taken, why_not, with_built, with_topic, with_topics}
+use Rattle.pulsar_producer_table.specs.Producers.{Producers, all_routed, called_on, changed, done_to, fresh_topic, joined, last_of, listed, made_of, names_in, of_call, opened_on, routed, sent_on, shut_all, shut_by, topic_after, topic_in, turn_taken, why_not, with_built, with_topic, with_topics}
+use Rattle.pulsar_producer_table.specs.declared.table.Owner.{Owner}
 use Rattle.pulsar_producer_table.specs.declared.table.Topic.{Topic}
 
 -- WHAT IS DONE TO ONE
@@ -109,21 +110,21 @@ joins_row (Some u) b t row = refl
 joins_row None true t row = refl
 joins_row None false t row = refl
 
-with_row : (owner f : ℕ) (limits : Limits) (bs : List Built) (ps : Producers) (n : ℕ) →
+with_row : (owner : Owner) (f : ℕ) (limits : Limits) (bs : List Built) (ps : Producers) (n : ℕ) →
     (with_topics owner f limits bs ps).topics n ≡ born (topic_in owner f limits bs n) (ps.topics n)
 with_row owner f limits [] ps n = refl
 with_row owner f limits (b ∷ bs) ps n =
     with_row owner f limits bs (with_topic owner f limits b ps) n
     ∙ joins_row (topic_in owner f limits bs n) (n == b.number) (fresh_topic owner f limits b) (ps.topics n)
 
-with_numbers : (owner f : ℕ) (limits : Limits) (bs : List Built) (ps : Producers) →
+with_numbers : (owner : Owner) (f : ℕ) (limits : Limits) (bs : List Built) (ps : Producers) →
     (with_topics owner f limits bs ps).numbers ≡ ps.numbers ++ map (λ q. q.number) bs
 with_numbers owner f limits [] ps = sym (append-nil ps.numbers)
 with_numbers owner f limits (b ∷ bs) ps =
     with_numbers owner f limits bs (with_topic owner f limits b ps) ∙ append_assoc ps.numbers (b.number ∷ []) (map (λ q. q.number) bs)
 
 -- and all else of the table stays
-with_others : (owner f : ℕ) (limits : Limits) (bs : List Built) (ps : Producers) →
+with_others : (owner : Owner) (f : ℕ) (limits : Limits) (bs : List Built) (ps : Producers) →
     with_topics owner f limits bs ps
     ≡ record ps { topics = (with_topics owner f limits bs ps).topics; numbers = (with_topics owner f limits bs ps).numbers }
 with_others owner f limits [] ps = refl
@@ -135,13 +136,13 @@ built_beside t None ps topics = refl
 built_beside t (Some p) ps topics = refl
 
 pub joined_is : (t : ℕ) (b : BuiltProducer) (seed f : ℕ) (ps : Producers) →
-    joined t b seed f ps ≡ record (listed t b seed ps) { topics = λ n. born (topic_in t f (limits_of b.settings) b.parts n) (ps.topics n) }
+    joined t b seed f ps ≡ record (listed t b seed ps) { topics = λ n. born (topic_in (of_call t) f (limits_of b.settings) b.parts n) (ps.topics n) }
 joined_is t b seed f ps =
     let limits = limits_of b.settings in
-    let new : ℕ → Option Topic = (λ n. born (topic_in t f limits b.parts n) (ps.topics n)) in
+    let new : ℕ → Option Topic = (λ n. born (topic_in (of_call t) f limits b.parts n) (ps.topics n)) in
     ap (with_built t (made_of seed t b))
-    (with_others t f limits b.parts ps
-    ∙ (λ i. record ps { topics = λ n. with_row t f limits b.parts ps n i; numbers = with_numbers t f limits b.parts ps i }))
+    (with_others (of_call t) f limits b.parts ps
+    ∙ (λ i. record ps { topics = λ n. with_row (of_call t) f limits b.parts ps n i; numbers = with_numbers (of_call t) f limits b.parts ps i }))
     ∙ built_beside t (made_of seed t b) (record ps { numbers = ps.numbers ++ map (λ q. q.number) b.parts }) new
 
 -- A CALL leaves them as they are

@@ -17,8 +17,9 @@ use Rattle.pulsar_outgoing.specs.declared.content.Built.{Built}
 use Rattle.pulsar_producer.specs.declared.routing.Partition.{Partition}
 use Rattle.pulsar_outgoing.specs.declared.storage.Limits.{Limits}
 use Rattle.pulsar_calls.specs.declared.content.BuiltProducer.{BuiltProducer}
+use Rattle.pulsar_producer_table.specs.declared.table.Owner.{Owner}
 use Rattle.pulsar_producer_table.specs.declared.table.Topic.{Topic}
-use Rattle.pulsar_producer_table.specs.Producers.{Producers, changed, joined, made_of, partition_of, routed, shut_all, topic_after, with_built, with_topic, with_topics}
+use Rattle.pulsar_producer_table.specs.Producers.{Producers, changed, joined, made_of, of_call, partition_of, routed, shut_all, topic_after, with_built, with_topic, with_topics}
 
 -- ONE ROW OF A TABLE
 
@@ -67,10 +68,10 @@ shut_end [] n ps = refl
 shut_end (k ∷ ns) n ps = shut_end ns n (changed k Closes ps)
 
 -- one is made, and then another
-abbrev topic_of : (owner : ℕ) → Seen → Option Topic
+abbrev topic_of : Owner → Seen → Option Topic
 topic_of owner seen = Some (record { owner = owner; seen = seen })
 
-pub topic_made : (owner first : ℕ) (limits : Limits) (b : Built) (ps : Producers) (topics : ℕ → Option Topic) (numbers : List ℕ) (seen : Seen) →
+pub topic_made : (owner : Owner) (first : ℕ) (limits : Limits) (b : Built) (ps : Producers) (topics : ℕ → Option Topic) (numbers : List ℕ) (seen : Seen) →
     seen ≡ fresh (record { built = b; first_number = first; limits = limits }) →
     ((m : ℕ) → topics m ≡ cond (is_at (nat_cmp b.number) m) (Some (record { owner = owner; seen = seen })) (ps.topics m)) →
     numbers ≡ ps.numbers ++ b.number ∷ [] → record ps { topics = topics; numbers = numbers } ≡ with_topic owner first limits b ps
@@ -80,7 +81,7 @@ topic_made owner first limits b ps topics numbers seen is written are =
     (λ m. row_put b.number (topic_of owner seen) ps.topics topics written m ∙ ap (λ s. cond (m == b.number) (topic_of owner s) (ps.topics m)) is) in
     λ i. record ps { topics = λ m. all m i; numbers = are i }
 
-pub topics_end : (owner first : ℕ) (limits : Limits) (bs : List Built) (b : Built) (ps : Producers) →
+pub topics_end : (owner : Owner) (first : ℕ) (limits : Limits) (bs : List Built) (b : Built) (ps : Producers) →
     with_topics owner first limits (bs ++ b ∷ []) ps ≡ with_topic owner first limits b (with_topics owner first limits bs ps)
 topics_end owner first limits [] b ps = refl
 topics_end owner first limits (a ∷ bs) b ps = topics_end owner first limits bs b (with_topic owner first limits a ps)
@@ -94,8 +95,8 @@ made_so seed ticket b qs are =
     ∙ ap (λ n. made b.topic b.settings (map partition_of b.parts) (first_index seed ticket n)) (length-map b.parts partition_of)
 
 pub joined_so : (t seed first : ℕ) (b : BuiltProducer) (ps now : Producers) (p : producer.Seen) (built : ℕ → Option producer.Seen) →
-    now ≡ with_topics t first (limits_of b.settings) b.parts ps → made_of seed t b ≡ Some p → ((u : ℕ) → built u ≡ cond (is_at (nat_cmp t) u) (Some p) (now.built u)) →
+    now ≡ with_topics (of_call t) first (limits_of b.settings) b.parts ps → made_of seed t b ≡ Some p → ((u : ℕ) → built u ≡ cond (is_at (nat_cmp t) u) (Some p) (now.built u)) →
     record now { built = built } ≡ joined t b seed first ps
 joined_so t seed first b ps now p built topics is written =
     let all = row_put t (Some p) now.built built written in
-    (λ i. record now { built = λ u. all u i }) ∙ ap (with_built t (Some p)) topics ∙ ap (λ o. with_built t o (with_topics t first (limits_of b.settings) b.parts ps)) (sym is)
+    (λ i. record now { built = λ u. all u i }) ∙ ap (with_built t (Some p)) topics ∙ ap (λ o. with_built t o (with_topics (of_call t) first (limits_of b.settings) b.parts ps)) (sym is)

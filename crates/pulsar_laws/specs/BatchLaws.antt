@@ -99,6 +99,7 @@ asks_others (OfTopic m ask) = false
 asks_others action.Number = false
 asks_others (action.Hold l m) = false
 asks_others (Shut t) = false
+asks_others (action.OfMulti m ask) = false
 asks_others (action.TakeNumber wanted) = false
 asks_others (action.OfConsumer ask) = false
 asks_others (action.Tell notice) = false

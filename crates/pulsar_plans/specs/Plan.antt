@@ -14,6 +14,7 @@ use Rattle.pulsar_exchange.specs.Request.{Subscribed, answer_of, is_answered, re
 use Rattle.pulsar_calls.specs.declared.act.Action.{Action}
 use Rattle.pulsar_calls.specs.declared.act.Action.TheVariants.{OfTopic, OfMulti, Get, Ask, Wait, Number, Hold, Shut, TakeNumber, OfConsumer, Tell, TellAll, StopAll, Rest}
 use Rattle.pulsar_calls.specs.declared.act.TopicAsk.TheVariants.{TakeTurn, PassTurn, Draw, Recall, Remake, Find, Store, Flush, TakeBatch}
+use Rattle.pulsar_calls.specs.declared.act.ConsumerAsk.{ConsumerAsk}
 use Rattle.pulsar_calls.specs.declared.act.ConsumerAsk.TheVariants as consumer_ask
 use Rattle.pulsar_calls.specs.declared.act.Makes.{Makes}
 use Rattle.pulsar_calls.specs.declared.act.Makes.TheVariants.{Nothing, Client, Consumer, RawConsumer, Producer, MultiProducer}
@@ -38,7 +39,9 @@ use Rattle.pulsar_calls.specs.declared.act.Word.TheVariants as word
 use Rattle.pulsar_plans.specs.declared.plan.Plan.{Plan}
 use Rattle.pulsar_plans.specs.declared.plan.At.{At as Stage}
 use Rattle.pulsar_plans.specs.declared.plan.At.TheVariants as at
-use Rattle.pulsar_plans.specs.declared.plan.Plan.TheVariants.{Building, Getting, Asking, Awaiting, Searching, Producing, Sending, Reporting, Storing, Stored, Batching, Leaving, Gathering, Shutting, Visiting, MultiSending, MultiClosing, Subscribing, Serving, Acknowledging, Departing, Stopping}
+use Rattle.pulsar_plans.specs.declared.copies.Copying.{Copying as Copies}
+use Rattle.pulsar_plans.specs.declared.copies.Copying.TheVariants as copying
+use Rattle.pulsar_plans.specs.declared.plan.Plan.TheVariants.{Building, Getting, Asking, Awaiting, Searching, Producing, Sending, Reporting, Storing, Stored, Batching, Leaving, Gathering, Shutting, Visiting, MultiSending, MultiClosing, Subscribing, Serving, Copying, Acknowledging, Departing, Stopping}
 use Rattle.pulsar_plans.specs.declared.service.Service.{Service}
 use Rattle.pulsar_plans.specs.declared.service.Service.TheVariants as service
 use Rattle.pulsar_plans.specs.declared.states.Resubscribing.{Resubscribing}
@@ -62,6 +65,7 @@ use Rattle.pulsar_searches.specs.declared.turn.Action.TheVariants as wish
 use Rattle.pulsar_searches.specs.declared.turn.SearchOutcome.{SearchOutcome as News}
 use Rattle.pulsar_searches.specs.declared.turn.SearchOutcome.TheVariants as news
 use Rattle.pulsar_searches.specs.declared.turn.Ways.{Ways}
+use Rattle.pulsar_messages.specs.Content.{ProducerMessageValues}
 use Rattle.pulsar_outgoing.specs.Errors.{in_producer}
 use Rattle.pulsar_wire.specs.declared.error.Reason.TheVariants as reason
 use Rattle.pulsar_wire.specs.Row.{Values, spelling}
@@ -91,6 +95,7 @@ use Rattle.pulsar_producer.specs.declared.multi_topic.sending.MultiSending.{Mult
 use Rattle.pulsar_outgoing.specs.declared.multi_topic.Dispatch.{Dispatch}
 use Rattle.pulsar_outgoing.specs.declared.multi_topic.Dispatch.TheVariants as dispatch
 use Rattle.pulsar_outgoing.specs.declared.multi_topic.Multi.{Multi}
+use Rattle.pulsar_outgoing.specs.declared.multi_topic.Multi.TheVariants.{Own}
 use Rattle.pulsar_outgoing.specs.declared.news.News.TheVariants as granting
 use Rattle.pulsar_outgoing.specs.declared.orders.Errand.{Errand}
 use Rattle.pulsar_producer.specs.declared.sending.Sending.{Sending as Send}
@@ -534,6 +539,11 @@ news_by (word.Recalled c) = None
 news_by word.Lives = None
 news_by (word.TopicEnded link) = None
 news_by word.Over = None
+news_by (word.Asks link request) = None
+news_by word.NoAsk = None
+news_by word.CopyDue = None
+news_by (word.Letter message) = None
+news_by word.NoLetter = None
 
 abbrev pub consumer_news_of : Outcome → Option ConsumerNews
 consumer_news_of Queued = None
@@ -586,6 +596,11 @@ resting_hears w n (word.Flow link permits) = stays_so w n service.Resting
 resting_hears w n word.NoFlow = stays_so w n service.Resting
 resting_hears w n (word.Recalled c) = stays_so w n service.Resting
 resting_hears w n word.Lives = stays_so w n service.Resting
+resting_hears w n (word.Asks link request) = serves w n service.Asking (Ask link request)
+resting_hears w n word.NoAsk = stays_so w n service.Resting
+resting_hears w n word.CopyDue = stays_so w n service.Resting
+resting_hears w n (word.Letter message) = stays_so w n service.Resting
+resting_hears w n word.NoLetter = stays_so w n service.Resting
 
 abbrev pub in_resting : Ways → (number : ℕ) → Outcome → PlanTransition
 in_resting w n (Hears x) = resting_hears w n x
@@ -636,6 +651,50 @@ told_service w n service.Closing o = is_over
 abbrev pub told_serving : Ways → (number : ℕ) → Service → Outcome → PlanTransition
 told_serving w n s o = if overrides o then is_over else told_service w n s o
 
+-- THE COPIES of its dead letters are sent to another topic by the client's own producer of many topics, one after the other, each behind what
+-- becomes of the one before. What is not waited for changes nothing.
+
+abbrev pub copies : Ways → (topic : List ℕ) → Copies → Action → PlanTransition
+copies w t s action = Stays (Copying w t s) action
+
+abbrev pub copies_so : Ways → (topic : List ℕ) → Copies → PlanTransition
+copies_so w t s = copies w t s Rest
+
+-- the consumer is told what became of one, and whether its message is to be acknowledged is heard then
+abbrev pub copy_ends : Ways → (topic : List ℕ) → ConsumerAsk → PlanTransition
+copy_ends w t ask = copies w t copying.Telling (OfConsumer ask)
+
+abbrev pub sends_copy : Ways → (topic : List ℕ) → Errand → produce.Sent → PlanTransition
+sends_copy w t e (Stays s d) = copies w t (copying.Sending e s) (action_of d)
+sends_copy w t e (Gives (Ok r)) = copy_ends w t consumer_ask.CopySent
+sends_copy w t e (Gives (Err f)) = copy_ends w t consumer_ask.CopyFailed
+
+-- the client's own producer of many topics makes no batches
+abbrev pub hands_copy : Ways → (topic : List ℕ) → multi.Dispatches → PlanTransition
+hands_copy w t (Stays s d) = copies w t (copying.Handing s) (multi_action_of Own d)
+hands_copy w t (Gives (Ok (dispatch.Send e m))) = sends_copy w t e (produce.send_begins e m)
+hands_copy w t (Gives (Ok (dispatch.Store n e))) = copy_ends w t consumer_ask.CopyFailed
+hands_copy w t (Gives (Err f)) = copy_ends w t consumer_ask.CopyFailed
+
+abbrev pub told_copier : Ways → (topic : List ℕ) → Copies → Outcome → PlanTransition
+told_copier w t copying.Resting (Hears word.CopyDue) = copies w t copying.Taking (OfConsumer consumer_ask.TakeCopy)
+told_copier w t copying.Resting o = copies_so w t copying.Resting
+told_copier w t copying.Taking (Hears (word.Letter m)) = hands_copy w t (multi.send_begins t m)
+told_copier w t copying.Taking (Hears word.NoLetter) = copies_so w t copying.Resting
+told_copier w t copying.Taking o = copies_so w t copying.Taking
+told_copier w t (copying.Handing s) (Hears x) = copies_so w t (copying.Handing s)
+told_copier w t (copying.Handing s) o = hands_copy w t (multi.multi_send_told w s (multi_news_of o))
+told_copier w t (copying.Sending e s) (Hears x) = copies_so w t (copying.Sending e s)
+told_copier w t (copying.Sending e s) o = sends_copy w t e (produce.send_told w e s (news_of o))
+told_copier w t copying.Telling (Hears (word.Asks link request)) = copies w t copying.Asking (Ask link request)
+told_copier w t copying.Telling (Hears word.NoAsk) = copies_so w t copying.Resting
+told_copier w t copying.Telling o = copies_so w t copying.Telling
+told_copier w t copying.Asking o = copies_so w t copying.Resting
+
+-- the stop of the client ends it
+abbrev pub told_copying : Ways → (topic : List ℕ) → Copies → Outcome → PlanTransition
+told_copying w t s o = if overrides o then is_over else told_copier w t s o
+
 -- AN ACKNOWLEDGEMENT is asked for where a subscription is live, and nobody waits for what becomes of it.
 
 abbrev pub acknowledges : (link : Option ℕ) → Words → PlanTransition
@@ -675,6 +734,7 @@ begins (procedure.MultiSend ways m share topic message) = multi_sends ways m sha
 begins (procedure.MultiClose m topic) = multi_closes m (multi.close_begins topic)
 begins (procedure.Subscribe ways order) = subscribes ways order (consume.build_begins ways order)
 begins (procedure.Serve ways number) = stays_so ways number service.Resting
+begins (procedure.Copy ways topic) = copies_so ways topic copying.Resting
 begins (procedure.Acknowledge link request) = acknowledges link request
 begins (procedure.Leave consumer number) = departs consumer number
 begins (procedure.Refuse r) = Gives (verdict Nothing (Failed (failure_of r)))
@@ -711,6 +771,7 @@ told (MultiSending w m share s) o = told_multi_send w m share s o
 told (MultiClosing m s) o = told_multi_close m s o
 told (Subscribing w order b) o = told_subscribing w order b o
 told (Serving w n s) o = told_serving w n s o
+told (Copying w t s) o = told_copying w t s o
 told Acknowledging o = is_over
 told (Departing t n) o = in_departing t n o
 told Stopping Stopped = Gives (verdict Nothing Done)

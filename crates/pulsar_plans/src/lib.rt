@@ -3,6 +3,8 @@
 
 pub mod answers;
 pub mod batches;
+pub mod copies;
+pub mod copying;
 pub mod departing;
 pub mod gathering;
 pub mod multi;

@@ -9,7 +9,7 @@ pub enum Service {
     Resting,
     /// It takes the flow that is due next.
     Taking,
-    /// It has asked for that.
+    /// It has asked for that, or for messages to be given again.
     Asking,
     /// It finds the command by which the consumer is subscribed again.
     Recalling,

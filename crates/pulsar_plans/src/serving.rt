@@ -1,5 +1,5 @@
-//! The plan that serves a consumer: it asks for its flows, makes its subscription again where that is lost, and closes it where its
-//! topic ends.
+//! The plan that serves a consumer: it asks for its flows, and for messages to be given again, makes its subscription again where that is lost,
+//! and closes it where its topic ends.
 
 ghost use Rattle.std.specs.Prelude.{◌≡◌, IfOk};
 ghost use Rattle.pulsar_messages.specs.Words.{SendFlow};
@@ -99,6 +99,10 @@ fn hears(alloc: Global, ways: Ways, number: u64, word: Word) -> Result<PlanTrans
         )),
         Word::TopicEnded { link } => Ok(closes_on(ways, number, link)),
         Word::Over => over(alloc),
+        Word::Asks { link, request } => {
+            let action = Action::Ask { link, request };
+            Ok(stays(ways, number, Service::Asking, action))
+        }
         Word::Numbered(_)
         | Word::InUse
         | Word::Again
@@ -106,7 +110,11 @@ fn hears(alloc: Global, ways: Ways, number: u64, word: Word) -> Result<PlanTrans
         | Word::Flow { .. }
         | Word::NoFlow
         | Word::Recalled(_)
-        | Word::Lives => Ok(stays(ways, number, Service::Resting, Action::Rest)),
+        | Word::Lives
+        | Word::NoAsk
+        | Word::CopyDue
+        | Word::Letter(_)
+        | Word::NoLetter => Ok(stays(ways, number, Service::Resting, Action::Rest)),
     }
 }
 

@@ -558,7 +558,7 @@ producers_left (who.Producer n) ps = ps
 
 -- what is around one that is asked, and what it gives
 abbrev pub around : View → Who → (number : ℕ) → Around
-around v who n = around_in v.producers n (turn_of who) (room_of v n)
+around v who n = around_in v.producers n who (room_of v n)
 
 abbrev pub asked_of : View → Who → (number : ℕ) → TopicAsk → Given
 asked_of v who n ask = given (around v who n) ask (v.producers.topics n)

@@ -5,19 +5,13 @@ use Rattle.std.proofs.lemmas.Grind.{common_steps}
 use Rattle.std.specs.Cmp.{IsStrictWeakOrder}
 use Rattle.pulsar_calls.specs.Order.{effect_below, effect_rank, is_before3}
 use Rattle.pulsar_calls.specs.Order.{below}
-use Rattle.pulsar_calls.specs.Who.{is_before, rank}
+use Rattle.pulsar_calls.specs.Who.{rank}
 
-one_way2 : (a b c d : ℕ) → is_before (a, b) (c, d) ≡ true → is_before (c, d) (a, b) ≡ false
-one_way2 a b c d h = grind (arith, nat_tests, common_steps)
+abbrev is_before2 : ℕ × ℕ → ℕ × ℕ → Bool
+is_before2 a b = cond (a.0 == b.0) (nat_lt a.1 b.1) (nat_lt a.0 b.0)
 
-chain2 : (a b c d e f : ℕ) → is_before (a, b) (c, d) ≡ false → is_before (c, d) (e, f) ≡ false → is_before (a, b) (e, f) ≡ false
+chain2 : (a b c d e f : ℕ) → is_before2 (a, b) (c, d) ≡ false → is_before2 (c, d) (e, f) ≡ false → is_before2 (a, b) (e, f) ≡ false
 chain2 a b c d e f h k = grind (arith, nat_tests, common_steps)
-
-pub below_order : IsStrictWeakOrder below
-below_order = record {
-  one_way = λ x y h. one_way2 (rank x.who).0 (rank x.who).1 (rank y.who).0 (rank y.who).1 h;
-  chain = λ x y z h k. chain2 (rank x.who).0 (rank x.who).1 (rank y.who).0 (rank y.who).1 (rank z.who).0 (rank z.who).1 h k;
-}
 
 pub one_way3 : (a b c d e f : ℕ) → is_before3 (a, b, c) (d, e, f) ≡ true → is_before3 (d, e, f) (a, b, c) ≡ false
 one_way3 a b c d e f h = grind (arith, nat_tests, common_steps)
@@ -35,4 +29,11 @@ pub effect_order : IsStrictWeakOrder effect_below
 effect_order = record {
   one_way = λ x y h. one_way3 (effect_rank x).0 (effect_rank x).1 (effect_rank x).2 (effect_rank y).0 (effect_rank y).1 (effect_rank y).2 h;
   chain = λ x y z h k. chain3 (effect_rank x).0 (effect_rank x).1 (effect_rank x).2 (effect_rank y).0 (effect_rank y).1 (effect_rank y).2 (effect_rank z).0 (effect_rank z).1 (effect_rank z).2 h k;
+}
+
+pub below_order : IsStrictWeakOrder below
+below_order = record {
+  one_way = λ x y h. one_way3 (rank x.who).0 (rank x.who).1 (rank x.who).2 (rank y.who).0 (rank y.who).1 (rank y.who).2 h;
+  chain = λ x y z h k.
+      chain3 (rank x.who).0 (rank x.who).1 (rank x.who).2 (rank y.who).0 (rank y.who).1 (rank y.who).2 (rank z.who).0 (rank z.who).1 (rank z.who).2 h k;
 }

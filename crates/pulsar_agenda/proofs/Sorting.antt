@@ -14,11 +14,8 @@ use Rattle.pulsar_calls.specs.declared.effect.Effect.{Effect}
 use Rattle.pulsar_calls.specs.Content.{shown}
 use Rattle.pulsar_calls.specs.Order.{effect_below, effect_rank, is_before3}
 use Rattle.pulsar_calls.specs.Order.{below}
-use Rattle.pulsar_calls.specs.Who.{is_before, rank}
+use Rattle.pulsar_calls.specs.Who.{rank}
 use Rattle.pulsar_agenda.proofs.Orders.{below_order, effect_order}
-
-abbrev cmp2 : ℕ × ℕ → ℕ × ℕ → Ordering
-cmp2 x y = ordering_then (nat_cmp x.0 y.0) (nat_cmp x.1 y.1)
 
 abbrev pub cmp3 : ℕ × ℕ × ℕ → ℕ × ℕ × ℕ → Ordering
 cmp3 x y = ordering_then (ordering_then (nat_cmp x.0 y.0) (nat_cmp x.1 y.1)) (nat_cmp x.2 y.2)
@@ -37,9 +34,6 @@ lt_then a c o b h = elim (cases_Bool (nat_lt a c)) [
   | inr e ↦ elim (cases_Bool (a == c)) [ inl d ↦ rw (e, d) h | inr d ↦ rw (e, d) refl ]
 ]
 
-lt2 : (x y : ℕ × ℕ) → is_lt (cmp2 x y) ≡ is_before x y
-lt2 x y = lt_then x.0 y.0 (nat_cmp x.1 y.1) (nat_lt x.1 y.1) (lt1 x.1 y.1)
-
 then_same : (a b c : Ordering) → ordering_then (ordering_then a b) c ≡ ordering_then a (ordering_then b c)
 then_same Less b c = refl
 then_same Equal b c = refl
@@ -51,10 +45,10 @@ lt3 x y =
     ∙ lt_then x.0 y.0 (ordering_then (nat_cmp x.1 y.1) (nat_cmp x.2 y.2)) (cond (x.1 == y.1) (nat_lt x.2 y.2) (nat_lt x.1 y.1))
     (lt_then x.1 y.1 (nat_cmp x.2 y.2) (nat_lt x.2 y.2) (lt1 x.2 y.2))
 
-notices_lt : (λ (x y : Notice). is_lt (cmp2 (rank x.who) (rank y.who))) ≡ below
-notices_lt = λ i x y. lt2 (rank x.who) (rank y.who) i
+notices_lt : (λ (x y : Notice). is_lt (cmp3 (rank x.who) (rank y.who))) ≡ below
+notices_lt = λ i x y. lt3 (rank x.who) (rank y.who) i
 
-pub notices_sorted : (xs ys : List Notice) → IsSortedByKey (λ (n : Notice). rank n.who) cmp2 ys → IsStableByKey (λ (n : Notice). rank n.who) cmp2 xs ys → ys ≡ arranged below xs
+pub notices_sorted : (xs ys : List Notice) → IsSortedByKey (λ (n : Notice). rank n.who) cmp3 ys → IsStableByKey (λ (n : Notice). rank n.who) cmp2 xs ys → ys ≡ arranged below xs
 notices_sorted xs ys s f =
     arranged_from_sort below below_order xs ys (subst (λ lt. IsSortedBy lt ys) notices_lt s) (subst (λ lt. IsStableBy lt xs ys) notices_lt f)
 

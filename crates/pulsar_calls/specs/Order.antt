@@ -1,14 +1,16 @@
 -- In which order things are taken. (Own rule.)
-use Rattle.std.specs.Prelude.{Bool, List, [], ◌∷◌, ℕ, ◌==◌, nat_lt, if◌then◌else◌}
+use Rattle.std.specs.Prelude.{Bool, List, [], ◌∷◌, ℕ}
 use Rattle.pulsar_calls.specs.declared.act.Notice.{Notice}
-use Rattle.pulsar_calls.specs.Who.{is_before, rank}
+use Rattle.pulsar_calls.specs.Who.{rank}
+pub use Rattle.pulsar_calls.specs.Who.{is_before3}
 use Rattle.pulsar_calls.specs.Content.{Shown, Connect, Queued, Write, Settles, Ends, Retry, Close, Hands, Faults, FindsNothing, FindsEnd}
 
 -- AMONG THOSE WHOM THE PRESENT CAUSE STILL SERVES
 
--- the order in which a cause serves: calls by ticket, then consumers by number, then producers by number
+-- the order in which a cause serves: calls by ticket, then consumers by number, each with the copies of its dead letters behind it, then producers
+-- by number
 abbrev pub below : Notice → Notice → Bool
-below a b = is_before (rank a.who) (rank b.who)
+below a b = is_before3 (rank a.who) (rank b.who)
 
 -- those whom one act serves are one cause, if there are any
 abbrev pub opens : List Notice → List (List Notice)
@@ -34,10 +36,6 @@ effect_rank (Hands ticket topic id size metadata payload) = (0, ticket, 0)
 effect_rank (Faults ticket fault) = (0, ticket, 0)
 effect_rank (FindsNothing ticket) = (0, ticket, 0)
 effect_rank (FindsEnd ticket) = (0, ticket, 0)
-
-abbrev pub is_before3 : ℕ × ℕ × ℕ → ℕ × ℕ × ℕ → Bool
-is_before3 a b =
-    if a.0 == b.0 then (if a.1 == b.1 then nat_lt a.2 b.2 else nat_lt a.1 b.1) else nat_lt a.0 b.0
 
 abbrev pub effect_below : Shown → Shown → Bool
 effect_below a b = is_before3 (effect_rank a) (effect_rank b)

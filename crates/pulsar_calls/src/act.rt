@@ -27,6 +27,12 @@ pub enum Who {
     Call(u64),
     /// The consumer of this number on the wire, which the call of this ticket built. Another one may have the number once it has ended.
     Consumer { number: u64, ticket: u64 },
+    /// The copies that this consumer has made of its dead letters. The key tells it from others that have had its number and its ticket.
+    Copy {
+        number: u64,
+        ticket: u64,
+        key: u64,
+    },
     /// The topic producer of this number, which sends batches.
     Producer(u64),
 }
@@ -58,6 +64,16 @@ pub enum Word {
     TopicEnded { link: u64 },
     /// The consumer has ended.
     Over,
+    /// This is to be asked for on this link: messages of the consumer are acknowledged there, or asked for again.
+    Asks { link: u64, request: Request },
+    /// Nothing is to be asked for.
+    NoAsk,
+    /// A copy of a dead letter of the consumer is to be sent to the other topic.
+    CopyDue,
+    /// This copy. It counts as under way.
+    Letter(UserMessage),
+    /// No copy is to be sent.
+    NoLetter,
 }
 
 /// What a plan is told.
@@ -272,6 +288,11 @@ pub enum Procedure {
         ways: Ways,
         number: u64,
     },
+    /// Send the copies of dead letters of a consumer to this topic, one after the other.
+    Copy {
+        ways: Ways,
+        topic: Text,
+    },
     /// Ask for this on the link of a live subscription, where there is one.
     Acknowledge {
         link: Option<u64>,
@@ -322,6 +343,12 @@ pub enum ConsumerAsk {
     Revive { link: u64 },
     /// It could not be subscribed again, for this reason.
     Fail(Failure),
+    /// The copy that is to be sent next.
+    TakeCopy,
+    /// The copy that it has taken has its receipt.
+    CopySent,
+    /// The copy that it has taken could not be sent.
+    CopyFailed,
 }
 
 /// What a plan does next. Then it waits for an outcome.
@@ -446,6 +473,8 @@ pub enum Alarm {
     Batch(u64),
     /// This link is to be pinged.
     KeepAlive(u64),
+    /// Messages of the consumer of this number, which the call of this ticket built, are to be asked for again where they are due.
+    Redelivery { number: u64, ticket: u64 },
     /// Links that nothing uses are to be ended.
     CheckIdle,
 }

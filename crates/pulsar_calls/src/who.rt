@@ -1,18 +1,23 @@
 //! The order of those that have plans.
 
 ghost use Rattle.std.specs.Prelude.{◌≡◌};
-ghost use Rattle.pulsar_calls.specs.Who.{in_turn, is_before, is_same, rank, ticket_of, turn_of};
+ghost use Rattle.pulsar_calls.specs.Who.{in_turn, is_before3, is_same, key_of, rank, ticket_of, turn_of};
 
 use crate::act::Who;
 
-/// Their kind, and their number.
-pub fn rank(who: Who) -> (u64, u64)
+/// Their kind, their number, and which of two that have both comes first.
+pub fn rank(who: Who) -> (u64, u64, u64)
     ensures { result ≡ rank who }
 {
     match who {
-        Who::Call(ticket) => (0, ticket),
-        Who::Consumer { number, ticket: _ } => (1, number),
-        Who::Producer(number) => (2, number),
+        Who::Call(ticket) => (0, ticket, 0),
+        Who::Consumer { number, ticket: _ } => (1, number, 0),
+        Who::Copy {
+            number,
+            ticket: _,
+            key: _,
+        } => (1, number, 1),
+        Who::Producer(number) => (2, number, 0),
     }
 }
 
@@ -25,7 +30,7 @@ pub fn turn_of(who: Who) -> u64
 {
     match who {
         Who::Call(ticket) => ticket,
-        Who::Consumer { .. } | Who::Producer(_) => BEHIND_ALL,
+        Who::Consumer { .. } | Who::Copy { .. } | Who::Producer(_) => BEHIND_ALL,
     }
 }
 
@@ -45,8 +50,28 @@ pub fn ticket_of(who: Who) -> u64
     ensures { result ≡ ticket_of who }
 {
     match who {
-        Who::Call(ticket) | Who::Consumer { number: _, ticket } => ticket,
+        Who::Call(ticket)
+        | Who::Consumer { number: _, ticket }
+        | Who::Copy {
+            number: _,
+            ticket,
+            key: _,
+        } => ticket,
         Who::Producer(_) => 0,
+    }
+}
+
+/// The key of the consumer whose dead letters it copies. No consumer that has any has the key 0.
+pub fn key_of(who: Who) -> u64
+    ensures { result ≡ key_of who }
+{
+    match who {
+        Who::Copy {
+            number: _,
+            ticket: _,
+            key,
+        } => key,
+        Who::Call(_) | Who::Consumer { .. } | Who::Producer(_) => 0,
     }
 }
 
@@ -54,13 +79,17 @@ pub fn is_same(a: Who, b: Who) -> bool
     ensures { result ≡ is_same a b }
 {
     let (x, y) = (rank(a), rank(b));
-    x.0 == y.0 && x.1 == y.1 && ticket_of(a) == ticket_of(b)
+    let is_so = x.0 == y.0 && x.1 == y.1 && ticket_of(a) == ticket_of(b);
+    is_so && x.2 == y.2 && key_of(a) == key_of(b)
 }
 
 /// One is served before the other.
 pub fn is_before(a: Who, b: Who) -> bool
-    ensures { result ≡ is_before (rank a) (rank b) }
+    ensures { result ≡ is_before3 (rank a) (rank b) }
 {
     let (x, y) = (rank(a), rank(b));
-    if x.0 == y.0 { x.1 < y.1 } else { x.0 < y.0 }
+    if x.0 != y.0 {
+        return x.0 < y.0;
+    }
+    if x.1 == y.1 { x.2 < y.2 } else { x.1 < y.1 }
 }

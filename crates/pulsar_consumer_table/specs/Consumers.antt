@@ -4,11 +4,14 @@ use Rattle.std.specs.BTreeMap.{insert_entry, is_at}
 use Rattle.std.specs.BTreeSet.{insert_key}
 use Rattle.std.specs.List.{flat_map, list_any}
 use Rattle.std.specs.Map.{remove_entry}
-use Rattle.std.specs.Option.{option_map, option_to_list}
+use Rattle.std.specs.Option.{is_some, option_map, option_to_list}
 use Rattle.std.specs.Ordering.{nat_cmp}
 use Rattle.url.specs.Parts.{Parts}
 use Rattle.pulsar_wire.specs.Failures.{Failure, Fault}
 use Rattle.pulsar_messages.specs.Claims.{is_spent}
+use Rattle.pulsar_messages.specs.Content.{ProducerMessageValues}
+use Rattle.pulsar_messages.specs.Words as words
+use Rattle.pulsar_messages.specs.Words.{Words}
 use Rattle.pulsar_run.specs.Things.{row_by}
 use Rattle.pulsar_frame.specs.Items.{Item, Given, Faulty}
 use Rattle.pulsar_exchange.specs.Messages.{Reply, is_body}
@@ -16,9 +19,9 @@ use Rattle.pulsar_exchange.specs.Request.{named_consumer}
 use Rattle.pulsar_searches.specs.declared.making.Command.{Command}
 use Rattle.pulsar_consumer.specs.Commands.{command_of}
 use Rattle.pulsar_consumer.specs.Frames.{frame_in}
+use Rattle.pulsar_consumer.specs.Redelivery.{Id}
 use Rattle.pulsar_consumer.specs.Topic as topic
-use Rattle.pulsar_consumer.specs.Topic.{Act, Seen, Setup, Live, Lives, Hears, Loses, Fails, Ends, first_due, fresh, is_due as is_flow_due, is_ended, link_of, lives_on, resubscribes}
-use Rattle.pulsar_incoming.specs.Content.{ConfigValues}
+use Rattle.pulsar_consumer.specs.Topic.{Act, Seen, Setup, Live, Lives, Hears, Loses, Fails, Ends, IsAt, TakesCopy, IsCopied, FailsCopy, Stops, Forgets, Checks, acked, asked_again, copy_due, first_due, fresh, is_due as is_flow_due, is_ended, link_of, lives_on, resubscribes}
 use Rattle.pulsar_incoming.specs.declared.polled.Ending.{Ending}
 use Rattle.pulsar_incoming.specs.declared.polled.Ending.TheVariants.{Closed, TopicEnded, Stopped}
 use Rattle.pulsar_incoming.specs.declared.polled.Polled.{Polled}
@@ -99,39 +102,59 @@ built_at (Some m) = if m.seen.is_raw then None else Some m.seen
 abbrev pub ends_on : (link : ℕ) → Ending → Member → Member
 ends_on l why m = if lives_on l m.seen then member_after (Ends why) m else m
 
-abbrev pub hears_frame : (link : ℕ) → Reply → Member → Member
-hears_frame l r m =
-    if is_body 9 r.content.body then member_after (Hears l (frame_in r)) m
+-- where it hears a message it is told the moment, from which on those are kept that it places
+abbrev pub hears_message : (clock link : ℕ) → Reply → Member → Member
+hears_message clock l r m = if lives_on l m.seen then member_after (Hears l (frame_in r)) (member_after (IsAt clock) m) else m
+
+abbrev pub hears_frame : (clock link : ℕ) → Reply → Member → Member
+hears_frame clock l r m =
+    if is_body 9 r.content.body then hears_message clock l r m
     else if is_body 27 r.content.body then ends_on l TopicEnded m
     else if is_body 16 r.content.body then member_after (Loses l) m
     else m
 
-abbrev pub hears : (link : ℕ) → Arrival → Member → Member
-hears l Nothing m = m
-hears l Readied m = m
-hears l Settles m = m
-hears l (Gives number reply) m = if m.seen.number == number then hears_frame l reply m else m
-hears l Passes m = m
-hears l (Bad cause) m = m
+abbrev pub hears : (clock link : ℕ) → Arrival → Member → Member
+hears clock l Nothing m = m
+hears clock l Readied m = m
+hears clock l Settles m = m
+hears clock l (Gives number reply) m = if m.seen.number == number then hears_frame clock l reply m else m
+hears clock l Passes m = m
+hears clock l (Bad cause) m = m
 
 -- what its plan is told then: that a flow is due, that its topic has ended, or that its subscription is lost
 abbrev pub word_if : Bool → Word → Option Word
 word_if is_so w = if is_so then Some w else None
 
-abbrev pub word_of_frame : (link : ℕ) → Reply → Member → Option Word
-word_of_frame l r m =
-    if is_body 9 r.content.body then word_if (lives_on l m.seen && is_flow_due (hears_frame l r m).seen) word.Due
+abbrev pub word_of_frame : (clock link : ℕ) → Reply → Member → Option Word
+word_of_frame clock l r m =
+    if is_body 9 r.content.body then word_if (lives_on l m.seen && is_flow_due (hears_message clock l r m).seen) word.Due
     else if is_body 27 r.content.body then word_if (resubscribes l m.seen) (word.TopicEnded l)
     else if is_body 16 r.content.body then word_if (resubscribes l m.seen) word.Lost
     else None
 
-abbrev pub word_of : (link : ℕ) → Arrival → Member → Option Word
-word_of l Nothing m = None
-word_of l Readied m = None
-word_of l Settles m = None
-word_of l (Gives number reply) m = if m.seen.number == number then word_of_frame l reply m else None
-word_of l Passes m = None
-word_of l (Bad cause) m = None
+abbrev pub word_of : (clock link : ℕ) → Arrival → Member → Option Word
+word_of clock l Nothing m = None
+word_of clock l Readied m = None
+word_of clock l Settles m = None
+word_of clock l (Gives number reply) m = if m.seen.number == number then word_of_frame clock l reply m else None
+word_of clock l Passes m = None
+word_of clock l (Bad cause) m = None
+
+-- Who copies its dead letters is told where one is to be copied: of what it hears that can be so behind a message alone.
+abbrev pub is_copy_due : Seen → Bool
+is_copy_due v = is_some (copy_due v)
+
+abbrev pub copy_of_frame : (clock link : ℕ) → Reply → Member → Bool
+copy_of_frame clock l r m =
+    is_body 9 r.content.body && (lives_on l m.seen && is_copy_due (hears_message clock l r m).seen)
+
+abbrev pub copy_of : (clock link : ℕ) → Arrival → Member → Bool
+copy_of clock l Nothing m = false
+copy_of clock l Readied m = false
+copy_of clock l Settles m = false
+copy_of clock l (Gives number reply) m = (m.seen.number == number) && copy_of_frame clock l reply m
+copy_of clock l Passes m = false
+copy_of clock l (Bad cause) m = false
 
 -- ITS LINK ENDS: it is to be subscribed again
 
@@ -213,12 +236,12 @@ abbrev pub recalled : Option Member → Option Command
 recalled row = option_map (λ m. command_of m.seen) row
 
 -- a subscription of it was made on a link to this address, or could not be made: those who wait for its link look again
-abbrev pub subscribed_on : (link : ℕ) → Option Parts → Member → Member
-subscribed_on l None m = m
-subscribed_on l (Some url) m = member_after (Lives l url) m
+abbrev pub subscribed_on : (clock link : ℕ) → Option Parts → Member → Member
+subscribed_on clock l None m = m
+subscribed_on clock l (Some url) m = member_after (Lives l url) (member_after (IsAt clock) m)
 
-abbrev pub revived : (link : ℕ) → Option Parts → Member → Member
-revived l url m = unsought (subscribed_on l url m)
+abbrev pub revived : (clock link : ℕ) → Option Parts → Member → Member
+revived clock l url m = unsought (subscribed_on clock l url m)
 
 abbrev pub failed : Failure → Member → Member
 failed f m = unsought (member_after (Fails f) m)
@@ -227,15 +250,47 @@ abbrev pub is_ended_at : Option Member → Bool
 is_ended_at None = true
 is_ended_at (Some m) = is_ended m.seen
 
--- the client is stopped
+-- the client is stopped: it ends, and no copy of a dead letter is made any more
 abbrev pub stopped : Member → Member
-stopped m = unsought (member_after (Ends Stopped) m)
+stopped m = unsought (member_after Stops (member_after (Ends Stopped) m))
+
+-- THE COPIES OF ITS DEAD LETTERS: the one that is to be sent next, and what is asked for once it has its receipt, where a subscription is live
+
+abbrev pub letter_at : Option Member → Option ProducerMessageValues
+letter_at None = None
+letter_at (Some m) = option_map (λ c. c.1) (copy_due m.seen)
+
+abbrev pub asks_on : Option ℕ → Option Words → Option (ℕ × Words)
+asks_on (Some l) (Some request) = Some (l, request)
+asks_on (Some l) None = None
+asks_on None request = None
+
+abbrev pub ack_for : (key : ℕ) → Option Member → Option (ℕ × Words)
+ack_for key None = None
+ack_for key (Some m) = asks_on (link_of m.seen) (option_map (λ id. words.SendAck m.seen.number (id ∷ []) false) (acked key m.seen))
+
+-- WHAT IS ASKED FOR AGAIN at a check, where a subscription is live: all that is due by then, in one frame. And when the next check is due.
+
+abbrev pub names_all : (number : ℕ) → List Id → Option Words
+names_all n [] = None
+names_all n (id ∷ ids) = Some (words.SendRedeliver n (id ∷ ids))
+
+abbrev pub redelivers : (clock : ℕ) → Option Member → Option (ℕ × Words)
+redelivers clock None = None
+redelivers clock (Some m) = asks_on (link_of m.seen) (names_all m.seen.number (asked_again clock m.seen))
+
+abbrev pub check_at : Option Member → Option ℕ
+check_at None = None
+check_at (Some m) = m.seen.engine.check
+
+abbrev pub check_after : (clock : ℕ) → Option Member → Option ℕ
+check_after clock row = check_at (option_map (member_after (Checks clock)) row)
 
 -- ALL THAT IS DONE TO ONE
 
 pub data Deed : Type 0 where
-  -- this comes on a link
-  Arrives : (link : ℕ) → Arrival → Deed
+  -- this comes on a link at this moment
+  Arrives : (clock link : ℕ) → Arrival → Deed
   -- a link ends, with this cause
   LinkEnds : (link : ℕ) → (cause : Option Fault) → Deed
   -- the close of a number is asked for on a link, and taken there
@@ -246,21 +301,35 @@ pub data Deed : Type 0 where
   IsSought : Who → Deed
   -- the flow that is due is taken
   FlowTaken : Deed
-  -- it was subscribed again, on a link to this address, or could not be
-  Revived : (link : ℕ) → Option Parts → Deed
+  -- it was subscribed again at this moment, on a link to this address, or could not be
+  Revived : (clock link : ℕ) → Option Parts → Deed
   NotRevived : Failure → Deed
+  -- the copy that is to be sent next is taken
+  CopyTaken : Deed
+  -- at this moment the copy that the consumer of this key took has its receipt, or could not be sent
+  CopySent : (key clock : ℕ) → Deed
+  CopyLost : (key clock : ℕ) → Deed
+  -- the message of this id is acknowledged, or asked for again by its user
+  IsForgotten : Id → Deed
+  -- at this moment the messages that are due are asked for again
+  IsChecked : (clock : ℕ) → Deed
   -- the client is stopped
   ClientStops : Deed
 
 abbrev pub member_by : Deed → Member → Member
-member_by (Arrives l a) m = hears l a m
+member_by (Arrives clock l a) m = hears clock l a m
 member_by (LinkEnds l cause) m = loses_by l cause m
 member_by (CloseAsked closed l is_asked) m = closes closed l is_asked m
 member_by (IsPolled clock) m = member_after (topic.Polls clock) m
 member_by (IsSought who) m = seeks who m
 member_by FlowTaken m = member_after topic.Asks m
-member_by (Revived l url) m = revived l url m
+member_by (Revived clock l url) m = revived clock l url m
 member_by (NotRevived f) m = failed f m
+member_by CopyTaken m = member_after TakesCopy m
+member_by (CopySent key clock) m = member_after (IsCopied key clock) m
+member_by (CopyLost key clock) m = member_after (FailsCopy key clock) m
+member_by (IsForgotten id) m = member_after (Forgets id) m
+member_by (IsChecked clock) m = member_after (Checks clock) m
 member_by ClientStops m = stopped m
 
 -- POLLS
@@ -352,12 +421,8 @@ names_in (Some number) cs = record cs { named = insert_key nat_cmp cs.named numb
 abbrev pub keyed : Consumers → Consumers
 keyed cs = record cs { next_key = suc cs.next_key }
 
--- no dead letters are asked for, and no message is asked for again
-abbrev pub plain : ConfigValues → ConfigValues
-plain c = record c { unacked_message_redelivery_delay = None; dead_letter_policy = None }
-
-abbrev pub member_of : Setup → (link : ℕ) → Option Parts → Member
-member_of s l url = subscribed_on l url (record { seen = fresh s; seekers = [] })
+abbrev pub member_of : Setup → (clock link : ℕ) → Option Parts → Member
+member_of s clock l url = subscribed_on clock l url (record { seen = fresh s; seekers = [] })
 
 -- its ticket is that of its call
 abbrev pub listed : (ticket : ℕ) → Consumers → Consumers
@@ -392,6 +457,38 @@ why_not_at (Some m) = refusal_for m.seen.is_raw (is_ended m.seen)
 abbrev pub why_not : Consumers → (ticket : ℕ) → Option CallRefusal
 why_not cs t = why_not_at (cs.rows t)
 
+-- A message that is acknowledged is not asked for again, and neither is one that its user asks for again where a subscription is live.
+abbrev pub only_live : Option ℕ → Id → List Deed
+only_live None id = []
+only_live (Some l) id = IsForgotten id ∷ []
+
+abbrev pub forgets_by : Asked → (ticket : ℕ) → Option Member → List Deed
+forgets_by content.Build t row = []
+forgets_by content.Stop t row = []
+forgets_by (content.Topics namespace mode) t row = []
+forgets_by (content.Lookup topic) t row = []
+forgets_by (content.Partitions topic) t row = []
+forgets_by (content.Brokers topic) t row = []
+forgets_by (content.Post topic m) t row = []
+forgets_by (content.Producer wanted) t row = []
+forgets_by (content.MultiProducer wanted) t row = []
+forgets_by (content.Send u m) t row = []
+forgets_by (content.SendAll u ms) t row = []
+forgets_by (content.Flush u) t row = []
+forgets_by (content.CheckProducer u) t row = []
+forgets_by (content.CloseProducer u) t row = []
+forgets_by (content.MultiSend u topic m) t row = []
+forgets_by (content.MultiSendAll u topic ms) t row = []
+forgets_by (content.MultiClose u topic) t row = []
+forgets_by (content.Consumer wanted) t row = []
+forgets_by (content.Ack u name id cumulative) t row = if t == u then IsForgotten id ∷ [] else []
+forgets_by (content.Nack u name id) t row = if t == u then only_live (link_at row) id else []
+forgets_by (content.CloseConsumer u) t row = []
+forgets_by (content.Raw l words) t row = []
+
+abbrev pub forgotten_on : Asked → Consumers → Consumers
+forgotten_on asked cs = record cs { rows = λ t. row_by member_by (forgets_by asked t (cs.rows t)) (cs.rows t) }
+
 -- a raw call of an open client names a number, or none
 abbrev pub opened_on : Asked → Consumers → Consumers
 opened_on content.Build cs = cs
@@ -400,12 +497,17 @@ opened_on (content.Topics namespace mode) cs = cs
 opened_on (content.Lookup topic) cs = cs
 opened_on (content.Partitions topic) cs = cs
 opened_on (content.Brokers topic) cs = cs
+opened_on (content.Post topic m) cs = cs
 opened_on (content.Producer wanted) cs = cs
+opened_on (content.MultiProducer wanted) cs = cs
 opened_on (content.Send t m) cs = cs
 opened_on (content.SendAll t ms) cs = cs
 opened_on (content.Flush t) cs = cs
 opened_on (content.CheckProducer t) cs = cs
 opened_on (content.CloseProducer t) cs = cs
+opened_on (content.MultiSend t topic m) cs = cs
+opened_on (content.MultiSendAll t topic ms) cs = cs
+opened_on (content.MultiClose t topic) cs = cs
 opened_on (content.Consumer wanted) cs = cs
 opened_on (content.Ack t name id cumulative) cs = cs
 opened_on (content.Nack t name id) cs = cs

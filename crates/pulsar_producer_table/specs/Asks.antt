@@ -13,18 +13,20 @@ use Rattle.pulsar_calls.specs.declared.act.Outcome.{Outcome}
 use Rattle.pulsar_calls.specs.declared.act.Outcome.TheVariants as outcome
 use Rattle.pulsar_calls.specs.declared.act.TopicAsk.{TopicAsk}
 use Rattle.pulsar_calls.specs.declared.act.TopicAsk.TheVariants.{TakeTurn, PassTurn, Draw, Recall, Remake, Find, Store, Flush, TakeBatch}
+use Rattle.pulsar_calls.specs.declared.act.Who.{Who}
 use Rattle.pulsar_calls.specs.declared.act.Who.TheVariants.{Producer}
+use Rattle.pulsar_calls.specs.Who.{turn_of}
 use Rattle.pulsar_calls.specs.Notices.{notice}
 use Rattle.pulsar_outgoing.specs.declared.multi_topic.Taker.{Taker}
-use Rattle.pulsar_outgoing.specs.declared.multi_topic.Taker.TheVariants.{Call}
 use Rattle.pulsar_producer_table.specs.Producers.{Producers, drawn, is_settled_at, is_woken, link_at, next_batch_at, recalled, turn_passed, turn_taken}
-use Rattle.pulsar_producer_table.specs.Takers.{who_at}
+use Rattle.pulsar_producer_table.specs.Takers.{turn_taker, who_at}
 use Rattle.pulsar_producer_table.specs.declared.table.Topic.{Topic}
 
--- what is around one: its number, the turn of the one who asks, the room on its link where that is ready, and the command by which it is
--- made again
+-- what is around one: its number, as whom the one who asks takes a turn, the ticket by which that waits for what is stored, the room on its link
+-- where that is ready, and the command by which it is made again
 pub record Around : Type 0 where
   pub number : ℕ
+  pub taker : Taker
   pub turn : ℕ
   pub room : Option Bool
   pub command : Option Command
@@ -79,7 +81,7 @@ readied n act row = if is_woken act row then ready_notice n ∷ [] else []
 
 -- ALL OF IT, a row for each thing that is asked
 abbrev pub given : Around → TopicAsk → Option Topic → Given
-given x TakeTurn row = record { acts = topic.Takes (Call x.turn) ∷ []; says = turn_said row; serves = [] }
+given x TakeTurn row = record { acts = topic.Takes x.taker ∷ []; says = turn_said row; serves = [] }
 given x PassTurn row =
     record { acts = topic.Passes ∷ []; says = grants_it news.Done; serves = option_to_list (option_map (turn_notice x.number) (turn_passed row)) }
 given x Draw row = record { acts = drawn_by x.room; says = Some (draw_outcome x.room row); serves = [] }
@@ -93,8 +95,9 @@ given x Flush row =
 given x TakeBatch row = record { acts = topic.TakesBatch ∷ []; says = grants_it (news.HasBatch (next_batch_at row)); serves = [] }
 
 -- by the table: the options of its owner are in the command
-abbrev pub around_in : Producers → (number turn : ℕ) → (room : Option Bool) → Around
-around_in ps number turn room = record { number = number; turn = turn; room = room; command = recalled ps number }
+abbrev pub around_in : Producers → (number : ℕ) → Who → (room : Option Bool) → Around
+around_in ps number who room =
+    record { number = number; taker = turn_taker who; turn = turn_of who; room = room; command = recalled ps number }
 
-abbrev pub asked_in : Producers → (number turn : ℕ) → (room : Option Bool) → TopicAsk → Given
-asked_in ps number turn room ask = given (around_in ps number turn room) ask (ps.topics number)
+abbrev pub asked_in : Producers → (number : ℕ) → Who → (room : Option Bool) → TopicAsk → Given
+asked_in ps number who room ask = given (around_in ps number who room) ask (ps.topics number)

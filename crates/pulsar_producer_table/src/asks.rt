@@ -10,10 +10,11 @@ ghost use Rattle.pulsar_producer_table.specs.KeptProducers.{producers_of};
 ghost use Rattle.pulsar_producer_table.specs.Producers.{done_to};
 
 use crate::table::Producers;
-use crate::takers::who_at;
+use crate::takers::{turn_taker, who_at};
 use pulsar_addresses::content::Cause;
 use pulsar_calls::act::{Notice, Outcome, TopicAsk, Who};
 use pulsar_calls::content::{Granted, News};
+use pulsar_calls::who::turn_of;
 use pulsar_outgoing::content::{Entry, Version};
 use pulsar_outgoing::multi_topic::Taker;
 use pulsar_wire::error::{ConnectionError, NoMemory};
@@ -27,22 +28,22 @@ pub struct Given {
 }
 
 impl Producers {
-    /// This is asked of the topic producer of a number, by one of this turn. Its link has room or none, where it is ready.
+    /// This is asked of the topic producer of a number. Its link has room or none, where it is ready.
     pub fn ask(
         &mut self,
         number: u64,
-        turn: u64,
+        who: Who,
         room: Option<bool>,
         ask: TopicAsk,
     ) -> Result<Given, NoMemory>
-        ensures says { IfOk result (λ g. g.says ≡ (asked_in (producers_of self.old) number turn room ask).says) }
+        ensures says { IfOk result (λ g. g.says ≡ (asked_in (producers_of self.old) number who room ask).says) }
         ensures serves { IfOk result (λ g. option_to_list g.serves
-            ≡ (asked_in (producers_of self.old) number turn room ask).serves) }
+            ≡ (asked_in (producers_of self.old) number who room ask).serves) }
         ensures after { OnOk result (producers_of self.new
-            ≡ done_to number (asked_in (producers_of self.old) number turn room ask).acts (producers_of self.old)) }
+            ≡ done_to number (asked_in (producers_of self.old) number who room ask).acts (producers_of self.old)) }
     {
         match ask {
-            TopicAsk::TakeTurn => self.gives_turn(number, turn),
+            TopicAsk::TakeTurn => self.gives_turn(number, who),
             TopicAsk::PassTurn => self.passes_on(number),
             TopicAsk::Draw => self.draws(number, room),
             TopicAsk::Recall => self.recalls(number),
@@ -51,8 +52,8 @@ impl Producers {
                 done(self.alloc, None)
             }
             TopicAsk::Find => Ok(found(self.link(number))),
-            TopicAsk::Store(entry) => self.stores(number, turn, entry),
-            TopicAsk::Flush => self.flushes(number, turn),
+            TopicAsk::Store(entry) => self.stores(number, who, entry),
+            TopicAsk::Flush => self.flushes(number, who),
             TopicAsk::TakeBatch => {
                 let batch = self.take_batch(number);
                 grants(self.alloc, News::HasBatch(batch), None)
@@ -61,16 +62,16 @@ impl Producers {
     }
 
     /// The turn, where nobody else has it.
-    fn gives_turn(&mut self, number: u64, turn: u64) -> Result<Given, NoMemory>
-        ensures says { IfOk result (λ g. g.says ≡ (asked_in (producers_of self.old) number turn None TopicAsk.TakeTurn).says) }
+    fn gives_turn(&mut self, number: u64, who: Who) -> Result<Given, NoMemory>
+        ensures says { IfOk result (λ g. g.says ≡ (asked_in (producers_of self.old) number who None TopicAsk.TakeTurn).says) }
         ensures serves { IfOk result (λ g. g.serves ≡ None) }
         ensures after { OnOk result (producers_of self.new
-            ≡ done_to number (asked_in (producers_of self.old) number turn None TopicAsk.TakeTurn).acts (producers_of self.old)) }
+            ≡ done_to number (asked_in (producers_of self.old) number who None TopicAsk.TakeTurn).acts (producers_of self.old)) }
     {
         if !self.knows(number) {
             return Ok(lost());
         }
-        match self.take_turn(number, turn)? {
+        match self.take_turn(number, turn_taker(who))? {
             Some(version) => grants(self.alloc, News::HasTurn(version), None),
             None => Ok(waits(None)),
         }
@@ -78,11 +79,11 @@ impl Producers {
 
     /// The turn is over: the next one who waits for it has it.
     fn passes_on(&mut self, number: u64) -> Result<Given, NoMemory>
-        ensures says { IfOk result (λ g. g.says ≡ (asked_in (producers_of self.old) number 0 None TopicAsk.PassTurn).says) }
+        ensures says { IfOk result (λ g. g.says ≡ (asked_in (producers_of self.old) number (Who.Producer 0) None TopicAsk.PassTurn).says) }
         ensures serves { IfOk result (λ g. option_to_list g.serves
-            ≡ (asked_in (producers_of self.old) number 0 None TopicAsk.PassTurn).serves) }
+            ≡ (asked_in (producers_of self.old) number (Who.Producer 0) None TopicAsk.PassTurn).serves) }
         ensures after { OnOk result (producers_of self.new
-            ≡ done_to number (asked_in (producers_of self.old) number 0 None TopicAsk.PassTurn).acts (producers_of self.old)) }
+            ≡ done_to number (asked_in (producers_of self.old) number (Who.Producer 0) None TopicAsk.PassTurn).acts (producers_of self.old)) }
     {
         let next = self.pass_turn(number)?;
         let serves = next_notice(self.alloc, number, next)?;
@@ -91,10 +92,10 @@ impl Producers {
 
     /// The number of a message is drawn.
     fn draws(&mut self, number: u64, room: Option<bool>) -> Result<Given, NoMemory>
-        ensures says { IfOk result (λ g. g.says ≡ (asked_in (producers_of self.old) number 0 room TopicAsk.Draw).says) }
+        ensures says { IfOk result (λ g. g.says ≡ (asked_in (producers_of self.old) number (Who.Producer 0) room TopicAsk.Draw).says) }
         ensures serves { IfOk result (λ g. g.serves ≡ None) }
         ensures after { OnOk result (producers_of self.new
-            ≡ done_to number (asked_in (producers_of self.old) number 0 room TopicAsk.Draw).acts (producers_of self.old)) }
+            ≡ done_to number (asked_in (producers_of self.old) number (Who.Producer 0) room TopicAsk.Draw).acts (producers_of self.old)) }
     {
         let Some(room) = room else {
             return refused(self.alloc, ConnectionError::Disconnected);
@@ -107,7 +108,7 @@ impl Producers {
 
     /// The command by which it is made again.
     fn recalls(&mut self, number: u64) -> Result<Given, NoMemory>
-        ensures says { IfOk result (λ g. g.says ≡ (asked_in (producers_of self.old) number 0 None TopicAsk.Recall).says) }
+        ensures says { IfOk result (λ g. g.says ≡ (asked_in (producers_of self.old) number (Who.Producer 0) None TopicAsk.Recall).says) }
         ensures serves { IfOk result (λ g. g.serves ≡ None) }
         ensures after { producers_of self.new ≡ producers_of self.old }
     {
@@ -118,28 +119,28 @@ impl Producers {
     }
 
     /// A message is stored.
-    fn stores(&mut self, number: u64, turn: u64, entry: Entry) -> Result<Given, NoMemory>
-        ensures says { IfOk result (λ g. g.says ≡ (asked_in (producers_of self.old) number turn None (TopicAsk.Store entry)).says) }
+    fn stores(&mut self, number: u64, who: Who, entry: Entry) -> Result<Given, NoMemory>
+        ensures says { IfOk result (λ g. g.says ≡ (asked_in (producers_of self.old) number who None (TopicAsk.Store entry)).says) }
         ensures serves { IfOk result (λ g. option_to_list g.serves
-            ≡ (asked_in (producers_of self.old) number turn None (TopicAsk.Store entry)).serves) }
+            ≡ (asked_in (producers_of self.old) number who None (TopicAsk.Store entry)).serves) }
         ensures after { OnOk result (producers_of self.new
-            ≡ done_to number (asked_in (producers_of self.old) number turn None (TopicAsk.Store entry)).acts (producers_of self.old)) }
+            ≡ done_to number (asked_in (producers_of self.old) number who None (TopicAsk.Store entry)).acts (producers_of self.old)) }
     {
-        let is_ready = self.store(number, turn, entry)?;
+        let is_ready = self.store(number, turn_of(who), entry)?;
         let serves = ready_some(self.alloc, number, is_ready)?;
         done(self.alloc, serves)
     }
 
     /// All that it has taken is to be settled. That is so at once where nothing waits for it.
-    fn flushes(&mut self, number: u64, turn: u64) -> Result<Given, NoMemory>
-        ensures says { IfOk result (λ g. g.says ≡ (asked_in (producers_of self.old) number turn None TopicAsk.Flush).says) }
+    fn flushes(&mut self, number: u64, who: Who) -> Result<Given, NoMemory>
+        ensures says { IfOk result (λ g. g.says ≡ (asked_in (producers_of self.old) number who None TopicAsk.Flush).says) }
         ensures serves { IfOk result (λ g. option_to_list g.serves
-            ≡ (asked_in (producers_of self.old) number turn None TopicAsk.Flush).serves) }
+            ≡ (asked_in (producers_of self.old) number who None TopicAsk.Flush).serves) }
         ensures after { OnOk result (producers_of self.new
-            ≡ done_to number (asked_in (producers_of self.old) number turn None TopicAsk.Flush).acts (producers_of self.old)) }
+            ≡ done_to number (asked_in (producers_of self.old) number who None TopicAsk.Flush).acts (producers_of self.old)) }
     {
         let is_settled = self.is_settled(number);
-        let is_ready = self.flush(number, turn)?;
+        let is_ready = self.flush(number, turn_of(who))?;
         let serves = ready_some(self.alloc, number, is_ready)?;
         if is_settled {
             done(self.alloc, serves)

@@ -234,15 +234,15 @@ impl Producers {
     pub(crate) fn take_turn(
         &mut self,
         number: u64,
-        ticket: u64,
+        taker: Taker,
     ) -> Result<Option<Option<Version>>, NoMemory>
         ensures version { IfOk result (λ v. v ≡ meaning.turn_taken ((producers_of self.old).topics number)) }
-        ensures after { OnOk result (producers_of self.new ≡ meaning.changed number (topic.Takes (Taker.Call ticket)) (producers_of self.old)) }
+        ensures after { OnOk result (producers_of self.new ≡ meaning.changed number (topic.Takes taker) (producers_of self.old)) }
     {
         let Some(topic) = self.topics.get_mut(&number) else {
             return Ok(None);
         };
-        if topic.seen.take_turn(Taker::Call(ticket))? {
+        if topic.seen.take_turn(taker)? {
             return Ok(Some(topic.seen.version()?));
         }
         Ok(None)

@@ -18,7 +18,7 @@ use pulsar_addresses::content::Cause;
 use pulsar_agenda::agenda::Tasks;
 use pulsar_calls::act::{Action, Outcome, TopicAsk, Who};
 use pulsar_calls::content::Granted;
-use pulsar_calls::who::{ticket_of, turn_of};
+use pulsar_calls::who::ticket_of;
 use pulsar_producer::deed::News;
 use pulsar_producer_table::asks::Given;
 use pulsar_wire::error::{ConnectionError, NoMemory};
@@ -39,7 +39,7 @@ impl Tables {
         let fills = fills(&ask);
         let was_bare = self.producers.is_bare(number);
         let room = self.room_for(number);
-        let given = self.producers.ask(number, turn_of(who), room, ask)?;
+        let given = self.producers.ask(number, who, room, ask)?;
         let Given { says, serves } = given;
         self.waits_if(fills, number, was_bare)?;
         join_some(serves, tasks)?;

@@ -6,7 +6,7 @@ use Rattle.pulsar_messages.specs.Words.{Words}
 use Rattle.pulsar_wire.specs.Failures.{Exhausted}
 use Rattle.pulsar_exchange.specs.Request.{closed_consumer}
 use Rattle.pulsar_searches.specs.declared.turn.Ways.{Ways}
-use Rattle.pulsar_incoming.specs.Content.{ConsumerWanted}
+use Rattle.pulsar_incoming.specs.Content.{ConsumerWanted, DeadLetterValues}
 use Rattle.pulsar_incoming.specs.Naming.{order_of}
 use Rattle.pulsar_incoming.specs.declared.naming.Ordered.{Ordered}
 use Rattle.pulsar_incoming.specs.declared.naming.Ordered.TheVariants as ordered
@@ -23,7 +23,7 @@ use Rattle.pulsar_calls.specs.declared.act.Procedure.TheVariants as procedure
 use Rattle.pulsar_calls.specs.declared.act.CallRefusal.{CallRefusal}
 use Rattle.pulsar_calls.specs.declared.act.CallRefusal.TheVariants as refusal
 use Rattle.pulsar_calls.specs.declared.act.Who.{Who}
-use Rattle.pulsar_calls.specs.declared.act.Who.TheVariants.{Consumer}
+use Rattle.pulsar_calls.specs.declared.act.Who.TheVariants.{Consumer, Copy}
 use Rattle.pulsar_calls.specs.declared.act.Word.{Word}
 use Rattle.pulsar_calls.specs.declared.act.Word.TheVariants as word
 use Rattle.pulsar_calls.specs.declared.content.Joining.{Joining}
@@ -83,16 +83,24 @@ serves w j ways = Starts (Consumer j.number (ticket_of w)) (procedure.Serve ways
 abbrev pub serves_by : Option Ways → Who → Joining → List Act
 serves_by ways w j = map (serves w j) (option_to_list ways)
 
+-- The copies of its dead letters are sent by another, where it is said to which topic.
+abbrev pub copies : (key : ℕ) → Who → Joining → Ways → DeadLetterValues → Act
+copies key w j ways p = Starts (Copy j.number (ticket_of w) key) (procedure.Copy ways p.dead_letter_topic)
+
+abbrev pub copies_by : Option Ways → (key : ℕ) → Who → Joining → List Act
+copies_by None key w j = []
+copies_by (Some ways) key w j = map (copies key w j ways) (option_to_list j.config.dead_letter_policy)
+
 -- WHOM AN ACT SERVES
 
 -- and of one that is made
-abbrev pub made_due : (ℕ → Option Seat) → (key : ℕ) → Who → Makes → List Notice
-made_due live key w makes.Nothing = []
-made_due live key w makes.Client = []
-made_due live key w (makes.Consumer j) = due_to (ticket_of w) (member_on live j.link (setup_of key j))
-made_due live key w (makes.RawConsumer l made) = []
-made_due live key w (makes.Producer b) = []
-made_due live key w (makes.MultiProducer name settings) = []
+abbrev pub made_due : (ℕ → Option Seat) → (clock key : ℕ) → Who → Makes → List Notice
+made_due live clock key w makes.Nothing = []
+made_due live clock key w makes.Client = []
+made_due live clock key w (makes.Consumer j) = due_to (ticket_of w) (member_on live clock j.link (setup_of key j))
+made_due live clock key w (makes.RawConsumer l made) = []
+made_due live clock key w (makes.Producer b) = []
+made_due live clock key w (makes.MultiProducer name settings) = []
 
 -- a consumer whose close is asked for needs no plan any more
 abbrev pub closed_at : View → (link : ℕ) → Words → (ticket : ℕ) → Member → List Notice
@@ -100,7 +108,7 @@ closed_at v l request t m =
     word_to t m (consumer.word_of_close (closed_consumer request) l (is_asked (answer_at v.now request (v.links.live l))) m)
 
 abbrev pub heard_on : View → (link : ℕ) → List Notice
-heard_on v l = over_rows (heard_at l (arrival_at (v.links.live l))) v.consumers
+heard_on v l = over_rows (heard_at v.now l (arrival_at (v.links.live l))) v.consumers
 
 abbrev pub lost_on : View → (link : ℕ) → End → List Notice
 lost_on v l end = over_rows (lost_at l (closing end v.now (v.links.live l))) v.consumers

@@ -14,7 +14,7 @@ use Rattle.pulsar_calls.specs.declared.act.Act.TheVariants.{Comes, Starts, Told,
 use Rattle.pulsar_calls.specs.declared.act.Action.{Action}
 use Rattle.pulsar_calls.specs.declared.act.Action.TheVariants.{OfTopic, OfMulti, OfConsumer, Get, Ask, Wait, Number, Hold, Shut, TakeNumber, Tell, TellAll, StopAll, Rest}
 use Rattle.pulsar_calls.specs.declared.act.Alarm.{Alarm}
-use Rattle.pulsar_calls.specs.declared.act.Alarm.TheVariants.{Retry, Wake, Batch, KeepAlive, CheckIdle}
+use Rattle.pulsar_calls.specs.declared.act.Alarm.TheVariants.{Retry, Wake, Batch, KeepAlive, Redelivery, CheckIdle}
 use Rattle.pulsar_calls.specs.declared.act.Arrival.{Arrival}
 use Rattle.pulsar_calls.specs.declared.act.Arrival.TheVariants.{Nothing, Readied, Settles, Gives as GivesTo, Passes, Bad}
 use Rattle.pulsar_calls.specs.declared.act.End.{End}
@@ -81,8 +81,8 @@ use Rattle.pulsar_links.specs.Seats.{Addresses, Base, Links, Seat, arrival_at, l
 use Rattle.pulsar_consumer_table.specs.Consumers as consumer
 pub use Rattle.pulsar_calls.specs.Notices.{notice, stopped_one}
 pub use Rattle.pulsar_acts.specs.Reading.{tells, unless}
-use Rattle.pulsar_consumer_table.specs.Notices.{polled_due}
-use Rattle.pulsar_acts.specs.Reading.{acknowledges, closed_at, heard_on, leaves, lost_on, made_due, numbering_said, serves_by, stopped_on, subscribes}
+use Rattle.pulsar_consumer_table.specs.Notices.{polled_due, redelivered_at}
+use Rattle.pulsar_acts.specs.Reading.{acknowledges, closed_at, copies_by, heard_on, leaves, lost_on, made_due, numbering_said, serves_by, stopped_on, subscribes}
 use Rattle.pulsar_consumer_table.specs.Consumers.{Consumers, is_heard, over_rows}
 use Rattle.pulsar_calls.specs.Order.{opens, alone}
 use Rattle.pulsar_links.specs.LinkRules.{over_links, due_part, stop_act, may_ping, answered_on, served_by, ended_on, failed_over, moved_on, stopped_at}
@@ -427,15 +427,16 @@ rung v (Retry l) = tries_again (v.addresses.pause l)
 rung v (Wake who) = []
 rung v (Batch n) = []
 rung v (KeepAlive l) = keeps_alive l (v.links.live l)
+rung v (Redelivery n t) = []
 rung v CheckIdle = over_links (idle_act v) v.links
 
-abbrev pub left_with : Option Ways → Who → Makes → List Act
-left_with ways w makes.Nothing = []
-left_with ways w makes.Client = []
-left_with ways w (makes.Consumer j) = serves_by ways w j
-left_with ways w (makes.RawConsumer l made) = []
-left_with ways w (makes.Producer b) = batches_for ways b.settings b.parts
-left_with ways w (makes.MultiProducer name settings) = []
+abbrev pub left_with : Option Ways → (key : ℕ) → Who → Makes → List Act
+left_with ways key w makes.Nothing = []
+left_with ways key w makes.Client = []
+left_with ways key w (makes.Consumer j) = serves_by ways w j ++ copies_by ways key w j
+left_with ways key w (makes.RawConsumer l made) = []
+left_with ways key w (makes.Producer b) = batches_for ways b.settings b.parts
+left_with ways key w (makes.MultiProducer name settings) = []
 
 abbrev pub at_once : View → Act → List Act
 at_once v (Comes (Calls asked advice)) = called v advice asked
@@ -444,7 +445,7 @@ at_once v (Comes (Rings a)) = if rings v.now a v.alarms then rung v a else []
 at_once v (Starts who p) = follows who (begins p)
 at_once v (Told n) = follows_some n.who (told_some (v.stand n.who) n.outcome)
 at_once v (Does who action) = performs v who action
-at_once v (Answers who verdict) = left_with (ways_of v.chosen) who verdict.makes
+at_once v (Answers who verdict) = left_with (ways_of v.chosen) v.consumers.next_key who verdict.makes
 at_once v _ = []
 
 -- FURTHER PARTS
@@ -465,7 +466,7 @@ further v _ = []
 abbrev pub joins : View → Act → List Notice
 joins v (Comes (Polls t)) = polled_due v.now t (v.consumers.rows t)
 joins v (Does who (Ask l request)) = over_rows (closed_at v l request) v.consumers
-joins v (Answers who verdict) = made_due v.links.live v.consumers.next_key who verdict.makes
+joins v (Answers who verdict) = made_due v.links.live v.now v.consumers.next_key who verdict.makes
 joins v (Does who (OfTopic n ask)) = (asked_of v who n ask).serves
 joins v (Does who (OfMulti m ask)) = (multi_asked_of v who m ask).serves ++ map closed_notice (stored_by v.producers (removed_by ask (multi_at v m)))
 joins v (Does who (OfConsumer ask)) = (consumer_asked v who ask).serves
@@ -505,6 +506,7 @@ woken v (Retry l) = []
 woken v (Wake who) = notice who outcome.Woken ∷ []
 woken v (Batch n) = readied n topic.Cuts (v.producers.topics n)
 woken v (KeepAlive l) = []
+woken v (Redelivery n t) = redelivered_at v.now t (v.consumers.rows t)
 woken v CheckIdle = []
 
 abbrev pub stopped_with : Addresses → Alarm → List Notice
@@ -512,6 +514,7 @@ stopped_with known (Retry l) = stopped_at known (known.pause l)
 stopped_with known (Wake who) = notice who outcome.Stopped ∷ []
 stopped_with known (Batch n) = []
 stopped_with known (KeepAlive l) = []
+stopped_with known (Redelivery n t) = []
 stopped_with known CheckIdle = []
 
 abbrev pub causes : View → Act → List (List Notice)

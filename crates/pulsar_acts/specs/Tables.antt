@@ -95,7 +95,7 @@ abbrev pub rung_view : Alarm → View → View
 rung_view a v =
     record v {
       addresses = record { base = v.addresses.base; pause = λ l. pause_rung true a l (v.addresses.pause l) };
-      alarms = alarms_rung v.chosen v.now a v.alarms;
+      alarms = alarms_rung v.chosen v.consumers v.now a v.alarms;
     }
 
 -- what is stored at a topic producer may change by what is asked of it
@@ -138,14 +138,15 @@ unused_act cs ps l = if is_unused l cs ps then Comes (ToLink l (Ends Idles)) ∷
 abbrev pub joins_as : Who → Member → Consumers → Consumers
 joins_as (who.Call t) m cs = consumer.joined t m cs
 joins_as (who.Consumer n t) m cs = cs
+joins_as (who.Copy n t key) m cs = cs
 joins_as (who.Producer n) m cs = cs
 
 abbrev pub joins_some : Who → Option Member → Consumers → Consumers
 joins_some w None cs = cs
 joins_some w (Some m) cs = joins_as w m cs
 
-abbrev pub consumers_made : (ℕ → Option Seat) → Who → Makes → Consumers → Consumers
-consumers_made live w m cs = joins_some w (member_made live cs.next_key m) (keyed_for m cs)
+abbrev pub consumers_made : (ℕ → Option Seat) → (clock : ℕ) → Who → Makes → Consumers → Consumers
+consumers_made live clock w m cs = joins_some w (member_made live clock cs.next_key m) (keyed_for m cs)
 
 abbrev pub producers_made : Chosen → Who → Makes → Producers → Producers
 producers_made o who Nothing ps = ps

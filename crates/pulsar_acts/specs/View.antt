@@ -20,8 +20,9 @@ use Rattle.pulsar_calls.specs.declared.act.Action.TheVariants.{OfTopic, OfMulti,
 use Rattle.pulsar_calls.specs.declared.act.TopicAsk.{TopicAsk}
 use Rattle.pulsar_calls.specs.declared.act.TopicAsk.TheVariants.{Store, Flush}
 use Rattle.pulsar_calls.specs.declared.act.ConsumerAsk.{ConsumerAsk}
+use Rattle.pulsar_calls.specs.declared.act.ConsumerAsk.TheVariants as consumer_ask
 use Rattle.pulsar_calls.specs.declared.act.Alarm.{Alarm}
-use Rattle.pulsar_calls.specs.declared.act.Alarm.TheVariants.{Retry, Wake, Batch, KeepAlive, CheckIdle}
+use Rattle.pulsar_calls.specs.declared.act.Alarm.TheVariants.{Retry, Wake, Batch, KeepAlive, Redelivery, CheckIdle}
 use Rattle.pulsar_calls.specs.declared.act.End.{End}
 use Rattle.pulsar_calls.specs.declared.act.LinkAct.{LinkAct}
 use Rattle.pulsar_calls.specs.declared.act.LinkAct.TheVariants.{Reads, Ends}
@@ -63,7 +64,7 @@ use Rattle.pulsar_producer.specs.Topic as topic
 use Rattle.pulsar_consumer_table.specs.Asks as of_consumer
 use Rattle.pulsar_consumer_table.specs.Asks.{link_asked, ticket_asked}
 use Rattle.pulsar_consumer_table.specs.Consumers as consumer
-use Rattle.pulsar_consumer_table.specs.Consumers.{Arrives, ClientStops, CloseAsked, Consumers, Deed, IsHeard, IsPolled, LinkEnds, Member, member_by}
+use Rattle.pulsar_consumer_table.specs.Consumers.{Arrives, ClientStops, CloseAsked, Consumers, Deed, IsChecked, IsHeard, IsPolled, LinkEnds, Member, check_after, forgets_by, member_by}
 use Rattle.pulsar_consumer.specs.Topic as reader
 use Rattle.pulsar_consumer.specs.Topic.{of_raw}
 use Rattle.pulsar_calls.specs.Who.{is_same, rank, ticket_of, turn_of}
@@ -334,6 +335,7 @@ is_to_follow known key (Retry l) = is_for key (known.pause l)
 is_to_follow known key (Wake who) = false
 is_to_follow known key (Batch n) = false
 is_to_follow known key (KeepAlive l) = false
+is_to_follow known key (Redelivery n t) = false
 is_to_follow known key CheckIdle = false
 
 abbrev pub waits_on : Addresses → List (Alarm × ℕ) → (key : List ℕ) → Bool
@@ -356,6 +358,7 @@ pause_rung rings (Retry k) l row = if rings && (l == k) then None else row
 pause_rung rings (Wake who) l row = row
 pause_rung rings (Batch n) l row = row
 pause_rung rings (KeepAlive k) l row = row
+pause_rung rings (Redelivery n t) l row = row
 pause_rung rings CheckIdle l row = row
 
 abbrev pub pause_after : View → Act → ℕ → Option Pause → Option Pause
@@ -372,6 +375,22 @@ addresses_after v a =
 
 abbrev pub multi_at : View → Multi → Option multi.Seen
 multi_at v m = at m v.producers.multis
+
+-- A CONSUMER THAT A VERDICT MAKES has the ticket of its call, and a key of its own.
+
+abbrev pub setup_of : (key : ℕ) → Joining → reader.Setup
+setup_of key j = record { key = key; topic = j.topic; number = j.number; config = j.config; is_raw = false }
+
+abbrev pub member_on : (ℕ → Option Seat) → (clock link : ℕ) → reader.Setup → Member
+member_on live clock l s = consumer.member_of s clock l (url_at (live l))
+
+abbrev pub member_made : (ℕ → Option Seat) → (clock key : ℕ) → Makes → Option Member
+member_made live clock key Nothing = None
+member_made live clock key Client = None
+member_made live clock key (Consumer made) = Some (member_on live clock made.link (setup_of key made))
+member_made live clock key (RawConsumer l made) = Some (member_on live clock l (of_raw made))
+member_made live clock key (Producer made) = None
+member_made live clock key (MultiProducer name settings) = None
 
 -- ALARMS
 
@@ -393,17 +412,35 @@ abbrev pub alarms_on : Chosen → (now : ℕ) → Option Turned → List (Alarm 
 alarms_on o now None alarms = alarms
 alarms_on o now (Some t) alarms = alarms_turned o now t.link t.change t.pause alarms
 
+-- the next check of a consumer, where there is one
+abbrev pub checked_next : (number ticket : ℕ) → Option ℕ → List (Alarm × ℕ) → List (Alarm × ℕ)
+checked_next n t None alarms = clear (Redelivery n t) alarms
+checked_next n t (Some moment) alarms = set (Redelivery n t) moment alarms
+
 -- one that has rung is set no more, or again for one period from now
-abbrev pub alarms_rung : Chosen → (now : ℕ) → Alarm → List (Alarm × ℕ) → List (Alarm × ℕ)
-alarms_rung o now (Retry l) alarms = clear (Retry l) alarms
-alarms_rung o now (Wake who) alarms = clear (Wake who) alarms
-alarms_rung o now (Batch n) alarms = clear (Batch n) alarms
-alarms_rung o now (KeepAlive l) alarms = set (KeepAlive l) (later now o.connection.keep_alive) alarms
-alarms_rung o now CheckIdle alarms = set CheckIdle (later now idle_period) alarms
+abbrev pub alarms_rung : Chosen → Consumers → (now : ℕ) → Alarm → List (Alarm × ℕ) → List (Alarm × ℕ)
+alarms_rung o cs now (Retry l) alarms = clear (Retry l) alarms
+alarms_rung o cs now (Wake who) alarms = clear (Wake who) alarms
+alarms_rung o cs now (Batch n) alarms = clear (Batch n) alarms
+alarms_rung o cs now (KeepAlive l) alarms = set (KeepAlive l) (later now o.connection.keep_alive) alarms
+alarms_rung o cs now (Redelivery n t) alarms = checked_next n t (check_after now (cs.rows t)) alarms
+alarms_rung o cs now CheckIdle alarms = set CheckIdle (later now idle_period) alarms
 
 -- with the first Build that ends Ok the idle check begins
 abbrev pub alarms_built : (now : ℕ) → (is_first : Bool) → List (Alarm × ℕ) → List (Alarm × ℕ)
 alarms_built now is_first alarms = if is_first then set CheckIdle (later now idle_period) alarms else alarms
+
+-- With a consumer its checks begin, where its messages are to be asked for again.
+abbrev pub checked_first : (number ticket : ℕ) → Option ℕ → List (Alarm × ℕ) → List (Alarm × ℕ)
+checked_first n t None alarms = alarms
+checked_first n t (Some moment) alarms = set (Redelivery n t) moment alarms
+
+abbrev pub alarms_made : Who → Option Member → List (Alarm × ℕ) → List (Alarm × ℕ)
+alarms_made w None alarms = alarms
+alarms_made (who.Call t) (Some m) alarms = checked_first m.seen.number t m.seen.engine.check alarms
+alarms_made (who.Consumer n t) (Some m) alarms = alarms
+alarms_made (who.Copy n t key) (Some m) alarms = alarms
+alarms_made (who.Producer n) (Some m) alarms = alarms
 
 -- What is stored waits from its first message on, so long as its producer says. Where nothing is stored any longer nothing waits.
 abbrev pub waits_from : (now : ℕ) → (timeout : Option ℕ) → (number : ℕ) → List (Alarm × ℕ) → List (Alarm × ℕ)
@@ -425,33 +462,19 @@ clear_all (n ∷ ns) alarms = clear_all ns (clear (Batch n) alarms)
 
 abbrev pub alarms_after : View → Act → List (Alarm × ℕ)
 alarms_after v (Comes (ToLink l x)) = alarms_on v.chosen v.now (turned v (Comes (ToLink l x))) v.alarms
-alarms_after v (Comes (Rings a)) = if rings v.now a v.alarms then alarms_rung v.chosen v.now a v.alarms else v.alarms
+alarms_after v (Comes (Rings a)) = if rings v.now a v.alarms then alarms_rung v.chosen v.consumers v.now a v.alarms else v.alarms
 alarms_after v (Does who (Wait delay)) = set (Wake who) (later v.now delay) v.alarms
 alarms_after v (Does who (OfTopic n (Store e))) = alarms_on_topic v n (topic.Stores (turn_of who) e)
 alarms_after v (Does who (OfTopic n Flush)) = alarms_on_topic v n (topic.Flushes (turn_of who))
 alarms_after v (Does who (OfMulti m ask)) = clear_all (removed_by ask (multi_at v m)) v.alarms
 alarms_after v (Does who (Shut t)) = clear_all (numbers_at (v.producers.built t)) v.alarms
 alarms_after v (Does who StopAll) = []
-alarms_after v (Answers who verdict) = alarms_built v.now (not v.calls.is_built && builds verdict.makes false) v.alarms
+alarms_after v (Answers who verdict) =
+    alarms_made who (member_made v.links.live v.now v.consumers.next_key verdict.makes)
+    (alarms_built v.now (not v.calls.is_built && builds verdict.makes false) v.alarms)
 alarms_after v _ = v.alarms
 
 -- CONSUMERS
-
--- The consumer that a verdict makes has the ticket of its call, and a key of its own. It is plain: what stands above takes no copies of dead letters,
--- and asks for no message again.
-abbrev pub setup_of : (key : ℕ) → Joining → reader.Setup
-setup_of key j = record { key = key; topic = j.topic; number = j.number; config = consumer.plain j.config; is_raw = false }
-
-abbrev pub member_on : (ℕ → Option Seat) → (link : ℕ) → reader.Setup → Member
-member_on live l s = consumer.member_of s l (url_at (live l))
-
-abbrev pub member_made : (ℕ → Option Seat) → (key : ℕ) → Makes → Option Member
-member_made live key Nothing = None
-member_made live key Client = None
-member_made live key (Consumer made) = Some (member_on live made.link (setup_of key made))
-member_made live key (RawConsumer l made) = Some (member_on live l (of_raw made))
-member_made live key (Producer made) = None
-member_made live key (MultiProducer name settings) = None
 
 -- its key is drawn
 abbrev pub keyed_for : Makes → Consumers → Consumers
@@ -466,6 +489,7 @@ keyed_for (MultiProducer name settings) cs = cs
 abbrev pub listed_as : Who → Consumers → Consumers
 listed_as (who.Call t) cs = consumer.listed t cs
 listed_as (who.Consumer n t) cs = cs
+listed_as (who.Copy n t key) cs = cs
 listed_as (who.Producer n) cs = cs
 
 abbrev pub consumers_listed : Who → Makes → Consumers → Consumers
@@ -480,6 +504,7 @@ consumers_listed w (MultiProducer name settings) cs = cs
 abbrev pub consumers_left : Who → Consumers → Consumers
 consumers_left (who.Call t) cs = consumer.freed t cs
 consumers_left (who.Consumer n t) cs = cs
+consumers_left (who.Copy n t key) cs = cs
 consumers_left (who.Producer n) cs = cs
 
 -- WHAT IS DONE TO A CONSUMER
@@ -491,11 +516,30 @@ url_on live (Some l) = url_at (live l)
 
 -- and what one gives that is asked
 abbrev pub consumer_asked : View → Who → ConsumerAsk → of_consumer.Given
-consumer_asked v who ask = of_consumer.asked_in v.consumers (ticket_asked who ask) who (url_on v.links.live (link_asked ask)) ask
+consumer_asked v who ask = of_consumer.asked_in v.consumers (ticket_asked who ask) v.now who (url_on v.links.live (link_asked ask)) ask
+
+-- a message that is acknowledged by a call, or asked for again, is not asked for again by itself
+abbrev pub member_called : View → (ticket : ℕ) → content.Asked → List Deed
+member_called v t asked =
+    if lacks_tickets v.calls.drawn (shares asked) then [] else (if may_call v.calls then forgets_by asked t (v.consumers.rows t) else [])
+
+-- what is due at its check is asked for again
+abbrev pub checked_by : (now : ℕ) → (rings : Bool) → List Deed
+checked_by now rings = if rings then IsChecked now ∷ [] else []
+
+abbrev pub member_rung : (now : ℕ) → (rings : Bool) → Alarm → (ticket : ℕ) → List Deed
+member_rung now rings (Redelivery n u) t = if t == u then checked_by now rings else []
+member_rung now rings (Retry l) t = []
+member_rung now rings (Wake who) t = []
+member_rung now rings (Batch n) t = []
+member_rung now rings (KeepAlive l) t = []
+member_rung now rings CheckIdle t = []
 
 -- what an act does to the one of a ticket: they hear the frames of a link, and its end, and where the close of one is asked for
 abbrev pub member_acts : View → (ticket : ℕ) → Act → List Deed
-member_acts v t (Comes (ToLink l Reads)) = Arrives l (arrival_at (v.links.live l)) ∷ []
+member_acts v t (Comes (Calls asked advice)) = member_called v t asked
+member_acts v t (Comes (Rings a)) = member_rung v.now (rings v.now a v.alarms) a t
+member_acts v t (Comes (ToLink l Reads)) = Arrives v.now l (arrival_at (v.links.live l)) ∷ []
 member_acts v t (Comes (ToLink l (Ends end))) = LinkEnds l (closing end v.now (v.links.live l)) ∷ []
 member_acts v t (Comes (Polls u)) = if t == u then IsPolled v.now ∷ [] else []
 member_acts v t (Does w (Ask l request)) = CloseAsked (closed_consumer request) l (is_asked (answer_at v.now request (v.links.live l))) ∷ []
@@ -508,10 +552,11 @@ abbrev pub member_of : Option Member → Who → (ticket : ℕ) → Option Membe
 member_of None w t = None
 member_of (Some m) (who.Call u) t = if t == u then Some m else None
 member_of (Some m) (who.Consumer n u) t = None
+member_of (Some m) (who.Copy n u key) t = None
 member_of (Some m) (who.Producer n) t = None
 
 abbrev pub member_born : View → (ticket : ℕ) → Act → Option Member
-member_born v t (Answers w verdict) = member_of (member_made v.links.live v.consumers.next_key verdict.makes) w t
+member_born v t (Answers w verdict) = member_of (member_made v.links.live v.now v.consumers.next_key verdict.makes) w t
 member_born v t _ = None
 
 -- what becomes of it
@@ -552,7 +597,19 @@ producers_listed o who (MultiProducer name settings) ps = with_multi (rank who).
 abbrev pub producers_left : Who → Producers → Producers
 producers_left (who.Call t) ps = freed t ps
 producers_left (who.Consumer n t) ps = ps
+producers_left (who.Copy n t key) ps = ps
 producers_left (who.Producer n) ps = ps
+
+-- and so does one whose copy could not be sent
+abbrev pub producers_asked : Who → ConsumerAsk → Producers → Producers
+producers_asked w (consumer_ask.Find t) ps = ps
+producers_asked w consumer_ask.TakeFlow ps = ps
+producers_asked w consumer_ask.Recall ps = ps
+producers_asked w (consumer_ask.Revive l) ps = ps
+producers_asked w (consumer_ask.Fail f) ps = ps
+producers_asked w consumer_ask.TakeCopy ps = ps
+producers_asked w consumer_ask.CopySent ps = ps
+producers_asked w consumer_ask.CopyFailed ps = freed (ticket_of w) ps
 
 -- WHAT IS DONE TO A TOPIC PRODUCER
 
@@ -592,6 +649,7 @@ topic_rung rings (Batch m) n = if n == m then rung_by rings else []
 topic_rung rings (Retry l) n = []
 topic_rung rings (Wake who) n = []
 topic_rung rings (KeepAlive l) n = []
+topic_rung rings (Redelivery m t) n = []
 topic_rung rings CheckIdle n = []
 
 -- what an act does to the one of a number, the newest first
@@ -636,6 +694,7 @@ others_after v (Comes (Calls asked advice)) =
     if lacks_tickets v.calls.drawn (shares asked) then v.producers else called_on (may_call v.calls) asked v.producers
 others_after v (Does who Number) = numbered v.producers
 others_after v (Does who (OfMulti m ask)) = multi_asked v who m ask
+others_after v (Does who (OfConsumer ask)) = producers_asked who ask v.producers
 others_after v (Does who (Hold l n)) = holding (ticket_of who) l n v.producers
 others_after v (Answers who verdict) = producers_left who (producers_listed v.chosen who verdict.makes v.producers)
 others_after v _ = v.producers

@@ -41,6 +41,7 @@ impl Tables {
             Alarm::Wake(who) => self.wakes(who, tasks),
             Alarm::Batch(number) => self.cuts(number, tasks),
             Alarm::KeepAlive(link) => self.keeps_alive(link, tasks),
+            Alarm::Redelivery { number, ticket } => self.redelivers(number, ticket, tasks),
             Alarm::CheckIdle => self.checks_idle(tasks),
         }
     }
@@ -178,7 +179,9 @@ fn stop_one(addresses: &Addresses, alarm: Alarm, notices: &mut Vec<Notice>) -> R
             })?;
             Ok(())
         }
-        Alarm::Batch(_) | Alarm::KeepAlive(_) | Alarm::CheckIdle => Ok(()),
+        Alarm::Batch(_) | Alarm::KeepAlive(_) | Alarm::Redelivery { .. } | Alarm::CheckIdle => Ok(
+            (),
+        ),
     }
 }
 
@@ -201,7 +204,11 @@ fn forget_one(addresses: &mut Addresses, alarm: Alarm) -> Result<(), NoMemory>
 {
     match alarm {
         Alarm::Retry(link) => addresses.forget(link),
-        Alarm::Wake(_) | Alarm::Batch(_) | Alarm::KeepAlive(_) | Alarm::CheckIdle => Ok(()),
+        Alarm::Wake(_)
+        | Alarm::Batch(_)
+        | Alarm::KeepAlive(_)
+        | Alarm::Redelivery { .. }
+        | Alarm::CheckIdle => Ok(()),
     }
 }
 

@@ -98,7 +98,7 @@ impl Tables {
         ensures parts { OnOk result (parts.new.items ≡ parts.old.items ++ parts_of (view_of self.old) advice asking) }
         ensures after { OnOk result (view_of self.new
             ≡ record (view_of self.old) {
-              consumers = consumer.called_on (may_call (view_of self.old).calls) asking
+              consumers = consumer.asked_on (may_call (view_of self.old).calls) asking
                   (view_of self.old).consumers;
               producers = called_on (may_call (view_of self.old).calls) asking (view_of self.old).producers;
             }) }
@@ -143,7 +143,7 @@ impl Tables {
         ensures parts { OnOk result (parts.new.items ≡ parts.old.items ++ parts_of (view_of self.old) advice asking) }
         ensures after { OnOk result (view_of self.new
             ≡ record (view_of self.old) {
-              consumers = consumer.opened_on asking (view_of self.old).consumers;
+              consumers = consumer.asked_on true asking (view_of self.old).consumers;
               producers = opened_on asking
                   (view_of self.old).producers;
             }) }
@@ -448,7 +448,7 @@ fn asks_unless(refusal: Option<CallRefusal>, link: u64, request: Request) -> Pro
     }
 }
 
-/// What a call ends with is told; a topic producer and a consumer have no end.
+/// What a call ends with is told; a topic producer, a consumer and its copies have no end.
 fn tell_end(who: Who, said: Said, out: &mut Vec<Effect>) -> Result<(), NoMemory>
     ensures { OnOk result (map shown out.new.items ≡ map shown out.old.items ++ ends who said) }
 {
@@ -457,7 +457,7 @@ fn tell_end(who: Who, said: Said, out: &mut Vec<Effect>) -> Result<(), NoMemory>
             ticket,
             answer: said.into_inner(),
         })?,
-        Who::Consumer { .. } | Who::Producer(_) => drop(said),
+        Who::Consumer { .. } | Who::Copy { .. } | Who::Producer(_) => drop(said),
     }
     Ok(())
 }

@@ -2,7 +2,7 @@
 
 ghost use Rattle.std.specs.Prelude.{◌≡◌, ◌++◌, ◌∷◌, [], IfOk, OnOk, map};
 ghost use Rattle.std.specs.Option.{option_to_list};
-ghost use Rattle.pulsar_run.specs.Order.{put_all};
+ghost use Rattle.pulsar_run.specs.Order.{arranged, put_all};
 ghost use Rattle.pulsar_exchange.specs.RawCall.{words_of};
 ghost use Rattle.pulsar_messages.specs.Words.{SendAck, SendRedeliver};
 ghost use Rattle.pulsar_wire.specs.Views.{message_id_values};
@@ -11,14 +11,17 @@ ghost use Rattle.pulsar_calls.specs.declared.act.Act.{Act};
 ghost use Rattle.pulsar_incoming.specs.Content.{consumer_wanted};
 ghost use Rattle.pulsar_acts.specs.Effects.{effects};
 ghost use Rattle.pulsar_consumer_table.specs.KeptConsumers.{consumers_in};
-ghost use Rattle.pulsar_consumer_table.specs.Consumers.{link_at, why_not};
+ghost use Rattle.pulsar_consumer.specs.Topic.{Checks, Forgets};
+ghost use Rattle.pulsar_consumer_table.specs.Consumers.{changed, done_to, link_at, member_after, only_live, why_not};
+ghost use Rattle.pulsar_producer_table.specs.KeptProducers.{producers_of};
 ghost use Rattle.pulsar_acts.specs.Reading.{acknowledges, leaves, subscribes, subscribes_by, tells_word, unless};
 ghost use Rattle.pulsar_links.specs.Kept.{live_in};
-ghost use Rattle.pulsar_calls.specs.Order.{below};
+ghost use Rattle.pulsar_acts.specs.Rules.{woken};
+ghost use Rattle.pulsar_calls.specs.Order.{below, opens};
 ghost use Rattle.pulsar_acts.specs.Run.{goes_on};
 ghost use Rattle.pulsar_agenda.specs.Agenda.{agenda_of};
-ghost use Rattle.pulsar_acts.specs.Tables.{chosen_of, view_of};
-ghost use Rattle.pulsar_acts.specs.View.{after, url_on, ways_of};
+ghost use Rattle.pulsar_acts.specs.Tables.{chosen_of, rung_view, view_of};
+ghost use Rattle.pulsar_acts.specs.View.{after, producers_asked, url_on, ways_of};
 
 use crate::tables::Tables;
 use crate::tables::calls::tell;
@@ -26,7 +29,7 @@ use crate::tables::producers::tell_some;
 use pulsar_addresses::content::Cause;
 use pulsar_agenda::agenda::Tasks;
 use pulsar_calls::act::{
-    Action, CallRefusal, ConsumerAsk, Notice, Outcome, Part, Procedure, Who, Word,
+    Action, Alarm, CallRefusal, ConsumerAsk, Notice, Outcome, Part, Procedure, Who, Word,
 };
 use pulsar_calls::effect::Effect;
 use pulsar_calls::who::ticket_of;
@@ -42,7 +45,7 @@ use std::alloc::Global;
 use url::Url;
 
 impl Tables {
-    /// A consumer is polled. A flow of it may be due then.
+    /// A consumer is polled. A flow of it may be due then, and the copy of a dead letter.
     pub(super) fn polls(
         &mut self,
         ticket: u64,
@@ -54,11 +57,11 @@ impl Tables {
         ensures sees { OnOk result (view_of self.new ≡ after (Act.Comes (Part.Polls ticket)) (view_of self.old)) }
         ensures settings { self.new.settings ≡ self.old.settings }
     {
-        let Some((effect, notice)) = self.consumers.poll(ticket, self.clock)? else {
+        let Some((effect, notices)) = self.consumers.poll(ticket, self.clock)? else {
             return Ok(());
         };
         show(effect, out)?;
-        join_some(notice, tasks)
+        join_all(notices, tasks)
     }
 
     /// A consumer is to be built.
@@ -85,16 +88,23 @@ impl Tables {
         }
     }
 
-    /// A message is acknowledged, or all up to it.
+    /// A message is acknowledged, or all up to it. It is not asked for again.
     pub(super) fn acknowledges(
-        &self,
+        &mut self,
         ticket: u64,
         id: MessageIdData,
         cumulative: bool,
     ) -> Result<Procedure, NoMemory>
-        ensures { IfOk result (λ p. p ≡ acknowledges (consumers_in self.now.consumers.rows self.now.consumers.numbers) ticket
+        ensures procedure { IfOk result (λ p. p ≡ acknowledges (consumers_in self.old.consumers.rows self.old.consumers.numbers) ticket
             (λ n. SendAck n (message_id_values id ∷ []) cumulative)) }
+        ensures after { OnOk result (view_of self.new
+            ≡ record (view_of self.old) {
+              consumers = changed ticket (member_after (Forgets (message_id_values id)))
+                  (consumers_in self.old.consumers.rows self.old.consumers.numbers);
+            }) }
+        ensures settings { self.new.settings ≡ self.old.settings }
     {
+        self.consumers.forget(ticket, &id)?;
         let ids = one_id(self.alloc, id)?;
         self.asks_for(
             ticket,
@@ -106,15 +116,24 @@ impl Tables {
         )
     }
 
-    /// A message is to be given again.
+    /// A message is to be given again. Where that is asked for it is not asked for once more.
     pub(super) fn refuses_message(
-        &self,
+        &mut self,
         ticket: u64,
         id: MessageIdData,
     ) -> Result<Procedure, NoMemory>
-        ensures { IfOk result (λ p. p ≡ acknowledges (consumers_in self.now.consumers.rows self.now.consumers.numbers) ticket
+        ensures procedure { IfOk result (λ p. p ≡ acknowledges (consumers_in self.old.consumers.rows self.old.consumers.numbers) ticket
             (λ n. SendRedeliver n (message_id_values id ∷ []))) }
+        ensures after { OnOk result (view_of self.new
+            ≡ record (view_of self.old) {
+              consumers = done_to ticket (only_live (link_at ((consumers_in self.old.consumers.rows self.old.consumers.numbers).rows ticket))
+                  (message_id_values id)) (consumers_in self.old.consumers.rows self.old.consumers.numbers);
+            }) }
+        ensures settings { self.new.settings ≡ self.old.settings }
     {
+        if self.consumers.link(ticket).is_some() {
+            self.consumers.forget(ticket, &id)?;
+        }
         let ids = one_id(self.alloc, id)?;
         self.asks_for(
             ticket,
@@ -187,10 +206,62 @@ impl Tables {
     {
         let ticket = ticket_asked(who, &ask);
         let url = self.url_on(link_asked(&ask))?;
-        let given = self.consumers.ask(ticket, who, url, ask)?;
+        self.forgets_failed(who, &ask);
+        let given = self.consumers.ask(ticket, self.clock, who, url, ask)?;
         let Given { says, serves } = given;
         join_all(serves, tasks)?;
         tell_some(who, says, tasks)
+    }
+
+    /// One whose copy could not be sent makes no topic producers any more.
+    fn forgets_failed(&mut self, who: Who, ask: &ConsumerAsk)
+        ensures sees { view_of self.new ≡ record (view_of self.old) {
+          producers = producers_asked who ask.now (producers_of self.old.producers);
+        } }
+        ensures settings { self.new.settings ≡ self.old.settings }
+    {
+        match ask {
+            ConsumerAsk::CopyFailed => self.producers.free(ticket_of(who)),
+            ConsumerAsk::Find(_)
+            | ConsumerAsk::TakeFlow
+            | ConsumerAsk::Recall
+            | ConsumerAsk::Revive { .. }
+            | ConsumerAsk::Fail(_)
+            | ConsumerAsk::TakeCopy
+            | ConsumerAsk::CopySent => {}
+        }
+    }
+
+    /// What is due of a consumer is asked for again, and its next check is set.
+    pub(super) fn redelivers(
+        &mut self,
+        number: u64,
+        ticket: u64,
+        tasks: &mut Tasks,
+    ) -> Result<(), NoMemory>
+        ensures left { OnOk result (agenda_of tasks.new
+            ≡ record (agenda_of tasks.old) {
+              behind = (agenda_of tasks.old).behind
+                  ++ map (arranged below) (opens (woken (view_of self.old) (Alarm.Redelivery number ticket)));
+            }) }
+        ensures sees { OnOk result (view_of self.new
+            ≡ record (rung_view (Alarm.Redelivery number ticket) (view_of self.old)) {
+              consumers = changed ticket (member_after (Checks self.old.clock))
+                  (consumers_in self.old.consumers.rows self.old.consumers.numbers);
+            }) }
+        ensures settings { self.new.settings ≡ self.old.settings }
+    {
+        let notice = self.consumers.check(ticket, self.clock)?;
+        let mut notices = Vec::new(self.alloc);
+        if let Some(notice) = notice {
+            notices.push(notice)?;
+        }
+        let alarm = Alarm::Redelivery { number, ticket };
+        match self.consumers.next_check(ticket) {
+            Some(moment) => self.alarms.set(alarm, moment)?,
+            None => self.alarms.clear(alarm)?,
+        }
+        tasks.open(notices)
     }
 
     /// Where a link goes, if there is one.

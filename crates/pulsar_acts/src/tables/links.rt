@@ -126,10 +126,10 @@ impl Tables {
     ) -> Result<(), NoMemory>
         ensures left { OnOk result (agenda_of tasks.new ≡ record (agenda_of tasks.old) { now = breaks_at link arrival ++ tasks.old.now.items }) }
         ensures notices { OnOk result (notices.new.items ≡ notices.old.items
-            ++ over_rows (heard_at link arrival) (consumers_in self.old.consumers.rows self.old.consumers.numbers)) }
+            ++ over_rows (heard_at self.old.clock link arrival) (consumers_in self.old.consumers.rows self.old.consumers.numbers)) }
         ensures sees { OnOk result (view_of self.new
             ≡ record (view_of self.old) {
-              consumers = all_changed (hears link arrival)
+              consumers = all_changed (hears self.old.clock link arrival)
                   (consumers_in self.old.consumers.rows self.old.consumers.numbers);
             }) }
         ensures settings { self.new.settings ≡ self.old.settings }
@@ -139,7 +139,7 @@ impl Tables {
                 link,
                 act: LinkAct::Ends(End::Broken(cause)),
             })),
-            arrival => add_all(notices, self.consumers.hear(link, arrival)?),
+            arrival => add_all(notices, self.consumers.hear(self.clock, link, arrival)?),
         }
     }
 

@@ -1,37 +1,39 @@
 //! What verdicts make.
 
-ghost use Rattle.std.specs.Prelude.{◌≡◌, ◌∷◌, [], IfOk, OnOk};
+ghost use Rattle.std.specs.Prelude.{◌≡◌, ◌++◌, IfOk, OnOk, Some};
 ghost use Rattle.std.specs.Option.{option_to_list};
 ghost use Rattle.pulsar_links.specs.Kept.{live_in};
 ghost use Rattle.pulsar_producer_table.specs.KeptProducers.{producers_of};
 ghost use Rattle.pulsar_consumer_table.specs.KeptConsumers.{consumers_in, member_in};
 ghost use Rattle.pulsar_consumer_table.specs.Notices.{due_to};
-ghost use Rattle.pulsar_acts.specs.Reading.{made_due, serves_by};
+ghost use Rattle.pulsar_acts.specs.Reading.{copies_by, made_due, serves_by};
 ghost use Rattle.pulsar_acts.specs.Rules.{left_with};
 ghost use Rattle.pulsar_acts.specs.Tables.{chosen_of, consumers_made, joins_as, producers_made, view_of};
-ghost use Rattle.pulsar_acts.specs.View.{consumers_left, member_on, producers_left, setup_of, ways_of};
+ghost use Rattle.pulsar_acts.specs.View.{alarms_made, checked_first, consumers_left, member_made, member_on, producers_left, setup_of, ways_of};
 ghost use Rattle.pulsar_calls.specs.Who.{ticket_of};
 
 use crate::tables::Tables;
-use pulsar_calls::act::{Act as Deed, Makes, Notice, Procedure, Who};
+use pulsar_addresses::content::Text;
+use pulsar_calls::act::{Act as Deed, Alarm, Makes, Notice, Procedure, Who};
 use pulsar_calls::content::{Joined, Joining};
 use pulsar_calls::who::{rank, ticket_of};
 use pulsar_consumer::TopicConsumer;
 use pulsar_consumer_table::due;
-use pulsar_consumer_table::row::{ConsumerRow, plain};
+use pulsar_consumer_table::row::ConsumerRow;
 use pulsar_exchange::content::Subscribed;
 use pulsar_wire::error::NoMemory;
-use std::alloc::Global;
 use std::collections::VecDeque;
 
 impl Tables {
     /// What a verdict makes has the ticket of its call: what a consumer is told that is made.
     pub(super) fn makes(&mut self, who: Who, makes: Makes) -> Result<Option<Notice>, NoMemory>
-        ensures due { IfOk result (λ n. option_to_list n ≡ made_due (live_in self.old.links.live)
+        ensures due { IfOk result (λ n. option_to_list n ≡ made_due (live_in self.old.links.live) self.old.clock
             (consumers_in self.old.consumers.rows self.old.consumers.numbers).next_key who makes) }
         ensures sees { OnOk result (view_of self.new
             ≡ record (view_of self.old) {
-              consumers = consumers_made (live_in self.old.links.live) who makes
+              alarms = alarms_made who (member_made (live_in self.old.links.live) self.old.clock
+                  (consumers_in self.old.consumers.rows self.old.consumers.numbers).next_key makes) self.old.alarms;
+              consumers = consumers_made (live_in self.old.links.live) self.old.clock who makes
                   (consumers_in self.old.consumers.rows self.old.consumers.numbers);
               producers = producers_made (chosen_of self.old.settings) who makes
                   (producers_of self.old.producers);
@@ -63,11 +65,13 @@ impl Tables {
 
     /// A consumer was built. A flow of it is due.
     fn joins(&mut self, who: Who, joined: Joined) -> Result<Option<Notice>, NoMemory>
-        ensures due { IfOk result (λ n. option_to_list n ≡ due_to (ticket_of who) (member_on (live_in self.old.links.live) joined.link
+        ensures due { IfOk result (λ n. option_to_list n ≡ due_to (ticket_of who) (member_on (live_in self.old.links.live) self.old.clock joined.link
             (setup_of (consumers_in self.old.consumers.rows self.old.consumers.numbers).next_key joined))) }
         ensures sees { OnOk result (view_of self.new
             ≡ record (view_of self.old) {
-              consumers = consumers_made (live_in self.old.links.live) who (Makes.Consumer joined)
+              alarms = alarms_made who (member_made (live_in self.old.links.live) self.old.clock
+                  (consumers_in self.old.consumers.rows self.old.consumers.numbers).next_key (Makes.Consumer joined)) self.old.alarms;
+              consumers = consumers_made (live_in self.old.links.live) self.old.clock who (Makes.Consumer joined)
                   (consumers_in self.old.consumers.rows self.old.consumers.numbers);
             }) }
         ensures settings { self.new.settings ≡ self.old.settings }
@@ -80,9 +84,8 @@ impl Tables {
         } = joined.into_inner();
         let url = self.links.url(link)?;
         let key = self.consumers.draw_key()?;
-        let config = plain(self.alloc, config)?;
         let consumer = TopicConsumer::new(self.alloc, key, topic, number, config, false);
-        let row = ConsumerRow::new(self.alloc, consumer, link, url)?;
+        let row = ConsumerRow::new(self.alloc, consumer, self.clock, link, url)?;
         let notice = due(&row, ticket_of(who));
         self.joins_as(who, row)?;
         Ok(notice)
@@ -92,31 +95,54 @@ impl Tables {
     fn joins_raw(&mut self, who: Who, link: u64, made: Subscribed) -> Result<(), NoMemory>
         ensures sees { OnOk result (view_of self.new
             ≡ record (view_of self.old) {
-              consumers = consumers_made (live_in self.old.links.live) who (Makes.RawConsumer link made)
+              alarms = alarms_made who (member_made (live_in self.old.links.live) self.old.clock
+                  (consumers_in self.old.consumers.rows self.old.consumers.numbers).next_key (Makes.RawConsumer link made)) self.old.alarms;
+              consumers = consumers_made (live_in self.old.links.live) self.old.clock who (Makes.RawConsumer link made)
                   (consumers_in self.old.consumers.rows self.old.consumers.numbers);
             }) }
         ensures settings { self.new.settings ≡ self.old.settings }
     {
         let url = self.links.url(link)?;
         let consumer = TopicConsumer::of_raw(self.alloc, made)?;
-        let row = ConsumerRow::new(self.alloc, consumer, link, url)?;
+        let row = ConsumerRow::new(self.alloc, consumer, self.clock, link, url)?;
         self.joins_as(who, row)
     }
 
-    /// A consumer has the ticket of the call that makes it.
+    /// A consumer has the ticket of the call that makes it. Its first check is set, where there is one.
     fn joins_as(&mut self, who: Who, row: ConsumerRow) -> Result<(), NoMemory>
         ensures sees { OnOk result (view_of self.new
             ≡ record (view_of self.old) {
+              alarms = alarms_made who (Some (member_in row)) self.old.alarms;
               consumers = joins_as who (member_in row) (consumers_in self.old.consumers.rows self.old.consumers.numbers);
             }) }
         ensures settings { self.new.settings ≡ self.old.settings }
     {
         match who {
-            Who::Call(ticket) => self.consumers.join(ticket, row),
-            Who::Consumer { .. } | Who::Producer(_) => {
+            Who::Call(ticket) => {
+                self.checks_first(ticket, &row)?;
+                self.consumers.join(ticket, row)
+            }
+            Who::Consumer { .. } | Who::Copy { .. } | Who::Producer(_) => {
                 drop(row);
                 Ok(())
             }
+        }
+    }
+
+    /// The first check of a consumer is set, where there is one.
+    fn checks_first(&mut self, ticket: u64, row: &ConsumerRow) -> Result<(), NoMemory>
+        ensures sees { OnOk result (view_of self.new
+            ≡ record (view_of self.old) {
+              alarms = checked_first (member_in row.now).seen.number ticket (member_in row.now).seen.engine.check self.old.alarms;
+            }) }
+        ensures settings { self.new.settings ≡ self.old.settings }
+    {
+        let number = row.consumer.inner.number();
+        match row.next_check() {
+            Some(moment) => self
+                .alarms
+                .set(Alarm::Redelivery { number, ticket }, moment),
+            None => Ok(()),
         }
     }
 
@@ -133,14 +159,15 @@ impl Tables {
                 self.consumers.free(ticket);
                 self.producers.free(ticket);
             }
-            Who::Consumer { .. } | Who::Producer(_) => {}
+            Who::Consumer { .. } | Who::Copy { .. } | Who::Producer(_) => {}
         }
     }
 
-    /// What follows a verdict: the topic producers of a producer send their batches, where they do, and a consumer is served, each by a plan
-    /// of its own.
+    /// What follows a verdict: the topic producers of a producer send their batches, where they do, and a consumer is served, and so are its
+    /// dead letters, each by a plan of its own.
     pub(super) fn left_with(&self, who: Who, makes: &Makes) -> Result<VecDeque<Deed>, NoMemory>
-        ensures { IfOk result (λ acts. acts.items ≡ left_with (ways_of (chosen_of self.now.settings)) who makes.now) }
+        ensures { IfOk result (λ acts. acts.items ≡ left_with (ways_of (chosen_of self.now.settings))
+            (consumers_in self.now.consumers.rows self.now.consumers.numbers).next_key who makes.now) }
     {
         match makes {
             Makes::Producer(made) => {
@@ -155,29 +182,46 @@ impl Tables {
         }
     }
 
-    /// A consumer is served by a plan of its own.
+    /// A consumer is served by a plan of its own, and the copies of its dead letters are sent by another.
     fn serves(&self, who: Who, joining: &Joining) -> Result<VecDeque<Deed>, NoMemory>
-        ensures { IfOk result (λ acts. acts.items ≡ serves_by (ways_of (chosen_of self.now.settings)) who joining.now) }
+        ensures { IfOk result (λ acts. acts.items ≡ serves_by (ways_of (chosen_of self.now.settings)) who joining.now
+            ++ copies_by (ways_of (chosen_of self.now.settings))
+            (consumers_in self.now.consumers.rows self.now.consumers.numbers).next_key who joining.now) }
     {
         let number = joining.number;
         let ticket = ticket_of(who);
-        match self.settings.ways(self.alloc)? {
-            Some(ways) => one(
-                self.alloc,
-                Deed::Starts {
-                    who: Who::Consumer { number, ticket },
-                    procedure: Procedure::Serve { ways, number },
-                },
-            ),
-            None => Ok(VecDeque::new(self.alloc)),
+        let mut acts = VecDeque::new(self.alloc);
+        if let Some(ways) = self.settings.ways(self.alloc)? {
+            acts.push_back(Deed::Starts {
+                who: Who::Consumer { number, ticket },
+                procedure: Procedure::Serve { ways, number },
+            })?;
         }
+        self.copies(who, joining, &mut acts)?;
+        Ok(acts)
     }
-}
 
-fn one(alloc: Global, act: Deed) -> Result<VecDeque<Deed>, NoMemory>
-    ensures { IfOk result (λ acts. acts.items ≡ act ∷ []) }
-{
-    let mut acts = VecDeque::new(alloc);
-    acts.push_back(act)?;
-    Ok(acts)
+    /// The copies of its dead letters are sent, where it is said to which topic.
+    fn copies(&self, who: Who, joining: &Joining, acts: &mut VecDeque<Deed>) -> Result<(), NoMemory>
+        ensures { OnOk result (acts.new.items ≡ acts.old.items ++ copies_by (ways_of (chosen_of self.now.settings))
+            (consumers_in self.now.consumers.rows self.now.consumers.numbers).next_key who joining.now) }
+    {
+        let Some(ways) = self.settings.ways(self.alloc)? else {
+            return Ok(());
+        };
+        let Some(policy) = &joining.config.get().dead_letter_policy else {
+            return Ok(());
+        };
+        let topic = Text::new(policy.dead_letter_topic.clone()?);
+        let copier = Who::Copy {
+            number: joining.number,
+            ticket: ticket_of(who),
+            key: self.consumers.next_key(),
+        };
+        acts.push_back(Deed::Starts {
+            who: copier,
+            procedure: Procedure::Copy { ways, topic },
+        })?;
+        Ok(())
+    }
 }

@@ -3,6 +3,7 @@
 
 pub mod answers;
 pub mod batches;
+pub mod copying;
 pub mod departing;
 pub mod gathering;
 pub mod multi;

@@ -172,7 +172,7 @@ fn closes_on(alloc: Global, multi: Multi, step: Closes) -> Result<PlanTransition
 }
 
 /// What a plan does, as the client does it.
-fn multi_action_of(alloc: Global, multi: Multi, deed: MultiDeed) -> Result<Action, NoMemory>
+pub fn multi_action_of(alloc: Global, multi: Multi, deed: MultiDeed) -> Result<Action, NoMemory>
     ensures { IfOk result (λ a. a ≡ multi_action_of multi deed) }
 {
     match deed {
@@ -185,7 +185,7 @@ fn multi_action_of(alloc: Global, multi: Multi, deed: MultiDeed) -> Result<Actio
 }
 
 /// What a plan is told.
-fn multi_news_of(alloc: Global, outcome: Outcome) -> Result<MultiNews, NoMemory>
+pub fn multi_news_of(alloc: Global, outcome: Outcome) -> Result<MultiNews, NoMemory>
     ensures { IfOk result (λ n. n ≡ multi_news_of outcome) }
 {
     match outcome {

@@ -5,13 +5,14 @@ ghost use Rattle.pulsar_wire.specs.Failures.{Custom, OfProducer, ProducerCustom,
 ghost use Rattle.pulsar_plans.specs.Plan.{asks, begins, failure_of, fails, fails_with, fault_of, makes, makes_of, overrides, replied, stands, told, verdict, waits};
 ghost use Rattle.pulsar_calls.specs.Content.{Done, Failed};
 
+use crate::copying::CopyState;
 use crate::service::Service;
 use crate::states::{BatchState, BuildState, ConsumerState, MultiState, SearchState, SendState};
 use crate::{
-    answers, batches, departing, gathering, multi, producing, search, sends, serving, subscribing,
+    answers, batches, copying, departing, gathering, multi, producing, search, sends, serving, subscribing,
     visiting,
 };
-use pulsar_addresses::content::Refusal as Failure;
+use pulsar_addresses::content::{Refusal as Failure, Text};
 use pulsar_calls::act::{
     Action, CallRefusal, Makes, Outcome, Place, Procedure, Round, Says, Share, TopicAsk, Verdict,
 };
@@ -129,6 +130,12 @@ pub enum Plan {
         number: u64,
         service: Service,
     },
+    /// It sends the copies of a consumer's dead letters to this topic.
+    Copying {
+        ways: Ways,
+        topic: Text,
+        state: CopyState,
+    },
     /// It has asked for an acknowledgement.
     Acknowledging,
     /// It closes the consumer of this ticket, which has this number, and finds its link.
@@ -215,6 +222,7 @@ pub fn begins(alloc: Global, procedure: Procedure) -> Result<PlanTransition, NoM
         Procedure::MultiClose { multi, topic } => multi::closes(alloc, multi, topic),
         Procedure::Subscribe { ways, order } => subscribing::begins(alloc, ways, order),
         Procedure::Serve { ways, number } => Ok(serving::begins(ways, number)),
+        Procedure::Copy { ways, topic } => Ok(copying::begins(ways, topic)),
         Procedure::Acknowledge { link, request } => departing::acknowledges(alloc, link, request),
         Procedure::Leave { consumer, number } => Ok(departing::begins(consumer, number)),
         Procedure::Refuse(refusal) => refused(alloc, refusal),
@@ -283,6 +291,7 @@ pub fn told(alloc: Global, plan: Plan, outcome: Outcome) -> Result<PlanTransitio
             number,
             service,
         } => serving::told(alloc, ways, number, service, outcome),
+        Plan::Copying { ways, topic, state } => copying::told(alloc, ways, topic, state, outcome),
         Plan::Acknowledging => done(alloc, Makes::Nothing),
         Plan::Departing { consumer, number } => departing::told(alloc, consumer, number, outcome),
         Plan::Stopping => in_stopping(alloc, outcome),

@@ -21,4 +21,6 @@ pub enum Service {
     Failing,
     /// It has asked for the close of the subscription.
     Closing,
+    /// It has asked for messages again that are due.
+    Redelivering,
 }

@@ -166,6 +166,11 @@ fn news_by(word: Word) -> Option<News>
         | Word::Recalled(_)
         | Word::Lives
         | Word::TopicEnded { .. }
-        | Word::Over => None,
+        | Word::Over
+        | Word::Asks { .. }
+        | Word::NoAsk
+        | Word::CopyDue
+        | Word::Letter(_)
+        | Word::NoLetter => None,
     }
 }

@@ -15,7 +15,7 @@ use Rattle.pulsar_calls.specs.declared.act.Who.{Who}
 use Rattle.pulsar_calls.specs.declared.act.Word.{Word}
 use Rattle.pulsar_calls.specs.declared.act.Word.TheVariants as word
 use Rattle.pulsar_calls.specs.Who.{key_of, ticket_of}
-use Rattle.pulsar_consumer_table.specs.Consumers.{Consumers, CopyLost, CopySent as Sent, CopyTaken, Deed, FlowTaken, IsSought, Member, NotRevived, Revived, ack_for, flow_at, is_ended_at, letter_at, member_by, recalled, sought}
+use Rattle.pulsar_consumer_table.specs.Consumers.{Consumers, Copied, CopyLost, CopyTaken, Deed, FlowTaken, IsSought, Member, NotRevived, Revived, ack_for, flow_at, is_ended_at, letter_at, member_by, recalled, sought}
 use Rattle.pulsar_consumer_table.specs.Notices.{again_at, goes_on_at, revived_at}
 use Rattle.pulsar_consumer_table.specs.declared.row.LinkAnswer.{LinkAnswer}
 use Rattle.pulsar_consumer_table.specs.declared.row.LinkAnswer.TheVariants.{Found, Gone, Later}
@@ -99,9 +99,9 @@ given x (Fail f) row = record { acts = NotRevived f ∷ []; says = says_word wor
 given x TakeCopy row = record { acts = CopyTaken ∷ []; says = says_word (letter_said (letter_at row)); serves = [] }
 given x CopySent row =
     record {
-      acts = Sent (key_of x.who) x.now ∷ [];
+      acts = Copied (key_of x.who) x.now ∷ [];
       says = says_word (asks_said (ack_for (key_of x.who) row));
-      serves = due_by (Sent (key_of x.who) x.now) x.ticket row;
+      serves = due_by (Copied (key_of x.who) x.now) x.ticket row;
     }
 given x CopyFailed row =
     record {

@@ -307,7 +307,7 @@ pub data Deed : Type 0 where
   -- the copy that is to be sent next is taken
   CopyTaken : Deed
   -- at this moment the copy that the consumer of this key took has its receipt, or could not be sent
-  CopySent : (key clock : ℕ) → Deed
+  Copied : (key clock : ℕ) → Deed
   CopyLost : (key clock : ℕ) → Deed
   -- the message of this id is acknowledged, or asked for again by its user
   IsForgotten : Id → Deed
@@ -326,7 +326,7 @@ member_by FlowTaken m = member_after topic.Asks m
 member_by (Revived clock l url) m = revived clock l url m
 member_by (NotRevived f) m = failed f m
 member_by CopyTaken m = member_after TakesCopy m
-member_by (CopySent key clock) m = member_after (IsCopied key clock) m
+member_by (Copied key clock) m = member_after (IsCopied key clock) m
 member_by (CopyLost key clock) m = member_after (FailsCopy key clock) m
 member_by (IsForgotten id) m = member_after (Forgets id) m
 member_by (IsChecked clock) m = member_after (Checks clock) m

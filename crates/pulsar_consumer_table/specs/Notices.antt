@@ -5,6 +5,7 @@ use Rattle.std.specs.Option.{option_map, option_to_list}
 use Rattle.url.specs.Parts.{Parts}
 use Rattle.pulsar_wire.specs.Failures.{Fault}
 use Rattle.pulsar_messages.specs.Words.{Words}
+use Rattle.pulsar_exchange.specs.Messages.{Reply}
 use Rattle.pulsar_consumer.specs.Topic as reader
 use Rattle.pulsar_calls.specs.declared.act.Arrival.{Arrival}
 use Rattle.pulsar_calls.specs.declared.act.Notice.{Notice}
@@ -69,6 +70,9 @@ abbrev pub revived_at : (clock link : ℕ) → Option Parts → (ticket : ℕ) �
 revived_at clock l url t row = again_at row ++ due_at t (option_map (consumer.revived clock l url) row)
 
 -- one that hears a frame, or loses its subscription with its link
+abbrev pub hears_to : (clock link : ℕ) → Reply → (ticket : ℕ) → Member → List Notice
+hears_to clock l r t m = word_to t m (consumer.word_of_frame clock l r m) ++ copy_if (consumer.copy_of_frame clock l r m) t m
+
 abbrev pub heard_at : (clock link : ℕ) → Arrival → (ticket : ℕ) → Member → List Notice
 heard_at clock l a t m = word_to t m (consumer.word_of clock l a m) ++ copy_if (consumer.copy_of clock l a m) t m
 

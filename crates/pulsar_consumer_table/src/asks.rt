@@ -2,8 +2,8 @@
 //! serves.
 
 ghost use Rattle.std.specs.Prelude.{◌≡◌, [], ◌∷◌, IfOk, None, OnOk, Some};
-ghost use Rattle.pulsar_consumer_table.specs.Asks.{asked_in, flow_said, link_asked, recalled_said, revived_said, says_word, sought_said, ticket_asked};
-ghost use Rattle.pulsar_consumer_table.specs.Consumers.{FlowTaken, IsSought, NotRevived, Revived, done_to, flow_at, is_ended_at, recalled, sought};
+ghost use Rattle.pulsar_consumer_table.specs.Asks.{asked_in, asks_said, due_by, flow_said, letter_said, link_asked, recalled_said, revived_said, says_word, sought_said, ticket_asked};
+ghost use Rattle.pulsar_consumer_table.specs.Consumers.{Copied, CopyLost, CopyTaken, FlowTaken, IsSought, NotRevived, Revived, ack_for, done_to, flow_at, is_ended_at, letter_at, recalled, sought};
 ghost use Rattle.pulsar_consumer_table.specs.KeptConsumers.{consumers_in};
 ghost use Rattle.pulsar_consumer_table.specs.Notices.{again_at, revived_at};
 
@@ -12,7 +12,7 @@ use crate::table::Consumers;
 use pulsar_addresses::content::Refusal as Failure;
 use pulsar_calls::act::{ConsumerAsk, Notice, Outcome, Who, Word};
 use pulsar_calls::content::Recalled;
-use pulsar_calls::who::ticket_of;
+use pulsar_calls::who::{key_of, ticket_of};
 use pulsar_wire::error::NoMemory;
 use std::alloc::Global;
 use url::Url;
@@ -25,27 +25,31 @@ pub struct Given {
 }
 
 impl Consumers {
-    /// This is asked of the consumer of a ticket. The link that the ask names goes to this address, where it has not ended.
+    /// This is asked of the consumer of a ticket at this moment. The link that the ask names goes to this address, where it has not ended.
     pub fn ask(
         &mut self,
         ticket: u64,
+        clock: u64,
         who: Who,
         url: Option<Url>,
         ask: ConsumerAsk,
     ) -> Result<Given, NoMemory>
-        ensures says { IfOk result (λ g. g.says ≡ (asked_in (consumers_in self.old.rows self.old.numbers) ticket who url ask).says) }
+        ensures says { IfOk result (λ g. g.says ≡ (asked_in (consumers_in self.old.rows self.old.numbers) ticket clock who url ask).says) }
         ensures serves { IfOk result (λ g. g.serves.items
-            ≡ (asked_in (consumers_in self.old.rows self.old.numbers) ticket who url ask).serves) }
+            ≡ (asked_in (consumers_in self.old.rows self.old.numbers) ticket clock who url ask).serves) }
         ensures after { OnOk result (consumers_in self.new.rows self.new.numbers
-            ≡ done_to ticket (asked_in (consumers_in self.old.rows self.old.numbers) ticket who url ask).acts
+            ≡ done_to ticket (asked_in (consumers_in self.old.rows self.old.numbers) ticket clock who url ask).acts
             (consumers_in self.old.rows self.old.numbers)) }
     {
         match ask {
             ConsumerAsk::Find(_) => self.finds(ticket, who),
             ConsumerAsk::TakeFlow => self.takes_flow(ticket),
             ConsumerAsk::Recall => self.recalls(ticket),
-            ConsumerAsk::Revive { link } => self.revives(ticket, link, url),
+            ConsumerAsk::Revive { link } => self.revives(ticket, clock, link, url),
             ConsumerAsk::Fail(failure) => self.fails(ticket, failure),
+            ConsumerAsk::TakeCopy => self.takes_copy(ticket),
+            ConsumerAsk::CopySent => self.sends_copy(ticket, key_of(who), clock),
+            ConsumerAsk::CopyFailed => self.fails_copy(ticket, key_of(who), clock),
         }
     }
 
@@ -91,16 +95,22 @@ impl Consumers {
     }
 
     /// It was subscribed again. Those who wait for its link look again, and a flow is due.
-    fn revives(&mut self, ticket: u64, link: u64, url: Option<Url>) -> Result<Given, NoMemory>
+    fn revives(
+        &mut self,
+        ticket: u64,
+        clock: u64,
+        link: u64,
+        url: Option<Url>,
+    ) -> Result<Given, NoMemory>
         ensures says { IfOk result (λ g. g.says
             ≡ says_word (revived_said (is_ended_at ((consumers_in self.old.rows self.old.numbers).rows ticket)))) }
         ensures serves { IfOk result (λ g. g.serves.items
-            ≡ revived_at link url ticket ((consumers_in self.old.rows self.old.numbers).rows ticket)) }
+            ≡ revived_at clock link url ticket ((consumers_in self.old.rows self.old.numbers).rows ticket)) }
         ensures after { OnOk result (consumers_in self.new.rows self.new.numbers
-            ≡ done_to ticket (Revived link url ∷ []) (consumers_in self.old.rows self.old.numbers)) }
+            ≡ done_to ticket (Revived clock link url ∷ []) (consumers_in self.old.rows self.old.numbers)) }
     {
         let is_ended = self.is_ended(ticket);
-        let serves = self.revive(ticket, link, url)?;
+        let serves = self.revive(ticket, clock, link, url)?;
         Ok(Given {
             says: Some(Outcome::Word(revived_word(is_ended))),
             serves,
@@ -120,6 +130,47 @@ impl Consumers {
             serves,
         })
     }
+
+    /// The copy that is to be sent next.
+    fn takes_copy(&mut self, ticket: u64) -> Result<Given, NoMemory>
+        ensures says { IfOk result (λ g. g.says ≡ says_word (letter_said (letter_at ((consumers_in self.old.rows self.old.numbers).rows ticket)))) }
+        ensures serves { IfOk result (λ g. g.serves.items ≡ []) }
+        ensures after { OnOk result (consumers_in self.new.rows self.new.numbers
+            ≡ done_to ticket (CopyTaken ∷ []) (consumers_in self.old.rows self.old.numbers)) }
+    {
+        let word = self.take_copy(ticket)?;
+        Ok(says(self.alloc, Outcome::Word(word)))
+    }
+
+    /// The copy has its receipt that was sent under this key.
+    fn sends_copy(&mut self, ticket: u64, key: u64, clock: u64) -> Result<Given, NoMemory>
+        ensures says { IfOk result (λ g. g.says ≡ says_word (asks_said (ack_for key ((consumers_in self.old.rows self.old.numbers).rows ticket)))) }
+        ensures serves { IfOk result (λ g. g.serves.items
+            ≡ due_by (Copied key clock) ticket ((consumers_in self.old.rows self.old.numbers).rows ticket)) }
+        ensures after { OnOk result (consumers_in self.new.rows self.new.numbers
+            ≡ done_to ticket (Copied key clock ∷ []) (consumers_in self.old.rows self.old.numbers)) }
+    {
+        let (word, serves) = self.copy_sent(ticket, key, clock)?;
+        Ok(Given {
+            says: Some(Outcome::Word(word)),
+            serves,
+        })
+    }
+
+    /// The copy could not be sent.
+    fn fails_copy(&mut self, ticket: u64, key: u64, clock: u64) -> Result<Given, NoMemory>
+        ensures says { IfOk result (λ g. g.says ≡ says_word Word.NoAsk) }
+        ensures serves { IfOk result (λ g. g.serves.items
+            ≡ due_by (CopyLost key clock) ticket ((consumers_in self.old.rows self.old.numbers).rows ticket)) }
+        ensures after { OnOk result (consumers_in self.new.rows self.new.numbers
+            ≡ done_to ticket (CopyLost key clock ∷ []) (consumers_in self.old.rows self.old.numbers)) }
+    {
+        let serves = self.copy_failed(ticket, key, clock)?;
+        Ok(Given {
+            says: Some(Outcome::Word(Word::NoAsk)),
+            serves,
+        })
+    }
 }
 
 /// Whose consumer it is: the plan of one asks of its own.
@@ -131,7 +182,10 @@ pub fn ticket_asked(who: Who, ask: &ConsumerAsk) -> u64
         ConsumerAsk::TakeFlow
         | ConsumerAsk::Recall
         | ConsumerAsk::Revive { .. }
-        | ConsumerAsk::Fail(_) => ticket_of(who),
+        | ConsumerAsk::Fail(_)
+        | ConsumerAsk::TakeCopy
+        | ConsumerAsk::CopySent
+        | ConsumerAsk::CopyFailed => ticket_of(who),
     }
 }
 
@@ -141,8 +195,13 @@ pub fn link_asked(ask: &ConsumerAsk) -> Option<u64>
 {
     match ask {
         ConsumerAsk::Revive { link } => Some(*link),
-        ConsumerAsk::Find(_) | ConsumerAsk::TakeFlow | ConsumerAsk::Recall | ConsumerAsk::Fail(_) =>
-            None,
+        ConsumerAsk::Find(_)
+        | ConsumerAsk::TakeFlow
+        | ConsumerAsk::Recall
+        | ConsumerAsk::Fail(_)
+        | ConsumerAsk::TakeCopy
+        | ConsumerAsk::CopySent
+        | ConsumerAsk::CopyFailed => None,
     }
 }
 

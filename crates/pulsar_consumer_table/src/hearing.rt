@@ -10,12 +10,13 @@ ghost use Rattle.pulsar_calls.specs.Content.{shown};
 ghost use Rattle.pulsar_incoming.specs.declared.polled.Ending.{Ending};
 ghost use Rattle.pulsar_consumer.specs.Topic.{Asks, Ends, Loses, Polls, is_on, resubscribes};
 ghost use Rattle.pulsar_consumer_table.specs.Consumers as meaning;
-ghost use Rattle.pulsar_consumer_table.specs.Consumers.{at_row, flow_at, hears_frame, lives_at, member_after, polled, sought, word_if, word_of_frame};
+ghost use Rattle.pulsar_consumer_table.specs.Consumers.{at_row, flow_at, hears_frame, lives_at, member_after, polled, sought, word_if};
 ghost use Rattle.pulsar_consumer_table.specs.KeptConsumers.{Drops, Moves, is_known, known_at, listed_at, member_in, one_changed, rows_in, some_changed};
 ghost use Rattle.pulsar_calls.specs.Places.{is_listed};
 ghost use Rattle.pulsar_calls.specs.Notices.{stopped_one};
-ghost use Rattle.pulsar_consumer_table.specs.Notices.{again, again_at, due_at, polled_due, revived_at, stopped_seekers, word_to};
+ghost use Rattle.pulsar_consumer_table.specs.Notices.{again, again_at, due_at, hears_to, polled_due, revived_at, stopped_seekers, word_to};
 
+use crate::letters::{add_some, copy_notice, goes_on};
 use crate::listing::{Listing, list, listed, unlist};
 use crate::row::{ConsumerRow, LinkAnswer};
 use pulsar_addresses::content::Refusal;
@@ -223,20 +224,21 @@ pub fn hear_all(
     alloc: Global,
     rows: &mut BTreeMap<u64, ConsumerRow>,
     tickets: &[u64],
+    clock: u64,
     link: u64,
     reply: Received,
 ) -> Result<Vec<Notice>, NoMemory>
     requires { IsStrictlySortedBy nat_cmp tickets.now }
-    ensures notices { IfOk result (λ ns. ns.items ≡ flat_map (at_row (λ t m. word_to t m (word_of_frame link reply m)) (rows_in rows.old)) tickets.now) }
-    ensures rows { OnOk result ((t : ℕ) → rows_in rows.new t ≡ some_changed tickets.now (hears_frame link reply) (rows_in rows.old) t) }
+    ensures notices { IfOk result (λ ns. ns.items ≡ flat_map (at_row (hears_to clock link reply) (rows_in rows.old)) tickets.now) }
+    ensures rows { OnOk result ((t : ℕ) → rows_in rows.new t ≡ some_changed tickets.now (hears_frame clock link reply) (rows_in rows.old) t) }
     ensures tickets { OnOk result (keys rows.new ≡ keys rows.old) }
 {
     let mut notices = Vec::new(alloc);
     let Some((last, others)) = tickets.split_last() else {
         return Ok(notices);
     };
-    hear_copies(alloc, rows, others, link, &reply, &mut notices)?;
-    hear_at(alloc, rows, *last, link, reply, &mut notices)?;
+    hear_copies(alloc, rows, others, clock, link, &reply, &mut notices)?;
+    hear_at(alloc, rows, *last, clock, link, reply, &mut notices)?;
     Ok(notices)
 }
 
@@ -245,19 +247,20 @@ fn hear_copies(
     alloc: Global,
     rows: &mut BTreeMap<u64, ConsumerRow>,
     tickets: &[u64],
+    clock: u64,
     link: u64,
     reply: &Received,
     notices: &mut Vec<Notice>,
 ) -> Result<(), NoMemory>
     requires { IsStrictlySortedBy nat_cmp tickets.now }
     ensures notices { OnOk result (notices.new.items ≡ notices.old.items
-        ++ flat_map (at_row (λ t m. word_to t m (word_of_frame link reply.now m)) (rows_in rows.old)) tickets.now) }
-    ensures rows { OnOk result ((t : ℕ) → rows_in rows.new t ≡ some_changed tickets.now (hears_frame link reply.now) (rows_in rows.old) t) }
+        ++ flat_map (at_row (hears_to clock link reply.now) (rows_in rows.old)) tickets.now) }
+    ensures rows { OnOk result ((t : ℕ) → rows_in rows.new t ≡ some_changed tickets.now (hears_frame clock link reply.now) (rows_in rows.old) t) }
     ensures tickets { OnOk result (keys rows.new ≡ keys rows.old) }
 {
     for ticket in tickets {
         let copy = reply.copy(alloc)?;
-        hear_at(alloc, rows, *ticket, link, copy, notices)?;
+        hear_at(alloc, rows, *ticket, clock, link, copy, notices)?;
     }
     Ok(())
 }
@@ -266,21 +269,22 @@ fn hear_at(
     alloc: Global,
     rows: &mut BTreeMap<u64, ConsumerRow>,
     ticket: u64,
+    clock: u64,
     link: u64,
     reply: Received,
     notices: &mut Vec<Notice>,
 ) -> Result<(), NoMemory>
-    ensures notices { OnOk result (notices.new.items ≡ notices.old.items ++ at_row (λ t m. word_to t m (word_of_frame link reply m))
+    ensures notices { OnOk result (notices.new.items ≡ notices.old.items ++ at_row (hears_to clock link reply)
         (rows_in rows.old) ticket) }
-    ensures rows { OnOk result ((t : ℕ) → rows_in rows.new t ≡ one_changed ticket (hears_frame link reply) (rows_in rows.old) t) }
+    ensures rows { OnOk result ((t : ℕ) → rows_in rows.new t ≡ one_changed ticket (hears_frame clock link reply) (rows_in rows.old) t) }
     ensures tickets { OnOk result (keys rows.new ≡ keys rows.old) }
 {
     let Some(row) = rows.get_mut(&ticket) else {
         return Ok(());
     };
-    let word = row.hear(alloc, link, reply)?;
+    let (word, is_copy_due) = row.hear(alloc, clock, link, reply)?;
     tell(notices, row, ticket, word)?;
-    Ok(())
+    add_some(notices, copy_notice(row, ticket, is_copy_due))
 }
 
 /// Each of these loses its subscription on a link.
@@ -439,9 +443,9 @@ pub fn poll_at(
     rows: &mut BTreeMap<u64, ConsumerRow>,
     ticket: u64,
     clock: u64,
-) -> Result<Option<(Effect, Option<Notice>)>, NoMemory>
+) -> Result<Option<(Effect, Vec<Notice>)>, NoMemory>
     ensures effect { IfOk result (λ r. option_map (λ x. shown x.0) r ≡ option_map (polled ticket) (rows_in rows.old ticket)) }
-    ensures due { IfOk result (λ r. flat_map (λ x. option_to_list x.1) (option_to_list r) ≡ polled_due clock ticket (rows_in rows.old ticket)) }
+    ensures due { IfOk result (λ r. flat_map (λ x. x.1.items) (option_to_list r) ≡ polled_due clock ticket (rows_in rows.old ticket)) }
     ensures rows { OnOk result ((t : ℕ) → rows_in rows.new t ≡ one_changed ticket (member_after (Polls clock)) (rows_in rows.old) t) }
     ensures tickets { OnOk result (keys rows.new ≡ keys rows.old) }
 {
@@ -449,7 +453,7 @@ pub fn poll_at(
         return Ok(None);
     };
     let effect = row.poll(alloc, ticket, clock)?;
-    Ok(Some((effect, due(row, ticket))))
+    Ok(Some((effect, goes_on(alloc, row, ticket)?)))
 }
 
 /// A flow of it is due: it is told so.
@@ -498,11 +502,12 @@ pub fn revive_at(
     alloc: Global,
     rows: &mut BTreeMap<u64, ConsumerRow>,
     ticket: u64,
+    clock: u64,
     link: u64,
     url: Option<Url>,
 ) -> Result<Vec<Notice>, NoMemory>
-    ensures notices { IfOk result (λ ns. ns.items ≡ revived_at link url ticket (rows_in rows.old ticket)) }
-    ensures rows { OnOk result ((t : ℕ) → rows_in rows.new t ≡ one_changed ticket (meaning.revived link url) (rows_in rows.old) t) }
+    ensures notices { IfOk result (λ ns. ns.items ≡ revived_at clock link url ticket (rows_in rows.old ticket)) }
+    ensures rows { OnOk result ((t : ℕ) → rows_in rows.new t ≡ one_changed ticket (meaning.revived clock link url) (rows_in rows.old) t) }
     ensures tickets { OnOk result (keys rows.new ≡ keys rows.old) }
 {
     let mut notices = Vec::new(alloc);
@@ -510,7 +515,7 @@ pub fn revive_at(
         return Ok(notices);
     };
     look_again(&row.seekers, &mut notices)?;
-    row.revive(link, url)?;
+    row.revive(clock, link, url)?;
     if let Some(notice) = due(row, ticket) {
         notices.push(notice)?;
     }
@@ -576,12 +581,12 @@ fn stop_waiting(seekers: &[Who], notices: &mut Vec<Notice>) -> Result<(), NoMemo
 }
 
 /// The client is stopped: each consumer ends.
-pub fn stop_all(rows: &mut BTreeMap<u64, ConsumerRow>)
-    ensures rows { (t : ℕ) → rows_in rows.new t ≡ option_map meaning.stopped (rows_in rows.old t) }
-    ensures tickets { keys rows.new ≡ keys rows.old }
+pub fn stop_all(rows: &mut BTreeMap<u64, ConsumerRow>) -> Result<(), NoMemory>
+    ensures rows { OnOk result ((t : ℕ) → rows_in rows.new t ≡ option_map meaning.stopped (rows_in rows.old t)) }
+    ensures tickets { OnOk result (keys rows.new ≡ keys rows.old) }
 {
-    rows.retain(|_, row| {
-        row.stop();
-        true
-    });
+    for (_, row) in rows.iter_mut() {
+        row.stop()?;
+    }
+    Ok(())
 }

@@ -2,7 +2,9 @@
 #![tactic(auto)]
 
 pub mod asks;
+mod copying;
 mod hearing;
+mod letters;
 pub mod listing;
 pub mod numbers;
 pub mod row;

@@ -2,10 +2,10 @@
 
 ghost use Rattle.std.specs.Prelude.{◌≡◌, [], ◌&&◌, ◌==◌, not, IfOk, OnOk, Some};
 ghost use Rattle.pulsar_calls.specs.Content.{shown};
-ghost use Rattle.pulsar_consumer.specs.Topic.{Asks, Ends, Hears, Loses, Polls, is_due as is_flow_due, is_ended, lives_on, resubscribes};
-ghost use Rattle.pulsar_consumer.specs.Frames.{frame_in};
-ghost use Rattle.pulsar_consumer_table.specs.Consumers.{ends_on, failed, flow_at, hears_frame, member_after, plain, polled, polled_item, polled_so, revived, seeks, sought, stopped, subscribed_on, unsought, who_of, word_if, word_of_frame};
+ghost use Rattle.pulsar_consumer.specs.Topic.{Asks, Ends, Loses, Polls, is_due as is_flow_due, is_ended, lives_on, resubscribes};
+ghost use Rattle.pulsar_consumer_table.specs.Consumers.{copy_of_frame, ends_on, failed, flow_at, hears_frame, hears_message, is_copy_due, member_after, polled, polled_item, polled_so, revived, seeks, sought, stopped, subscribed_on, unsought, who_of, word_if, word_of_frame};
 ghost use Rattle.pulsar_consumer_table.specs.KeptConsumers.{is_known, member_in};
+ghost use Rattle.pulsar_consumer_table.specs.Notices.{copies_of};
 
 use pulsar_addresses::content::Refusal;
 use pulsar_calls::act::{Who, Word};
@@ -17,7 +17,6 @@ use pulsar_exchange::content::Received;
 use pulsar_frame::items::Unread as Item;
 use pulsar_incoming::message::MessageData;
 use pulsar_incoming::polled::{Ending, Polled};
-use pulsar_incoming::settings::Settings;
 use pulsar_incoming::unread::Unread;
 use pulsar_wire::bodies;
 use pulsar_wire::error::NoMemory;
@@ -48,16 +47,18 @@ impl Drop for ConsumerRow {
 }
 
 impl ConsumerRow {
-    /// One that was made, with a subscription on a link to this address.
+    /// One that was made at this moment, with a subscription on a link to this address.
     pub fn new(
         alloc: Global,
         mut consumer: TopicConsumer,
+        clock: u64,
         link: u64,
         url: Option<Url>,
     ) -> Result<ConsumerRow, NoMemory>
-        ensures { IfOk result (λ r. member_in r ≡ subscribed_on link url (record { seen = consumer; seekers = [] })) }
+        ensures { IfOk result (λ r. member_in r ≡ subscribed_on clock link url (record { seen = consumer; seekers = [] })) }
     {
         if let Some(url) = url {
+            consumer.tell(clock);
             consumer.subscribe(link, url)?;
         }
         Ok(ConsumerRow {
@@ -76,6 +77,17 @@ impl ConsumerRow {
         }
     }
 
+    /// Who copies its dead letters.
+    pub fn copies(&self, ticket: u64) -> Who
+        ensures { result ≡ copies_of ticket (member_in self.now) }
+    {
+        Who::Copy {
+            number: self.consumer.inner.number(),
+            ticket,
+            key: self.consumer.inner.key(),
+        }
+    }
+
     /// It has not ended, and has this number.
     pub fn has_number(&self, number: u64) -> bool
         ensures { result ≡ (not (is_ended (member_in self.now).seen) && ((member_in self.now).seen.number == number)) }
@@ -91,43 +103,58 @@ impl ConsumerRow {
         self.consumer.inner.number() == number && is_there
     }
 
-    /// A frame for its number comes on a link: what its plan is told.
+    /// A frame for its number comes on a link: what its plan is told, and whether a copy of a dead letter is due by it.
     pub fn hear(
         &mut self,
         alloc: Global,
+        clock: u64,
         link: u64,
         reply: Received,
-    ) -> Result<Option<Word>, NoMemory>
-        ensures word { IfOk result (λ w. w ≡ word_of_frame link reply (member_in self.old)) }
-        ensures after { OnOk result (member_in self.new ≡ hears_frame link reply (member_in self.old)) }
+    ) -> Result<(Option<Word>, bool), NoMemory>
+        ensures word { IfOk result (λ w. w.0 ≡ word_of_frame clock link reply (member_in self.old)) }
+        ensures copy { IfOk result (λ w. w.1 ≡ copy_of_frame clock link reply (member_in self.old)) }
+        ensures after { OnOk result (member_in self.new ≡ hears_frame clock link reply (member_in self.old)) }
     {
         if reply.is(bodies::MESSAGE) {
-            return self.hear_message(alloc, link, reply);
+            return self.hear_message(alloc, clock, link, reply);
         }
         if reply.is(bodies::REACHED_END_OF_TOPIC) {
-            return Ok(self.end_topic(link));
+            return Ok((self.end_topic(link), false));
         }
         if reply.is(bodies::CLOSE_CONSUMER) {
-            return Ok(self.lose(link));
+            return Ok((self.lose(link), false));
         }
-        Ok(None)
+        Ok((None, false))
     }
 
-    /// A message for it comes on a link: a flow may be due.
+    /// A message for it comes on a link: a flow may be due, and a copy.
     fn hear_message(
         &mut self,
         alloc: Global,
+        clock: u64,
         link: u64,
         reply: Received,
-    ) -> Result<Option<Word>, NoMemory>
-        ensures word { IfOk result (λ w. w ≡ word_if
-            (lives_on link (member_in self.old).seen && is_flow_due (member_after (Hears link (frame_in reply)) (member_in self.old)).seen) Word.Due) }
-        ensures after { OnOk result (member_in self.new ≡ member_after (Hears link (frame_in reply)) (member_in self.old)) }
+    ) -> Result<(Option<Word>, bool), NoMemory>
+        ensures word { IfOk result (λ w. w.0 ≡ word_if
+            (lives_on link (member_in self.old).seen && is_flow_due (hears_message clock link reply (member_in self.old)).seen) Word.Due) }
+        ensures copy { IfOk result (λ w. w.1
+            ≡ (lives_on link (member_in self.old).seen && is_copy_due (hears_message clock link reply (member_in self.old)).seen)) }
+        ensures after { OnOk result (member_in self.new ≡ hears_message clock link reply (member_in self.old)) }
     {
-        let lives = self.consumer.inner.lives_on(link);
+        if !self.consumer.inner.lives_on(link) {
+            return Ok((None, false));
+        }
         let frame = Frame::received(alloc, reply)?;
+        self.consumer.inner.tell(clock);
         self.consumer.inner.hear(link, frame)?;
-        Ok(word_if(lives && self.consumer.inner.is_due(), Word::Due))
+        Ok((self.due(), self.is_copy_due()))
+    }
+
+    /// A copy of a dead letter is to be sent.
+    pub fn is_copy_due(&self) -> bool
+        ensures { result ≡ is_copy_due (member_in self.now).seen }
+    {
+        self.consumer.inner.is_copy_due()
     }
 
     /// Its topic ends, where its subscription on this link is live.
@@ -203,11 +230,12 @@ impl ConsumerRow {
         }
     }
 
-    /// It was subscribed again, on a link to this address. Those who wait for its link look again.
-    pub fn revive(&mut self, link: u64, url: Option<Url>) -> Result<(), NoMemory>
-        ensures { OnOk result (member_in self.new ≡ revived link url (member_in self.old)) }
+    /// It was subscribed again at this moment, on a link to this address. Those who wait for its link look again.
+    pub fn revive(&mut self, clock: u64, link: u64, url: Option<Url>) -> Result<(), NoMemory>
+        ensures { OnOk result (member_in self.new ≡ revived clock link url (member_in self.old)) }
     {
         if let Some(url) = url {
+            self.consumer.inner.tell(clock);
             self.consumer.inner.subscribe(link, url)?;
         }
         self.forget_seekers();
@@ -224,11 +252,13 @@ impl ConsumerRow {
     }
 
     /// The client is stopped.
-    pub fn stop(&mut self)
-        ensures { member_in self.new ≡ stopped (member_in self.old) }
+    pub fn stop(&mut self) -> Result<(), NoMemory>
+        ensures { OnOk result (member_in self.new ≡ stopped (member_in self.old)) }
     {
         self.consumer.inner.end(Ending::Stopped);
+        self.consumer.inner.stop()?;
         self.forget_seekers();
+        Ok(())
     }
 
     /// Nobody waits for its link any longer.
@@ -246,16 +276,6 @@ impl ConsumerRow {
         let found = self.consumer.inner.poll(clock)?;
         effect_of(alloc, ticket, self.consumer.inner.topic(), found)
     }
-}
-
-/// No dead letters are asked for, and no message is asked for again.
-pub fn plain(alloc: Global, config: Settings) -> Result<Settings, NoMemory>
-    ensures { IfOk result (λ s. s ≡ plain config) }
-{
-    let mut config = config.get().copy()?;
-    config.unacked_message_redelivery_delay = None;
-    config.dead_letter_policy = None;
-    Settings::new(alloc, config)
 }
 
 /// A word, where that is so.

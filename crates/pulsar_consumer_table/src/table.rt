@@ -44,7 +44,7 @@ pub struct Consumers {
     /// The tickets of those that live on a link.
     pub heard: Listing,
     // a call ran out of memory
-    failed: bool,
+    pub(crate) failed: bool,
     ghost ordered: { failed ≡ false → IsOrdered nat_cmp rows } by { Prim.hlevel props },
     ghost listed: { failed ≡ false → AreListed listing (rows_in rows) },
     ghost lives: { failed ≡ false → AreHeard heard (rows_in rows) },
@@ -120,10 +120,10 @@ impl Consumers {
         &mut self,
         ticket: u64,
         clock: u64,
-    ) -> Result<Option<(Effect, Option<Notice>)>, NoMemory>
+    ) -> Result<Option<(Effect, Vec<Notice>)>, NoMemory>
         ensures effect { IfOk result (λ r. option_map (λ x. shown x.0) r
             ≡ option_map (polled ticket) ((consumers_in self.old.rows self.old.numbers).rows ticket)) }
-        ensures due { IfOk result (λ r. flat_map (λ x. option_to_list x.1) (option_to_list r)
+        ensures due { IfOk result (λ r. flat_map (λ x. x.1.items) (option_to_list r)
             ≡ polled_due clock ticket ((consumers_in self.old.rows self.old.numbers).rows ticket)) }
         ensures after { OnOk result (consumers_in self.new.rows self.new.numbers
             ≡ changed ticket (member_after (Polls clock)) (consumers_in self.old.rows self.old.numbers)) }
@@ -164,14 +164,19 @@ impl Consumers {
         }
     }
 
-    /// Consumers hear what comes to a link: what they are told.
-    pub fn hear(&mut self, link: u64, arrival: Arrival) -> Result<Vec<Notice>, NoMemory>
-        ensures notices { IfOk result (λ ns. ns.items ≡ over_rows (heard_at link arrival) (consumers_in self.old.rows self.old.numbers)) }
+    /// Consumers hear what comes to a link at this moment: what they are told.
+    pub fn hear(
+        &mut self,
+        clock: u64,
+        link: u64,
+        arrival: Arrival,
+    ) -> Result<Vec<Notice>, NoMemory>
+        ensures notices { IfOk result (λ ns. ns.items ≡ over_rows (heard_at clock link arrival) (consumers_in self.old.rows self.old.numbers)) }
         ensures after { OnOk result (consumers_in self.new.rows self.new.numbers
-            ≡ all_changed (hears link arrival) (consumers_in self.old.rows self.old.numbers)) }
+            ≡ all_changed (hears clock link arrival) (consumers_in self.old.rows self.old.numbers)) }
     {
         match arrival {
-            Arrival::Gives { consumer, reply } => self.hear_frame(link, consumer, reply),
+            Arrival::Gives { consumer, reply } => self.hear_frame(clock, link, consumer, reply),
             Arrival::Nothing
             | Arrival::Readied
             | Arrival::Settles
@@ -183,20 +188,22 @@ impl Consumers {
     /// The consumers of this number on the link hear a frame for them.
     fn hear_frame(
         &mut self,
+        clock: u64,
         link: u64,
         number: u64,
         reply: Received,
     ) -> Result<Vec<Notice>, NoMemory>
-        ensures notices { IfOk result (λ ns. ns.items ≡ over_rows (heard_at link (Arrival.Gives number reply)) (consumers_in self.old.rows self.old.numbers)) }
+        ensures notices { IfOk result (λ ns. ns.items
+            ≡ over_rows (heard_at clock link (Arrival.Gives number reply)) (consumers_in self.old.rows self.old.numbers)) }
         ensures after { OnOk result (consumers_in self.new.rows self.new.numbers
-            ≡ all_changed (hears link (Arrival.Gives number reply)) (consumers_in self.old.rows self.old.numbers)) }
+            ≡ all_changed (hears clock link (Arrival.Gives number reply)) (consumers_in self.old.rows self.old.numbers)) }
     {
         if self.failed {
             return Err(NoMemory);
         }
         self.failed = true;
         let tickets = living(self.alloc, &self.rows, &self.listing, number, link)?;
-        let notices = hear_all(self.alloc, &mut self.rows, &tickets, link, reply)?;
+        let notices = hear_all(self.alloc, &mut self.rows, &tickets, clock, link, reply)?;
         prune_all(&mut self.listing, &self.rows, number, &tickets)?;
         leave_all(&mut self.heard, &self.rows, link, &tickets)?;
         self.failed = false;
@@ -320,23 +327,24 @@ impl Consumers {
         }
     }
 
-    /// A consumer was subscribed again, on a link to this address: who is told of it.
+    /// A consumer was subscribed again at this moment, on a link to this address: who is told of it.
     pub(crate) fn revive(
         &mut self,
         ticket: u64,
+        clock: u64,
         link: u64,
         url: Option<Url>,
     ) -> Result<Vec<Notice>, NoMemory>
-        ensures notices { IfOk result (λ ns. ns.items ≡ revived_at link url ticket ((consumers_in self.old.rows self.old.numbers).rows ticket)) }
+        ensures notices { IfOk result (λ ns. ns.items ≡ revived_at clock link url ticket ((consumers_in self.old.rows self.old.numbers).rows ticket)) }
         ensures after { OnOk result (consumers_in self.new.rows self.new.numbers
-            ≡ changed ticket (meaning.revived link url) (consumers_in self.old.rows self.old.numbers)) }
+            ≡ changed ticket (meaning.revived clock link url) (consumers_in self.old.rows self.old.numbers)) }
     {
         if self.failed {
             return Err(NoMemory);
         }
         self.failed = true;
         let old_link = link_of(&self.rows, ticket);
-        let notices = revive_at(self.alloc, &mut self.rows, ticket, link, url)?;
+        let notices = revive_at(self.alloc, &mut self.rows, ticket, clock, link, url)?;
         let new_link = link_of(&self.rows, ticket);
         relist(&mut self.heard, self.alloc, ticket, old_link, new_link)?;
         self.failed = false;
@@ -374,7 +382,7 @@ impl Consumers {
         }
         self.failed = true;
         stop_seekers(&self.rows, notices)?;
-        stop_all(&mut self.rows);
+        stop_all(&mut self.rows)?;
         self.listing = BTreeMap::new(self.alloc);
         self.heard = BTreeMap::new(self.alloc);
         self.failed = false;

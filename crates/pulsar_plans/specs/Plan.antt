@@ -14,7 +14,6 @@ use Rattle.pulsar_exchange.specs.Request.{Subscribed, answer_of, is_answered, re
 use Rattle.pulsar_calls.specs.declared.act.Action.{Action}
 use Rattle.pulsar_calls.specs.declared.act.Action.TheVariants.{OfTopic, OfMulti, Get, Ask, Wait, Number, Hold, Shut, TakeNumber, OfConsumer, Tell, TellAll, StopAll, Rest}
 use Rattle.pulsar_calls.specs.declared.act.TopicAsk.TheVariants.{TakeTurn, PassTurn, Draw, Recall, Remake, Find, Store, Flush, TakeBatch}
-use Rattle.pulsar_calls.specs.declared.act.ConsumerAsk.{ConsumerAsk}
 use Rattle.pulsar_calls.specs.declared.act.ConsumerAsk.TheVariants as consumer_ask
 use Rattle.pulsar_calls.specs.declared.act.Makes.{Makes}
 use Rattle.pulsar_calls.specs.declared.act.Makes.TheVariants.{Nothing, Client, Consumer, RawConsumer, Producer, MultiProducer}
@@ -39,9 +38,9 @@ use Rattle.pulsar_calls.specs.declared.act.Word.TheVariants as word
 use Rattle.pulsar_plans.specs.declared.plan.Plan.{Plan}
 use Rattle.pulsar_plans.specs.declared.plan.At.{At as Stage}
 use Rattle.pulsar_plans.specs.declared.plan.At.TheVariants as at
-use Rattle.pulsar_plans.specs.declared.copies.Copying.{Copying as Copies}
-use Rattle.pulsar_plans.specs.declared.copies.Copying.TheVariants as copying
 use Rattle.pulsar_plans.specs.declared.plan.Plan.TheVariants.{Building, Getting, Asking, Awaiting, Searching, Producing, Sending, Reporting, Storing, Stored, Batching, Leaving, Gathering, Shutting, Visiting, MultiSending, MultiClosing, Subscribing, Serving, Copying, Acknowledging, Departing, Stopping}
+use Rattle.pulsar_plans.specs.declared.copying.CopyState.{CopyState}
+use Rattle.pulsar_plans.specs.declared.copying.CopyState.TheVariants as copy
 use Rattle.pulsar_plans.specs.declared.service.Service.{Service}
 use Rattle.pulsar_plans.specs.declared.service.Service.TheVariants as service
 use Rattle.pulsar_plans.specs.declared.states.Resubscribing.{Resubscribing}
@@ -65,7 +64,6 @@ use Rattle.pulsar_searches.specs.declared.turn.Action.TheVariants as wish
 use Rattle.pulsar_searches.specs.declared.turn.SearchOutcome.{SearchOutcome as News}
 use Rattle.pulsar_searches.specs.declared.turn.SearchOutcome.TheVariants as news
 use Rattle.pulsar_searches.specs.declared.turn.Ways.{Ways}
-use Rattle.pulsar_messages.specs.Content.{ProducerMessageValues}
 use Rattle.pulsar_outgoing.specs.Errors.{in_producer}
 use Rattle.pulsar_wire.specs.declared.error.Reason.TheVariants as reason
 use Rattle.pulsar_wire.specs.Row.{Values, spelling}
@@ -542,7 +540,7 @@ news_by word.Over = None
 news_by (word.Asks link request) = None
 news_by word.NoAsk = None
 news_by word.CopyDue = None
-news_by (word.Letter message) = None
+news_by (word.Letter m) = None
 news_by word.NoLetter = None
 
 abbrev pub consumer_news_of : Outcome → Option ConsumerNews
@@ -582,12 +580,17 @@ takes_flow w n = serves w n service.Taking (OfConsumer consumer_ask.TakeFlow)
 abbrev pub closes_on : Ways → (number link : ℕ) → PlanTransition
 closes_on w n link = serves w n service.Closing (Ask link (words.CloseConsumerUnawaited n))
 
+-- What is due is asked for again, and nobody waits for what becomes of that.
+abbrev pub redelivers : Ways → (number link : ℕ) → Words → PlanTransition
+redelivers w n link request = serves w n service.Redelivering (Ask link request)
+
 -- what is told to one that rests
 abbrev pub resting_hears : Ways → (number : ℕ) → Word → PlanTransition
 resting_hears w n word.Due = takes_flow w n
 resting_hears w n word.Lost = serves w n service.Recalling (OfConsumer consumer_ask.Recall)
 resting_hears w n (word.TopicEnded link) = closes_on w n link
 resting_hears w n word.Over = is_over
+resting_hears w n (word.Asks link request) = redelivers w n link request
 resting_hears w n (word.Numbered m) = stays_so w n service.Resting
 resting_hears w n word.InUse = stays_so w n service.Resting
 resting_hears w n word.Again = stays_so w n service.Resting
@@ -596,10 +599,9 @@ resting_hears w n (word.Flow link permits) = stays_so w n service.Resting
 resting_hears w n word.NoFlow = stays_so w n service.Resting
 resting_hears w n (word.Recalled c) = stays_so w n service.Resting
 resting_hears w n word.Lives = stays_so w n service.Resting
-resting_hears w n (word.Asks link request) = serves w n service.Asking (Ask link request)
 resting_hears w n word.NoAsk = stays_so w n service.Resting
 resting_hears w n word.CopyDue = stays_so w n service.Resting
-resting_hears w n (word.Letter message) = stays_so w n service.Resting
+resting_hears w n (word.Letter m) = stays_so w n service.Resting
 resting_hears w n word.NoLetter = stays_so w n service.Resting
 
 abbrev pub in_resting : Ways → (number : ℕ) → Outcome → PlanTransition
@@ -646,54 +648,65 @@ told_service w n (service.Resuming s) o = in_resuming w n s o
 told_service w n (service.Reviving link) o = in_reviving w n link o
 told_service w n service.Failing o = is_over
 told_service w n service.Closing o = is_over
+told_service w n service.Redelivering o = stays_so w n service.Resting
 
 -- the stop of the client ends it
 abbrev pub told_serving : Ways → (number : ℕ) → Service → Outcome → PlanTransition
 told_serving w n s o = if overrides o then is_over else told_service w n s o
 
--- THE COPIES of its dead letters are sent to another topic by the client's own producer of many topics, one after the other, each behind what
--- becomes of the one before. What is not waited for changes nothing.
+-- THE COPIES OF ITS DEAD LETTERS are sent by another plan, which begins with the consumer, by the client's own producer of many topics: one
+-- after the other. Once one has its receipt, or has failed, the consumer is told so; then the entry is acknowledged, where a subscription is
+-- live. What it does not wait for changes nothing.
 
-abbrev pub copies : Ways → (topic : List ℕ) → Copies → Action → PlanTransition
+abbrev pub copies : Ways → (topic : List ℕ) → CopyState → Action → PlanTransition
 copies w t s action = Stays (Copying w t s) action
 
-abbrev pub copies_so : Ways → (topic : List ℕ) → Copies → PlanTransition
-copies_so w t s = copies w t s Rest
+abbrev pub copies_rest : Ways → (topic : List ℕ) → PlanTransition
+copies_rest w t = copies w t copy.Resting Rest
 
--- the consumer is told what became of one, and whether its message is to be acknowledged is heard then
-abbrev pub copy_ends : Ways → (topic : List ℕ) → ConsumerAsk → PlanTransition
-copy_ends w t ask = copies w t copying.Telling (OfConsumer ask)
+abbrev pub copy_settles : Ways → (topic : List ℕ) → (is_sent : Bool) → PlanTransition
+copy_settles w t is_sent = copies w t copy.Settling (OfConsumer (if is_sent then consumer_ask.CopySent else consumer_ask.CopyFailed))
 
-abbrev pub sends_copy : Ways → (topic : List ℕ) → Errand → produce.Sent → PlanTransition
-sends_copy w t e (Stays s d) = copies w t (copying.Sending e s) (action_of d)
-sends_copy w t e (Gives (Ok r)) = copy_ends w t consumer_ask.CopySent
-sends_copy w t e (Gives (Err f)) = copy_ends w t consumer_ask.CopyFailed
+abbrev pub copy_sends : Ways → (topic : List ℕ) → Errand → produce.Sent → PlanTransition
+copy_sends w t e (Stays s d) = copies w t (copy.Sending e s) (action_of d)
+copy_sends w t e (Gives (Ok r)) = copy_settles w t true
+copy_sends w t e (Gives (Err f)) = copy_settles w t false
 
--- the client's own producer of many topics makes no batches
-abbrev pub hands_copy : Ways → (topic : List ℕ) → multi.Dispatches → PlanTransition
-hands_copy w t (Stays s d) = copies w t (copying.Handing s) (multi_action_of Own d)
-hands_copy w t (Gives (Ok (dispatch.Send e m))) = sends_copy w t e (produce.send_begins e m)
-hands_copy w t (Gives (Ok (dispatch.Store n e))) = copy_ends w t consumer_ask.CopyFailed
-hands_copy w t (Gives (Err f)) = copy_ends w t consumer_ask.CopyFailed
+-- The client's own producer makes no batches, so that it stores nothing.
+abbrev pub copy_dispatches : Ways → (topic : List ℕ) → Result Dispatch Failure → PlanTransition
+copy_dispatches w t (Ok (dispatch.Send e m)) = copy_sends w t e (produce.send_begins e m)
+copy_dispatches w t (Ok (dispatch.Store n e)) = copy_settles w t false
+copy_dispatches w t (Err f) = copy_settles w t false
 
-abbrev pub told_copier : Ways → (topic : List ℕ) → Copies → Outcome → PlanTransition
-told_copier w t copying.Resting (Hears word.CopyDue) = copies w t copying.Taking (OfConsumer consumer_ask.TakeCopy)
-told_copier w t copying.Resting o = copies_so w t copying.Resting
-told_copier w t copying.Taking (Hears (word.Letter m)) = hands_copy w t (multi.send_begins t m)
-told_copier w t copying.Taking (Hears word.NoLetter) = copies_so w t copying.Resting
-told_copier w t copying.Taking o = copies_so w t copying.Taking
-told_copier w t (copying.Handing s) (Hears x) = copies_so w t (copying.Handing s)
-told_copier w t (copying.Handing s) o = hands_copy w t (multi.multi_send_told w s (multi_news_of o))
-told_copier w t (copying.Sending e s) (Hears x) = copies_so w t (copying.Sending e s)
-told_copier w t (copying.Sending e s) o = sends_copy w t e (produce.send_told w e s (news_of o))
-told_copier w t copying.Telling (Hears (word.Asks link request)) = copies w t copying.Asking (Ask link request)
-told_copier w t copying.Telling (Hears word.NoAsk) = copies_so w t copying.Resting
-told_copier w t copying.Telling o = copies_so w t copying.Telling
-told_copier w t copying.Asking o = copies_so w t copying.Resting
+abbrev pub copy_hands : Ways → (topic : List ℕ) → multi.Dispatches → PlanTransition
+copy_hands w t (Stays s d) = copies w t (copy.Handing s) (multi_action_of Own d)
+copy_hands w t (Gives given) = copy_dispatches w t given
+
+abbrev pub copy_in_resting : Ways → (topic : List ℕ) → Outcome → PlanTransition
+copy_in_resting w t (Hears word.CopyDue) = copies w t copy.Taking (OfConsumer consumer_ask.TakeCopy)
+copy_in_resting w t o = copies_rest w t
+
+abbrev pub copy_in_taking : Ways → (topic : List ℕ) → Outcome → PlanTransition
+copy_in_taking w t (Hears (word.Letter m)) = copy_hands w t (multi.send_begins t m)
+copy_in_taking w t (Hears word.NoLetter) = copies_rest w t
+copy_in_taking w t o = copies w t copy.Taking Rest
+
+abbrev pub copy_in_settling : Ways → (topic : List ℕ) → Outcome → PlanTransition
+copy_in_settling w t (Hears (word.Asks link request)) = copies w t copy.Asking (Ask link request)
+copy_in_settling w t (Hears word.NoAsk) = copies_rest w t
+copy_in_settling w t o = copies w t copy.Settling Rest
+
+abbrev pub told_copy : Ways → (topic : List ℕ) → CopyState → Outcome → PlanTransition
+told_copy w t copy.Resting o = copy_in_resting w t o
+told_copy w t copy.Taking o = copy_in_taking w t o
+told_copy w t (copy.Handing s) o = copy_hands w t (multi.multi_send_told w s (multi_news_of o))
+told_copy w t (copy.Sending e s) o = copy_sends w t e (produce.send_told w e s (news_of o))
+told_copy w t copy.Settling o = copy_in_settling w t o
+told_copy w t copy.Asking o = copies_rest w t
 
 -- the stop of the client ends it
-abbrev pub told_copying : Ways → (topic : List ℕ) → Copies → Outcome → PlanTransition
-told_copying w t s o = if overrides o then is_over else told_copier w t s o
+abbrev pub told_copying : Ways → (topic : List ℕ) → CopyState → Outcome → PlanTransition
+told_copying w t s o = if overrides o then is_over else told_copy w t s o
 
 -- AN ACKNOWLEDGEMENT is asked for where a subscription is live, and nobody waits for what becomes of it.
 
@@ -734,7 +747,7 @@ begins (procedure.MultiSend ways m share topic message) = multi_sends ways m sha
 begins (procedure.MultiClose m topic) = multi_closes m (multi.close_begins topic)
 begins (procedure.Subscribe ways order) = subscribes ways order (consume.build_begins ways order)
 begins (procedure.Serve ways number) = stays_so ways number service.Resting
-begins (procedure.Copy ways topic) = copies_so ways topic copying.Resting
+begins (procedure.Copy ways topic) = copies_rest ways topic
 begins (procedure.Acknowledge link request) = acknowledges link request
 begins (procedure.Leave consumer number) = departs consumer number
 begins (procedure.Refuse r) = Gives (verdict Nothing (Failed (failure_of r)))

@@ -1,13 +1,10 @@
-//! The plan that sends the copies of dead letters of a consumer to another topic, by the client's own producer of many topics. Each waits for
-//! what becomes of the one before.
+//! The plan that sends the copies of a consumer's dead letters, one after the other, by the client's own producer of many topics.
 
-ghost use Rattle.std.specs.Prelude.{◌≡◌, IfOk};
+ghost use Rattle.std.specs.Prelude.{◌≡◌, IfOk, if◌then◌else◌};
+ghost use Rattle.pulsar_producer.specs.MultiPlans as multi_meaning;
 ghost use Rattle.pulsar_producer.specs.Plans as meaning;
-ghost use Rattle.pulsar_plans.specs.Plan.{copies, copies_so, copy_ends, hands_copy, sends_copy, told_copier, told_copying};
-ghost use Rattle.pulsar_plans.specs.declared.copies.Copying.TheVariants.{Handing as InHanding, Resting as InResting, Sending as InSending, Taking as InTaking, Telling as InTelling};
-ghost use Rattle.pulsar_producer.specs.MultiPlans as multi;
+ghost use Rattle.pulsar_plans.specs.Plan.{copies, copies_rest, copy_dispatches, copy_hands, copy_in_resting, copy_in_settling, copy_in_taking, copy_sends, copy_settles, multi_news_of, news_of, told_copy, told_copying};
 
-use crate::copies::Copying;
 use crate::multi::{multi_action_of, multi_news_of};
 use crate::plan::{Plan, PlanTransition, overrides};
 use crate::producing::{action_of, news_of};
@@ -15,8 +12,7 @@ use crate::serving::over;
 use crate::states::{MultiState, SendState};
 use pulsar_addresses::content::{Refusal, Text};
 use pulsar_calls::act::{Action, ConsumerAsk, Outcome, Word};
-use pulsar_outgoing::content::Outgoing;
-use pulsar_outgoing::multi_topic::{Dispatch, Multi, UserMessage};
+use pulsar_outgoing::multi_topic::{Dispatch, Multi};
 use pulsar_outgoing::orders::Errand;
 use pulsar_producer::multi_topic::sending::{self as handing, Dispatches};
 use pulsar_producer::sending::{self, Sent};
@@ -25,11 +21,28 @@ use pulsar_searches::turn::Ways;
 use pulsar_wire::error::NoMemory;
 use std::alloc::Global;
 
-/// It rests until a copy is due.
+/// Where the copies of a consumer's dead letters stand.
+#[derive(Drop)]
+pub enum CopyState {
+    /// No copy is due.
+    Resting,
+    /// It takes the copy that is due.
+    Taking,
+    /// It has not handed it on to a topic producer.
+    Handing(MultiState),
+    /// It sends it.
+    Sending { errand: Errand, sending: SendState },
+    /// It tells the consumer what became of it.
+    Settling,
+    /// It has asked for the acknowledgement.
+    Asking,
+}
+
+/// It rests.
 pub fn begins(ways: Ways, topic: Text) -> PlanTransition
-    ensures { result ≡ copies_so ways topic InResting }
+    ensures { result ≡ copies_rest ways topic }
 {
-    rests(ways, topic, Copying::Resting)
+    stays(ways, topic, CopyState::Resting, Action::Rest)
 }
 
 /// What an outcome makes of it. The stop of the client ends it.
@@ -37,15 +50,15 @@ pub fn told(
     alloc: Global,
     ways: Ways,
     topic: Text,
-    copying: Copying,
+    state: CopyState,
     outcome: Outcome,
 ) -> Result<PlanTransition, NoMemory>
-    ensures { IfOk result (λ turn. turn ≡ told_copying ways topic copying outcome) }
+    ensures { IfOk result (λ turn. turn ≡ told_copying ways topic state outcome) }
 {
     if overrides(&outcome) {
         over(alloc)
     } else {
-        goes_on(alloc, ways, topic, copying, outcome)
+        goes_on(alloc, ways, topic, state, outcome)
     }
 }
 
@@ -53,84 +66,69 @@ fn goes_on(
     alloc: Global,
     ways: Ways,
     topic: Text,
-    copying: Copying,
+    state: CopyState,
     outcome: Outcome,
 ) -> Result<PlanTransition, NoMemory>
-    ensures { IfOk result (λ turn. turn ≡ told_copier ways topic copying outcome) }
+    ensures { IfOk result (λ turn. turn ≡ told_copy ways topic state outcome) }
 {
-    match copying {
-        Copying::Resting => Ok(in_resting(ways, topic, outcome)),
-        Copying::Taking => in_taking(alloc, ways, topic, outcome),
-        Copying::Handing(sending) => in_handing(alloc, ways, topic, sending, outcome),
-        Copying::Sending { errand, sending } => {
+    match state {
+        CopyState::Resting => Ok(in_resting(ways, topic, outcome)),
+        CopyState::Taking => in_taking(alloc, ways, topic, outcome),
+        CopyState::Handing(handing) => in_handing(alloc, ways, topic, handing, outcome),
+        CopyState::Sending { errand, sending } => {
             in_sending(alloc, ways, topic, errand, sending, outcome)
         }
-        Copying::Telling => Ok(in_telling(ways, topic, outcome)),
-        Copying::Asking => Ok(rests(ways, topic, Copying::Resting)),
+        CopyState::Settling => Ok(in_settling(ways, topic, outcome)),
+        CopyState::Asking => Ok(begins(ways, topic)),
     }
 }
 
-/// A copy is due: it is taken.
+/// A copy is due.
 fn in_resting(ways: Ways, topic: Text, outcome: Outcome) -> PlanTransition
-    ensures { result ≡ told_copier ways topic InResting outcome }
+    ensures { result ≡ copy_in_resting ways topic outcome }
 {
     match outcome {
         Outcome::Word(Word::CopyDue) => stays(
             ways,
             topic,
-            Copying::Taking,
+            CopyState::Taking,
             Action::OfConsumer(ConsumerAsk::TakeCopy),
         ),
-        _ => rests(ways, topic, Copying::Resting),
+        _ => begins(ways, topic),
     }
 }
 
-/// The copy that was taken goes to the producer of its topic.
+/// The copy is to be sent.
 fn in_taking(
     alloc: Global,
     ways: Ways,
     topic: Text,
     outcome: Outcome,
 ) -> Result<PlanTransition, NoMemory>
-    ensures { IfOk result (λ turn. turn ≡ told_copier ways topic InTaking outcome) }
+    ensures { IfOk result (λ turn. turn ≡ copy_in_taking ways topic outcome) }
 {
     match outcome {
-        Outcome::Word(Word::Letter(message)) => takes(alloc, ways, topic, message),
-        Outcome::Word(Word::NoLetter) => Ok(rests(ways, topic, Copying::Resting)),
-        _ => Ok(rests(ways, topic, Copying::Taking)),
+        Outcome::Word(Word::Letter(message)) => {
+            let step = handing::begins(topic.copy()?, message);
+            hands(alloc, ways, topic, step)
+        }
+        Outcome::Word(Word::NoLetter) => Ok(begins(ways, topic)),
+        _ => Ok(stays(ways, topic, CopyState::Taking, Action::Rest)),
     }
 }
 
-fn takes(
-    alloc: Global,
-    ways: Ways,
-    topic: Text,
-    message: UserMessage,
-) -> Result<PlanTransition, NoMemory>
-    ensures { IfOk result (λ turn. turn ≡ hands_copy ways topic (multi.send_begins topic message)) }
-{
-    let step = handing::begins(topic.copy()?, message);
-    hands(alloc, ways, topic, step)
-}
-
-/// What an outcome makes of that. What is told of consumers is no news to it.
 fn in_handing(
     alloc: Global,
     ways: Ways,
     topic: Text,
-    sending: MultiState,
+    state: MultiState,
     outcome: Outcome,
 ) -> Result<PlanTransition, NoMemory>
-    ensures { IfOk result (λ turn. turn ≡ told_copier ways topic (InHanding sending) outcome) }
+    ensures { IfOk result (λ turn. turn ≡ copy_hands ways topic (multi_meaning.multi_send_told ways state (multi_news_of outcome))) }
 {
-    match outcome {
-        Outcome::Word(_) => Ok(rests(ways, topic, Copying::Handing(sending))),
-        outcome => {
-            let news = multi_news_of(alloc, outcome)?;
-            let step = handing::told(alloc, &ways, sending.into_inner(), news)?;
-            hands(alloc, ways, topic, step)
-        }
-    }
+    let news = multi_news_of(alloc, outcome)?;
+    let step = handing::told(alloc, &ways, state.into_inner(), news)?;
+    hands(alloc, ways, topic, step)
 }
 
 /// It goes on, or the message is handed on.
@@ -140,70 +138,51 @@ fn hands(
     topic: Text,
     step: Dispatches,
 ) -> Result<PlanTransition, NoMemory>
-    ensures { IfOk result (λ turn. turn ≡ hands_copy ways topic step) }
+    ensures { IfOk result (λ turn. turn ≡ copy_hands ways topic step) }
 {
     match step {
         Transition::Stays(sending, deed) => {
-            let sending = MultiState::new(alloc, sending)?;
+            let state = MultiState::new(alloc, sending)?;
             let action = multi_action_of(alloc, Multi::Own, deed)?;
-            Ok(stays(ways, topic, Copying::Handing(sending), action))
+            Ok(stays(ways, topic, CopyState::Handing(state), action))
         }
         Transition::Gives(given) => dispatches(alloc, ways, topic, given),
     }
 }
 
-/// The message is sent by itself, or it is refused. The client's own producer of many topics makes no batches.
+/// The client's own producer makes no batches, so that it stores nothing.
 fn dispatches(
     alloc: Global,
     ways: Ways,
     topic: Text,
     given: Result<Dispatch, Refusal>,
 ) -> Result<PlanTransition, NoMemory>
-    ensures { IfOk result (λ turn. turn ≡ hands_copy ways topic (Transition.Gives given)) }
+    ensures { IfOk result (λ turn. turn ≡ copy_dispatches ways topic given) }
 {
     match given {
-        Ok(Dispatch::Send { errand, message }) => begins_sending(
-            alloc, ways, topic, errand, message,
-        ),
-        Ok(Dispatch::Store { .. }) | Err(_) => Ok(ends(ways, topic, ConsumerAsk::CopyFailed)),
+        Ok(Dispatch::Send { errand, message }) => {
+            sends(alloc, ways, topic, errand, sending::begins(errand, message))
+        }
+        Ok(Dispatch::Store { .. }) | Err(_) => Ok(settles(ways, topic, ConsumerAsk::CopyFailed)),
     }
 }
 
-fn begins_sending(
-    alloc: Global,
-    ways: Ways,
-    topic: Text,
-    errand: Errand,
-    message: Outgoing,
-) -> Result<PlanTransition, NoMemory>
-    ensures { IfOk result (λ turn. turn ≡ sends_copy ways topic errand (meaning.send_begins errand message)) }
-{
-    let step = sending::begins(errand, message);
-    sends(alloc, ways, topic, errand, step)
-}
-
-/// What an outcome makes of the send. What is told of consumers is no news to it.
 fn in_sending(
     alloc: Global,
     ways: Ways,
     topic: Text,
     errand: Errand,
-    sending: SendState,
+    state: SendState,
     outcome: Outcome,
 ) -> Result<PlanTransition, NoMemory>
-    ensures { IfOk result (λ turn. turn ≡ told_copier ways topic (InSending errand sending) outcome) }
+    ensures { IfOk result (λ turn. turn ≡ copy_sends ways topic errand (meaning.send_told ways errand state (news_of outcome))) }
 {
-    match outcome {
-        Outcome::Word(_) => Ok(rests(ways, topic, Copying::Sending { errand, sending })),
-        outcome => {
-            let news = news_of(alloc, outcome)?;
-            let step = sending::told(alloc, &ways, errand, sending.into_inner(), news)?;
-            sends(alloc, ways, topic, errand, step)
-        }
-    }
+    let news = news_of(alloc, outcome)?;
+    let step = sending::told(alloc, &ways, errand, state.into_inner(), news)?;
+    sends(alloc, ways, topic, errand, step)
 }
 
-/// The send goes on, or it ends: the consumer is told.
+/// It goes on, or it has its receipt, or it has failed.
 fn sends(
     alloc: Global,
     ways: Ways,
@@ -211,54 +190,41 @@ fn sends(
     errand: Errand,
     step: Sent,
 ) -> Result<PlanTransition, NoMemory>
-    ensures { IfOk result (λ turn. turn ≡ sends_copy ways topic errand step) }
+    ensures { IfOk result (λ turn. turn ≡ copy_sends ways topic errand step) }
 {
     match step {
         Transition::Stays(sending, deed) => {
             let sending = SendState::new(alloc, sending)?;
             let action = action_of(alloc, deed)?;
-            Ok(stays(ways, topic, Copying::Sending { errand, sending }, action))
+            Ok(stays(ways, topic, CopyState::Sending { errand, sending }, action))
         }
-        Transition::Gives(Ok(_)) => Ok(ends(ways, topic, ConsumerAsk::CopySent)),
-        Transition::Gives(Err(_)) => Ok(ends(ways, topic, ConsumerAsk::CopyFailed)),
+        Transition::Gives(Ok(_)) => Ok(settles(ways, topic, ConsumerAsk::CopySent)),
+        Transition::Gives(Err(_)) => Ok(settles(ways, topic, ConsumerAsk::CopyFailed)),
     }
 }
 
-/// The consumer is told what became of the copy.
-fn ends(ways: Ways, topic: Text, ask: ConsumerAsk) -> PlanTransition
-    ensures { result ≡ copy_ends ways topic ask }
+/// The consumer is told what became of it.
+fn settles(ways: Ways, topic: Text, ask: ConsumerAsk) -> PlanTransition
+    ensures { result ≡ copies ways topic CopyState.Settling (Action.OfConsumer ask) }
 {
-    stays(ways, topic, Copying::Telling, Action::OfConsumer(ask))
+    stays(ways, topic, CopyState::Settling, Action::OfConsumer(ask))
 }
 
-/// The message is acknowledged, where that is to be.
-fn in_telling(ways: Ways, topic: Text, outcome: Outcome) -> PlanTransition
-    ensures { result ≡ told_copier ways topic InTelling outcome }
+/// The entry is acknowledged, where a subscription is live.
+fn in_settling(ways: Ways, topic: Text, outcome: Outcome) -> PlanTransition
+    ensures { result ≡ copy_in_settling ways topic outcome }
 {
     match outcome {
         Outcome::Word(Word::Asks { link, request }) => {
-            stays(ways, topic, Copying::Asking, Action::Ask { link, request })
+            stays(ways, topic, CopyState::Asking, Action::Ask { link, request })
         }
-        Outcome::Word(Word::NoAsk) => rests(ways, topic, Copying::Resting),
-        _ => rests(ways, topic, Copying::Telling),
+        Outcome::Word(Word::NoAsk) => begins(ways, topic),
+        _ => stays(ways, topic, CopyState::Settling, Action::Rest),
     }
 }
 
-fn rests(ways: Ways, topic: Text, copying: Copying) -> PlanTransition
-    ensures { result ≡ copies_so ways topic copying }
+fn stays(ways: Ways, topic: Text, state: CopyState, action: Action) -> PlanTransition
+    ensures { result ≡ copies ways topic state action }
 {
-    stays(ways, topic, copying, Action::Rest)
-}
-
-fn stays(ways: Ways, topic: Text, copying: Copying, action: Action) -> PlanTransition
-    ensures { result ≡ copies ways topic copying action }
-{
-    Transition::Stays(
-        Plan::Copying {
-            ways,
-            topic,
-            copying,
-        },
-        action,
-    )
+    Transition::Stays(Plan::Copying { ways, topic, state }, action)
 }

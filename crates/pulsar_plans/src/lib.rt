@@ -3,7 +3,6 @@
 
 pub mod answers;
 pub mod batches;
-pub mod copies;
 pub mod copying;
 pub mod departing;
 pub mod gathering;

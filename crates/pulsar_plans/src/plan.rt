@@ -5,12 +5,12 @@ ghost use Rattle.pulsar_wire.specs.Failures.{Custom, OfProducer, ProducerCustom,
 ghost use Rattle.pulsar_plans.specs.Plan.{asks, begins, failure_of, fails, fails_with, fault_of, makes, makes_of, overrides, replied, stands, told, verdict, waits};
 ghost use Rattle.pulsar_calls.specs.Content.{Done, Failed};
 
-use crate::copies::Copying;
+use crate::copying::CopyState;
 use crate::service::Service;
 use crate::states::{BatchState, BuildState, ConsumerState, MultiState, SearchState, SendState};
 use crate::{
-    answers, batches, copying, departing, gathering, multi, producing, search, sends, serving,
-    subscribing, visiting,
+    answers, batches, copying, departing, gathering, multi, producing, search, sends, serving, subscribing,
+    visiting,
 };
 use pulsar_addresses::content::{Refusal as Failure, Text};
 use pulsar_calls::act::{
@@ -130,11 +130,11 @@ pub enum Plan {
         number: u64,
         service: Service,
     },
-    /// It sends the copies of dead letters of a consumer to this topic.
+    /// It sends the copies of a consumer's dead letters to this topic.
     Copying {
         ways: Ways,
         topic: Text,
-        copying: Copying,
+        state: CopyState,
     },
     /// It has asked for an acknowledgement.
     Acknowledging,
@@ -291,11 +291,7 @@ pub fn told(alloc: Global, plan: Plan, outcome: Outcome) -> Result<PlanTransitio
             number,
             service,
         } => serving::told(alloc, ways, number, service, outcome),
-        Plan::Copying {
-            ways,
-            topic,
-            copying,
-        } => copying::told(alloc, ways, topic, copying, outcome),
+        Plan::Copying { ways, topic, state } => copying::told(alloc, ways, topic, state, outcome),
         Plan::Acknowledging => done(alloc, Makes::Nothing),
         Plan::Departing { consumer, number } => departing::told(alloc, consumer, number, outcome),
         Plan::Stopping => in_stopping(alloc, outcome),

@@ -9,7 +9,7 @@ pub enum Service {
     Resting,
     /// It takes the flow that is due next.
     Taking,
-    /// It has asked for that, or for messages to be given again.
+    /// It has asked for that.
     Asking,
     /// It finds the command by which the consumer is subscribed again.
     Recalling,
@@ -21,4 +21,6 @@ pub enum Service {
     Failing,
     /// It has asked for the close of the subscription.
     Closing,
+    /// It has asked for messages again that are due.
+    Redelivering,
 }

@@ -1,10 +1,10 @@
-//! The plan that serves a consumer: it asks for its flows, and for messages to be given again, makes its subscription again where that is lost,
-//! and closes it where its topic ends.
+//! The plan that serves a consumer: it asks for its flows, makes its subscription again where that is lost, and closes it where its
+//! topic ends.
 
 ghost use Rattle.std.specs.Prelude.{◌≡◌, IfOk};
 ghost use Rattle.pulsar_messages.specs.Words.{SendFlow};
 ghost use Rattle.pulsar_consumer.specs.Plans as meaning;
-ghost use Rattle.pulsar_plans.specs.Plan.{closes_on, in_recalling, in_resting, in_resuming, in_reviving, in_taking, is_over, news_in, resting_hears, resubscribes, stays_so, takes_flow, told_service, told_serving};
+ghost use Rattle.pulsar_plans.specs.Plan.{closes_on, in_recalling, in_resting, in_resuming, in_reviving, in_taking, is_over, news_in, redelivers, resting_hears, resubscribes, stays_so, takes_flow, told_service, told_serving};
 
 use crate::plan::{Plan, PlanTransition, done, overrides};
 use crate::search::{news_in, wished};
@@ -61,6 +61,7 @@ fn goes_on(
         Service::Resuming(state) => in_resuming(alloc, ways, number, state, outcome),
         Service::Reviving { link } => Ok(in_reviving(ways, number, link, outcome)),
         Service::Failing | Service::Closing => over(alloc),
+        Service::Redelivering => Ok(stays(ways, number, Service::Resting, Action::Rest)),
     }
 }
 
@@ -99,10 +100,7 @@ fn hears(alloc: Global, ways: Ways, number: u64, word: Word) -> Result<PlanTrans
         )),
         Word::TopicEnded { link } => Ok(closes_on(ways, number, link)),
         Word::Over => over(alloc),
-        Word::Asks { link, request } => {
-            let action = Action::Ask { link, request };
-            Ok(stays(ways, number, Service::Asking, action))
-        }
+        Word::Asks { link, request } => Ok(redelivers(ways, number, link, request)),
         Word::Numbered(_)
         | Word::InUse
         | Word::Again
@@ -116,6 +114,18 @@ fn hears(alloc: Global, ways: Ways, number: u64, word: Word) -> Result<PlanTrans
         | Word::Letter(_)
         | Word::NoLetter => Ok(stays(ways, number, Service::Resting, Action::Rest)),
     }
+}
+
+/// What is due is asked for again.
+fn redelivers(ways: Ways, number: u64, link: u64, request: Request) -> PlanTransition
+    ensures { result ≡ redelivers ways number link request }
+{
+    stays(
+        ways,
+        number,
+        Service::Redelivering,
+        Action::Ask { link, request },
+    )
 }
 
 /// The next flow that is due is taken.

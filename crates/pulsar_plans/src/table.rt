@@ -3,7 +3,7 @@
 ghost use Rattle.std.specs.Prelude.{◌≡◌, ℕ, ◌==◌, ◌&&◌, OnOk, None, if◌then◌else◌};
 ghost use Rattle.std.specs.BTreeMap.{get};
 ghost use Rattle.std.specs.Ordering.{nat_cmp};
-ghost use Rattle.pulsar_plans.specs.Standing.{pair_cmp, stand_of, triple_cmp};
+ghost use Rattle.pulsar_plans.specs.Standing.{is_at_place, pair_cmp, stand_of, triple_cmp};
 ghost use Rattle.pulsar_calls.specs.Who.{is_same};
 ghost use Rattle.pulsar_calls.specs.declared.act.Who.{Who};
 
@@ -19,7 +19,7 @@ pub struct Plans {
     pub calls: BTreeMap<u64, Plan>,
     /// Those of the consumers, by number and ticket.
     pub consumers: BTreeMap<(u64, u64), Plan>,
-    /// Those of the copies of dead letters of consumers, by number, ticket and key.
+    /// Those of the copies of dead letters, by number, ticket and key of the consumers.
     pub copies: BTreeMap<(u64, u64, u64), Plan>,
     /// Those of the topic producers that send batches, by number.
     pub producers: BTreeMap<u64, Plan>,
@@ -60,7 +60,7 @@ impl Plans {
                 number,
                 ticket,
                 key,
-            } => remove_triple(&mut self.copies, (number, ticket, key)),
+            } => remove_copies(&mut self.copies, (number, ticket, key)),
             Who::Producer(number) => self.producers.remove(&number),
         }
     }
@@ -78,7 +78,7 @@ impl Plans {
                 number,
                 ticket,
                 key,
-            } => set_triple(&mut self.copies, (number, ticket, key), plan),
+            } => set_copies(&mut self.copies, (number, ticket, key), plan),
             Who::Producer(number) => set_in(&mut self.producers, number, plan),
         }
     }
@@ -115,28 +115,26 @@ fn remove_pair(plans: &mut BTreeMap<(u64, u64), Plan>, pair: (u64, u64)) -> Opti
     plans.remove(&pair)
 }
 
-fn set_triple(
+fn set_copies(
     plans: &mut BTreeMap<(u64, u64, u64), Plan>,
-    triple: (u64, u64, u64),
+    place: (u64, u64, u64),
     plan: Option<Plan>,
 ) -> Result<(), NoMemory>
-    ensures { OnOk result ((p : ℕ × ℕ × ℕ) → get triple_cmp plans.new p
-        ≡ (if (p.0 == triple.0) && ((p.1 == triple.1) && (p.2 == triple.2)) then plan else get triple_cmp plans.old p)) }
+    ensures { OnOk result ((p : ℕ × ℕ × ℕ) → get triple_cmp plans.new p ≡ (if is_at_place p place then plan else get triple_cmp plans.old p)) }
 {
     match plan {
-        None => drop(plans.remove(&triple)),
-        Some(plan) => drop(plans.insert(triple, plan)?),
+        None => drop(plans.remove(&place)),
+        Some(plan) => drop(plans.insert(place, plan)?),
     }
     Ok(())
 }
 
-fn remove_triple(
+fn remove_copies(
     plans: &mut BTreeMap<(u64, u64, u64), Plan>,
-    triple: (u64, u64, u64),
+    place: (u64, u64, u64),
 ) -> Option<Plan>
-    ensures plan { result ≡ get triple_cmp plans.old triple }
-    ensures left { (p : ℕ × ℕ × ℕ) → get triple_cmp plans.new p
-        ≡ (if (p.0 == triple.0) && ((p.1 == triple.1) && (p.2 == triple.2)) then None else get triple_cmp plans.old p) }
+    ensures plan { result ≡ get triple_cmp plans.old place }
+    ensures left { (p : ℕ × ℕ × ℕ) → get triple_cmp plans.new p ≡ (if is_at_place p place then None else get triple_cmp plans.old p) }
 {
-    plans.remove(&triple)
+    plans.remove(&place)
 }

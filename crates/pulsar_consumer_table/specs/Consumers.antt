@@ -516,3 +516,7 @@ opened_on (content.Raw l words) cs = names_in (named_consumer words) cs
 
 abbrev pub called_on : (is_open : Bool) → Asked → Consumers → Consumers
 called_on is_open asked cs = if is_open then opened_on asked cs else cs
+
+-- and forgets the message that it names
+abbrev pub asked_on : (is_open : Bool) → Asked → Consumers → Consumers
+asked_on is_open asked cs = if is_open then forgotten_on asked (opened_on asked cs) else cs

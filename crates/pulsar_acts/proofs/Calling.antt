@@ -5,7 +5,7 @@ use Rattle.pulsar_wire.specs.Failures.{Exhausted}
 use Rattle.pulsar_calls.specs.declared.act.Act.TheVariants.{Comes, Answers}
 use Rattle.pulsar_calls.specs.declared.act.Alarm.TheVariants.{CheckIdle}
 use Rattle.pulsar_calls.specs.declared.act.Makes.{Makes}
-use Rattle.pulsar_calls.specs.declared.act.Makes.TheVariants.{Nothing, Client, Consumer, RawConsumer, Producer}
+use Rattle.pulsar_calls.specs.declared.act.Makes.TheVariants.{Nothing, Client, Consumer, RawConsumer, Producer, MultiProducer}
 use Rattle.pulsar_calls.specs.declared.act.Part.TheVariants.{Calls}
 use Rattle.pulsar_links.specs.Alarms.{set}
 use Rattle.pulsar_calls.specs.declared.act.Procedure.{Procedure}
@@ -22,7 +22,7 @@ use Rattle.pulsar_consumer_table.specs.Consumers.{Consumers}
 use Rattle.pulsar_consumer_table.proofs.Asking as asking
 use Rattle.pulsar_producer_table.specs.Producers.{Producers, called_on, opened_on, why_not}
 use Rattle.pulsar_producer_table.proofs.Asking.{called_is}
-use Rattle.pulsar_acts.specs.Rules.{parts_of, procedure_for, shares_unless, starts, unless_refused}
+use Rattle.pulsar_acts.specs.Rules.{multi_shares_unless, parts_of, procedure_for, shares_unless, starts, unless_refused, why_no_multi}
 use Rattle.pulsar_acts.specs.Run.{goes_on}
 use Rattle.pulsar_agenda.specs.Agenda.{Agenda}
 use Rattle.pulsar_acts.specs.View.{Tickets, View, after, alarms_built, builds, idle_period, may_call}
@@ -101,12 +101,17 @@ not_build (call.Topics namespace mode) n h = absurd cc
 not_build (call.Lookup topic) n h = absurd cc
 not_build (call.Partitions topic) n h = absurd cc
 not_build (call.Brokers topic) n h = absurd cc
+not_build (call.Post topic message) n h = absurd cc
 not_build (call.Producer builder) n h = absurd cc
+not_build (call.MultiProducer builder) n h = absurd cc
 not_build (call.Send producer message) n h = absurd cc
 not_build (call.SendAll producer messages) n h = absurd cc
 not_build (call.Flush producer) n h = absurd cc
 not_build (call.CheckProducer producer) n h = absurd cc
 not_build (call.CloseProducer producer) n h = absurd cc
+not_build (call.MultiSend producer topic message) n h = absurd cc
+not_build (call.MultiSendAll producer topic messages) n h = absurd cc
+not_build (call.MultiClose producer topic) n h = absurd cc
 not_build (call.Consumer builder) n h = absurd cc
 not_build (call.Ack consumer topic id cumulative) n h = absurd cc
 not_build (call.Nack consumer topic id) n h = absurd cc
@@ -125,12 +130,17 @@ shut_out o c cs ps advice (content.Topics namespace mode) n h = refused_if (may_
 shut_out o c cs ps advice (content.Lookup topic) n h = refused_if (may_call c) _ h
 shut_out o c cs ps advice (content.Partitions topic) n h = refused_if (may_call c) _ h
 shut_out o c cs ps advice (content.Brokers topic) n h = refused_if (may_call c) _ h
+shut_out o c cs ps advice (content.Post topic m) n h = refused_if (may_call c) _ h
 shut_out o c cs ps advice (content.Producer wanted) n h = refused_if (may_call c) _ h
 shut_out o c cs ps advice (content.Send t m) n h = refused_if (may_call c) _ h
 shut_out o c cs ps advice (content.SendAll t ms) n h = refused_if (may_call c) _ h
 shut_out o c cs ps advice (content.Flush t) n h = refused_if (may_call c) _ h
 shut_out o c cs ps advice (content.CheckProducer t) n h = refused_if (may_call c) _ h
 shut_out o c cs ps advice (content.CloseProducer t) n h = refused_if (may_call c) _ h
+shut_out o c cs ps advice (content.MultiProducer wanted) n h = refused_if (may_call c) _ h
+shut_out o c cs ps advice (content.MultiSend t topic m) n h = refused_if (may_call c) _ h
+shut_out o c cs ps advice (content.MultiSendAll t topic ms) n h = refused_if (may_call c) _ h
+shut_out o c cs ps advice (content.MultiClose t topic) n h = refused_if (may_call c) _ h
 shut_out o c cs ps advice (content.Consumer wanted) n h = refused_if (may_call c) _ h
 shut_out o c cs ps advice (content.Ack t name id cumulative) n h = refused_if (may_call c) _ h
 shut_out o c cs ps advice (content.Nack t name id) n h = refused_if (may_call c) _ h
@@ -141,6 +151,8 @@ shut_out o c cs ps advice (content.Raw l request) n h = refused_if (may_call c) 
 pub shut_parts : (v : View) (advice : List (Option ℕ)) (a : Asked) → may_call v.calls ≡ false → parts_of v advice a ≡ []
 shut_parts v advice (content.SendAll t ms) h =
     ap (λ b. shares_unless (cond b (why_not v.producers t) (Some refusal.Shutdown)) v advice t ms) h
+shut_parts v advice (content.MultiSendAll t topic ms) h =
+    ap (λ b. multi_shares_unless (cond b (why_no_multi v.producers.multis t) (Some refusal.Shutdown)) v t topic ms) h
 shut_parts v advice _ h = refl
 
 pub shut_same : (v : View) (a : Asked) → may_call v.calls ≡ false →
@@ -182,6 +194,7 @@ module _ (v : View) (m : Makes) where
   keeps (Consumer made) = refl
   keeps (RawConsumer link made) = refl
   keeps (Producer made) = refl
+  keeps (MultiProducer name settings) = refl
 
   pub built_before : v.calls.is_built ≡ true → v ≡ built_with (builds m v.calls.is_built) is_first
   built_before e =

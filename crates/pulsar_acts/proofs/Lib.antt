@@ -8,3 +8,4 @@ pub mod Granting
 pub mod Storing
 pub mod Sending
 pub mod Idling
+pub mod Policies

@@ -15,8 +15,10 @@ use Rattle.pulsar_calls.specs.Content as content
 use Rattle.pulsar_calls.specs.Content.{Asked, Heard, lacks_tickets, shares}
 use Rattle.pulsar_calls.specs.Content.{numbers_from}
 use Rattle.pulsar_plans.specs.Plan.{fails}
+use Rattle.pulsar_outgoing.specs.declared.multi_topic.Multi.{Multi}
+use Rattle.pulsar_outgoing.specs.declared.multi_topic.Multi.TheVariants.{Made}
 use Rattle.pulsar_producer_table.specs.Producers.{Producers, routed}
-use Rattle.pulsar_acts.specs.Rules.{called, parts_of, shares_of, shares_unless, starts, why_no_sends}
+use Rattle.pulsar_acts.specs.Rules.{called, multi_shares_of, multi_shares_unless, parts_of, shares_of, shares_unless, starts, why_no_multi_sends, why_no_sends}
 use Rattle.pulsar_links.specs.LinkRules.{on_link, over_links}
 use Rattle.pulsar_acts.specs.Run.{Entry, Begins, Then, rules, view}
 use Rattle.pulsar_acts.specs.View.{View, begun, begun_live, is_live}
@@ -124,9 +126,26 @@ unless_in : (r : Option CallRefusal) (v : View) (advice : List (Option ℕ)) (t 
 unless_in None v advice t ms = shares_in v.chosen v.producers v.calls.drawn (v.calls.drawn + 1) advice t ms
 unless_in (Some r) v advice t ms = tt
 
+-- and of those by a producer of many topics
+multi_in : (o : Chosen) (of ticket : ℕ) (m : Multi) (topic : List ℕ) (ms : List ProducerMessageValues) →
+    Each (StartsIn ticket (ticket + length ms)) (multi_shares_of o of ticket m topic ms)
+multi_in o of ticket m topic [] = tt
+multi_in o of ticket m topic (x ∷ ms) = (
+  (omega arith, omega arith),
+  each_map (StartsIn (ticket + 1) (ticket + 1 + length ms)) (StartsIn ticket (ticket + length (x ∷ ms))) (multi_shares_of o of (ticket + 1) m topic ms)
+      (starts_wider (ticket + 1) (ticket + 1 + length ms) ticket (ticket + length (x ∷ ms)) (omega arith) (omega arith))
+      (multi_in o of (ticket + 1) m topic ms),
+)
+
+multi_unless_in : (r : Option CallRefusal) (v : View) (t : ℕ) (topic : List ℕ) (ms : List ProducerMessageValues) →
+    Each (StartsIn (v.calls.drawn + 1) (v.calls.drawn + 1 + length ms)) (multi_shares_unless r v t topic ms)
+multi_unless_in None v t topic ms = multi_in v.chosen v.calls.drawn (v.calls.drawn + 1) (Made t) topic ms
+multi_unless_in (Some r) v t topic ms = tt
+
 parts_in : (v : View) (advice : List (Option ℕ)) (asked : Asked) →
     Each (StartsIn (v.calls.drawn + 1) (v.calls.drawn + 1 + shares asked)) (parts_of v advice asked)
 parts_in v advice (content.SendAll t ms) = unless_in (why_no_sends v.calls v.producers t) v advice t ms
+parts_in v advice (content.MultiSendAll t topic ms) = multi_unless_in (why_no_multi_sends v.calls v.producers.multis t) v t topic ms
 parts_in v advice _ = tt
 
 pub starts_in : (v : View) (advice : List (Option ℕ)) (asked : Asked) → Each (StartsIn v.calls.drawn (v.calls.drawn + 1 + shares asked)) (starts v advice asked)

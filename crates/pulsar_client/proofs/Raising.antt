@@ -3,13 +3,15 @@ use Rattle.std.proofs.Common.{◌≡◌, ℕ, ◌+◌, List, ◌∷◌, refl, Bo
 use Rattle.pulsar_addresses.specs.Address.{Place, address_key, is_reachable}
 use Rattle.pulsar_searches.specs.declared.turn.Ways.{Ways}
 use Rattle.pulsar_outgoing.specs.Storage.{is_batching}
+use Rattle.pulsar_messages.specs.Content.{ProducerOptionsValues}
 use Rattle.pulsar_outgoing.specs.declared.content.Built.{Built}
-use Rattle.pulsar_calls.specs.declared.content.BuiltProducer.{BuiltProducer}
+use Rattle.pulsar_outgoing.specs.declared.multi_topic.Joining.{Joining as MultiJoining}
+use Rattle.pulsar_producer_table.specs.MultiAsks.{joined_by}
 use Rattle.pulsar_calls.specs.declared.content.Joining.{Joining}
 use Rattle.pulsar_calls.specs.declared.act.Act.{Act}
 use Rattle.pulsar_calls.specs.declared.act.Act.TheVariants.{Comes, Starts, Told, Does, Answers, Dials}
 use Rattle.pulsar_calls.specs.declared.act.Action.{Action}
-use Rattle.pulsar_calls.specs.declared.act.Action.TheVariants.{OfTopic, OfConsumer, Get, Wait, StopAll, Rest}
+use Rattle.pulsar_calls.specs.declared.act.Action.TheVariants.{OfTopic, OfMulti, OfConsumer, Get, Wait, StopAll, Rest}
 use Rattle.pulsar_calls.specs.declared.act.Alarm.{Alarm}
 use Rattle.pulsar_calls.specs.declared.act.Alarm.TheVariants.{Retry, Wake, Batch, KeepAlive, CheckIdle}
 use Rattle.pulsar_calls.specs.declared.act.Arrival.{Arrival}
@@ -30,9 +32,9 @@ use Rattle.pulsar_links.specs.Alarms.{rings}
 use Rattle.pulsar_acts.specs.Reading.{serves_by, tells}
 use Rattle.pulsar_calls.specs.Content.{Asked, shares}
 use Rattle.pulsar_plans.specs.Plan.{begins}
-use Rattle.pulsar_acts.specs.Rules.{at_once, batches_by, batches_from, breaks_at, called, does, follows, follows_some, gets_from, idle_act, is_idle, keeps_alive, left_with, performs, rung, tries_again, says_to}
+use Rattle.pulsar_acts.specs.Rules.{at_once, batches_by, batches_for, batches_from, batches_joined, breaks_at, called, does, follows, follows_some, gets_from, idle_act, is_idle, keeps_alive, left_with, performs, rung, tries_again, says_to}
 use Rattle.pulsar_links.specs.LinkRules.{may_ping, over_links, stop_act}
-use Rattle.pulsar_acts.specs.View.{View, told_some, ways_of, asked_of, consumer_asked}
+use Rattle.pulsar_acts.specs.View.{View, told_some, ways_of, asked_of, consumer_asked, multi_asked_of, multi_at}
 use Rattle.pulsar_links.specs.Seats.{Seat, arrival_at}
 use Rattle.pulsar_calls.specs.declared.act.Outcome.TheVariants as outcome
 use Rattle.pulsar_client.proofs.Acts.{Each, StartsIn, called_each, each_append, each_either, over_each}
@@ -74,6 +76,7 @@ kind (Comes part) = OfPart
 abbrev pub may : Kind → Act → Bool
 may OfStart (Comes (Calls asked advice)) = true
 may OfBatches (Answers who verdict) = true
+may OfBatches (Does who (OfMulti m ask)) = true
 may OfService (Answers who verdict) = true
 may OfDeed (Starts who p) = true
 may OfDeed (Told n) = true
@@ -118,6 +121,25 @@ some_raised : (a : Act) (who : Who) (turn : Option (PlanTransition)) → may OfD
 some_raised a who None d e = tt
 some_raised a who (Some turn) d e = follows_raised a who turn d e
 
+-- THE BATCHES OF TOPIC PRODUCERS
+
+module _ (a : Act) (may_so : may OfBatches a ≡ true) where
+  batches_raised : (ways : Ways) (block : Bool) (bs : List Built) → Each (IsRaised a) (map (batches_by ways block) bs)
+  batches_raised ways block [] = tt
+  batches_raised ways block (b ∷ bs) = (may_so, batches_raised ways block bs)
+
+  from_each : (ways : Option Ways) (block : Bool) (bs : List Built) → Each (IsRaised a) (batches_from ways block bs)
+  from_each None block bs = tt
+  from_each (Some ways) block bs = batches_raised ways block bs
+
+  for_each : (ways : Option Ways) (o : ProducerOptionsValues) (bs : List Built) → Each (IsRaised a) (batches_for ways o bs)
+  for_each ways o bs =
+      each_either (IsRaised a) (is_batching o) (batches_from ways o.block_queue_if_full bs) [] (from_each ways o.block_queue_if_full bs) tt
+
+  joined_each : (ways : Option Ways) (j : Option MultiJoining) → Each (IsRaised a) (batches_joined ways j)
+  joined_each ways None = tt
+  joined_each ways (Some j) = for_each ways j.settings j.parts
+
 -- ACTIONS
 
 from_raised : (who : Who) (p : Place) (s : Series) → Each (IsRaised (Does who (Get p))) (gets_from who p s)
@@ -136,6 +158,11 @@ performs_raised v who (Get p) =
     each_either (IsRaised (Does who (Get p))) (is_reachable p) (gets_from who p s) (tells who outcome.NotFound) (from_raised who p s) (refl, tt)
 performs_raised v who (Wait delay) = tt
 performs_raised v who (OfTopic n ask) = says_raised who (OfTopic n ask) (asked_of v who n ask).says
+performs_raised v who (OfMulti m ask) =
+    each_append (IsRaised (Does who (OfMulti m ask))) (batches_joined (ways_of v.chosen) (joined_by ask (multi_at v m)))
+    (says_to who (multi_asked_of v who m ask).says)
+    (joined_each (Does who (OfMulti m ask)) refl (ways_of v.chosen) (joined_by ask (multi_at v m)))
+    (says_raised who (OfMulti m ask) (multi_asked_of v who m ask).says)
 performs_raised v who (OfConsumer ask) = says_raised who (OfConsumer ask) (consumer_asked v who ask).says
 performs_raised v who StopAll =
     each_append (IsRaised (Does who StopAll)) (over_links stop_act v.links) (tells who outcome.Stopped)
@@ -168,23 +195,13 @@ rung_raised v CheckIdle = over_each (IsRaised (Comes (Rings CheckIdle))) (idle_a
 
 -- WHAT A VERDICT LEAVES BEHIND
 
-batches_raised : (who : Who) (verdict : Verdict) (ways : Ways) (block : Bool) (bs : List Built) →
-    Each (IsRaised (Answers who verdict)) (map (batches_by ways block) bs)
-batches_raised who verdict ways block [] = tt
-batches_raised who verdict ways block (b ∷ bs) = (refl, batches_raised who verdict ways block bs)
-
-from_each : (who : Who) (verdict : Verdict) (ways : Option Ways) (b : BuiltProducer) → Each (IsRaised (Answers who verdict)) (batches_from ways b)
-from_each who verdict None b = tt
-from_each who verdict (Some ways) b = batches_raised who verdict ways b.settings.block_queue_if_full b.parts
-
 served_raised : (who : Who) (verdict : Verdict) (ways : Option Ways) (j : Joining) → Each (IsRaised (Answers who verdict)) (serves_by ways who j)
 served_raised who verdict None j = tt
 served_raised who verdict (Some ways) j = (refl, tt)
 
 left_raised : (who : Who) (verdict : Verdict) (ways : Option Ways) (m : Makes) → Each (IsRaised (Answers who verdict)) (left_with ways who m)
 left_raised who verdict ways (makes.Consumer j) = served_raised who verdict ways j
-left_raised who verdict ways (makes.Producer b) =
-    each_either (IsRaised (Answers who verdict)) (is_batching b.settings) (batches_from ways b) [] (from_each who verdict ways b) tt
+left_raised who verdict ways (makes.Producer b) = for_each (Answers who verdict) refl ways b.settings b.parts
 left_raised who verdict ways _ = tt
 
 -- ALL

@@ -13,7 +13,8 @@ use Rattle.pulsar_acts.specs.Run.{Good, rules, view}
 use Rattle.pulsar_calls.specs.Steps.{Step}
 use Rattle.pulsar_agenda.specs.Agenda.{first}
 use Rattle.pulsar_client.specs.History.{Stands, answered, step}
-use Rattle.pulsar_acts.specs.Tables.{view_of}
+use Rattle.pulsar_acts.proofs.Policies.{live_same}
+use Rattle.pulsar_acts.specs.Tables.{view_of, with_policies}
 use Rattle.pulsar_acts.specs.View.{begun_live, is_live}
 use Rattle.pulsar_machine.specs.Options.{Options}
 
@@ -36,7 +37,7 @@ history_more es xs e x h = rw (answered_more es xs e x h) (simp reverse-append)
 pub dead_step : {o : Options} (c : Tables) {h : List Step} (e : Heard) → is_live (view_of c) e ≡ false → Stands o c h → Stands o c (record { event = e; effects = [] } ∷ h)
 dead_step {o} c {h} e dead s =
     let v = view o s.log in
-    let dead_there : is_live v e ≡ false = ap (λ x. is_live x e) (sym s.sees) ∙ dead in
+    let dead_there : is_live v e ≡ false = ap (λ x. is_live x e) (sym s.sees) ∙ live_same o.policies (view_of c) e ∙ dead in
     record {
       log = Begins e ∷ s.log;
       run = (s.run, s.rests);
@@ -46,8 +47,10 @@ dead_step {o} c {h} e dead s =
     }
 
 pub not_live : (c : Tables) (e : Heard) {o : Options} {h : List Step} → Stands o c h → ((g : Good o h) → is_live (view o g.log) e ≡ false) → is_live (view_of c) e ≡ false
-not_live c e s dead = ap (λ v. is_live v e) s.sees ∙ dead (record { log = s.log; run = s.run; rests = s.rests; same = s.same })
+not_live c e {o} s dead =
+    sym (live_same o.policies (view_of c) e) ∙ ap (λ v. is_live v e) s.sees
+    ∙ dead (record { log = s.log; run = s.run; rests = s.rests; same = s.same })
 
 -- what is seen of the tables of a client is what is seen after the run of each history that it stands for
-pub seen_of : (c : Tables) {o : Options} {h : List Step} → Stands o c h → (g : Good o h) → view_of c ≡ view o g.log
+pub seen_of : (c : Tables) {o : Options} {h : List Step} → Stands o c h → (g : Good o h) → with_policies o.policies (view_of c) ≡ view o g.log
 seen_of c {o} {h} s g = s.sees ∙ ap (view o) (one_log rules o h h (record { log = s.log; run = s.run; rests = s.rests; same = s.same }) g refl)

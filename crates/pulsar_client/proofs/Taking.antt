@@ -14,7 +14,7 @@ use Rattle.pulsar_client.specs.History.{Stands}
 use Rattle.pulsar_acts.specs.View.{View, is_live, new}
 use Rattle.pulsar_machine.specs.Options.{Chosen, Options}
 use Rattle.pulsar_run.proofs.Steps.{at_first}
-use Rattle.pulsar_acts.specs.Tables.{view_of}
+use Rattle.pulsar_acts.specs.Tables.{view_of, with_policies}
 use Rattle.pulsar_client.specs.Taken.{Held, drawn_to, ended_in, held, held_but, is_in, left_after, taken_left, taken_with, with_taken}
 
 -- TICKETS
@@ -170,6 +170,6 @@ pub stands_same : {X : Type 0} {d : X → Type 0} {routes : DynBox X Global d �
     h ≡ k → StandsFor routes o c h taken → StandsFor routes o c k taken
 stands_same {X} {d} {routes} {o} {c} {taken} h k e s = subst (λ x. StandsFor routes o c x taken) e s
 
-pub new_stands : (c : Tables) (a b : Chosen) → a ≡ b → ((ps : List Policy) → view_of c ≡ new (record { chosen = a; policies = ps })) → (ps : List Policy) →
+pub new_stands : (c : Tables) (a b : Chosen) → a ≡ b → ((ps : List Policy) → with_policies ps (view_of c) ≡ new (record { chosen = a; policies = ps })) → (ps : List Policy) →
     Stands (record { chosen = b; policies = ps }) c []
 new_stands c a b e sees ps = subst (λ x. Stands (record { chosen = x; policies = ps }) c []) e (at_first (sees ps))

@@ -5,7 +5,7 @@ use Rattle.std.specs.Prelude.{◌&&◌, not}
 use Rattle.pulsar_addresses.specs.Address.{Named, Place}
 use Rattle.pulsar_calls.specs.Content.{Said}
 use Rattle.pulsar_calls.specs.declared.act.Action.{Action}
-use Rattle.pulsar_calls.specs.declared.act.Action.TheVariants.{Ask, Get, Number, OfConsumer, OfTopic, Rest, Shut, StopAll, TakeNumber, TellAll, Wait}
+use Rattle.pulsar_calls.specs.declared.act.Action.TheVariants.{Ask, Get, Number, OfConsumer, OfMulti, OfTopic, Rest, Shut, StopAll, TakeNumber, TellAll, Wait}
 use Rattle.pulsar_calls.specs.declared.act.ConsumerAsk.TheVariants as consumer_ask
 use Rattle.pulsar_calls.specs.declared.act.Makes.TheVariants.{Nothing}
 use Rattle.pulsar_calls.specs.declared.act.Outcome.{Outcome}
@@ -38,7 +38,7 @@ use Rattle.pulsar_searches.specs.declared.turn.Action.{Action as Wish}
 use Rattle.pulsar_searches.specs.declared.turn.Ways.{Ways}
 use Rattle.pulsar_wire.specs.Failures.{Failure}
 use Rattle.pulsar_frame.specs.Batch.{EntryValues}
-use Rattle.pulsar_messages.specs.Content.{ProducerMessageValues}
+use Rattle.pulsar_messages.specs.Content.{ProducerMessageValues, ProducerOptionsValues}
 use Rattle.pulsar_messages.specs.Words as words
 use Rattle.pulsar_wire.specs.declared.error.Reason.{Reason}
 use Rattle.pulsar_exchange.specs.Request.{is_answered, request_number}
@@ -56,6 +56,7 @@ use Rattle.pulsar_consumer.specs.declared.resuming.Resuming.{Resuming}
 use Rattle.pulsar_outgoing.specs.Batch.{batch_of, cut_report, entries_in, failed, member_of, not_written, receipt_fate, reports}
 use Rattle.pulsar_producer.specs.Batching as batches
 use Rattle.pulsar_producer.specs.Batching.{is_sent_send}
+use Rattle.pulsar_producer.specs.MultiPlans as multi
 use Rattle.pulsar_producer.specs.Plans as produce
 use Rattle.pulsar_outgoing.specs.Storage.{Item}
 use Rattle.pulsar_outgoing.specs.declared.batch.Fate.TheVariants as fate
@@ -64,7 +65,18 @@ use Rattle.pulsar_producer.specs.declared.batching.Batching.TheVariants as batch
 use Rattle.pulsar_producer.specs.declared.batching.Goes.{Goes}
 use Rattle.pulsar_producer.specs.declared.deed.Deed.TheVariants as deed
 use Rattle.pulsar_outgoing.specs.declared.news.News.TheVariants as news
+use Rattle.pulsar_producer.specs.declared.multi_topic.closing.MultiClosing.{MultiClosing as MultiClose}
+use Rattle.pulsar_producer.specs.declared.multi_topic.closing.MultiClosing.TheVariants as multi_close
+use Rattle.pulsar_producer.specs.declared.multi_topic.deed.MultiDeed.{MultiDeed}
+use Rattle.pulsar_producer.specs.declared.multi_topic.deed.MultiDeed.TheVariants.{Asks}
+use Rattle.pulsar_producer.specs.declared.multi_topic.sending.MultiSending.{MultiSending as MultiSend}
+use Rattle.pulsar_producer.specs.declared.multi_topic.sending.MultiSending.TheVariants as multi_send
 use Rattle.pulsar_producer.specs.declared.sending.Sending.TheVariants as send
+use Rattle.pulsar_outgoing.specs.declared.multi_topic.Dispatch.{Dispatch}
+use Rattle.pulsar_outgoing.specs.declared.multi_topic.Dispatch.TheVariants as dispatch
+use Rattle.pulsar_outgoing.specs.declared.multi_topic.Multi.{Multi}
+use Rattle.pulsar_outgoing.specs.declared.multi_topic.MultiAsk.{MultiAsk}
+use Rattle.pulsar_outgoing.specs.declared.multi_topic.MultiAsk.TheVariants.{TakeTurn as TakeMultiTurn}
 use Rattle.pulsar_calls.specs.Parts.{failed_with}
 use Rattle.pulsar_calls.specs.declared.act.Outcome.TheVariants as outcome
 use Rattle.pulsar_calls.specs.declared.act.Place.TheVariants.{At}
@@ -76,15 +88,16 @@ use Rattle.pulsar_calls.specs.declared.act.Says.TheVariants as says
 use Rattle.pulsar_calls.specs.declared.act.Word.TheVariants as word
 use Rattle.pulsar_plans.specs.declared.plan.At.{At as Spot}
 use Rattle.pulsar_plans.specs.declared.plan.At.TheVariants as at
-use Rattle.pulsar_plans.specs.declared.plan.Plan.TheVariants.{Building, Getting, Searching, Sending, Gathering, Shutting, Stopping, Acknowledging, Departing}
+use Rattle.pulsar_plans.specs.declared.plan.Plan.TheVariants.{Building, Getting, Searching, Sending, MultiSending, MultiClosing, Gathering, Shutting, Stopping, Acknowledging, Departing}
 use Rattle.pulsar_plans.specs.declared.plan.Wanted.{Wanted}
 use Rattle.pulsar_plans.specs.declared.service.Service.{Service}
 use Rattle.pulsar_plans.specs.declared.service.Service.TheVariants as service
 use Rattle.pulsar_plans.specs.declared.states.Resubscribing.{Resubscribing}
-use Rattle.pulsar_plans.specs.Plan.{asks_of, builds, consumer_news_of, goes, goes_on_sending, goes_round, halted, in_subscribing, is_settled, parted, resubscribes, resubscribing, subscribes, tells, told_at, told_service, wanted, wished, built_of, consumer_of, replied}
+use Rattle.pulsar_plans.specs.Plan.{asks_of, builds, consumer_news_of, goes, goes_on_sending, dispatches, goes_round, halted, in_subscribing, is_settled, multi_action_of, multi_closes, multi_news_of, multi_sends as multi_turns, parted, resubscribes, resubscribing, subscribes, tells, told_at, told_service, wanted, wished, built_of, consumer_of, replied}
+use Rattle.pulsar_plans.proofs.MultiArcs.{MultiCloseArc, MultiCloseEnd, MultiCloseTo, MultiSendArc, MultiSendEnd, MultiSendTo, multi_close_arcs, multi_send_arcs}
 use Rattle.pulsar_producer.proofs.Arcs.{BuildArc, BuildEnd, BuildTo, SendArc, StepSo, build_arcs, send_arcs}
 use Rattle.pulsar_calls.specs.Content.{Done}
-use Rattle.pulsar_calls.specs.declared.act.Makes.TheVariants.{Client}
+use Rattle.pulsar_calls.specs.declared.act.Makes.TheVariants.{Client, MultiProducer}
 use Rattle.pulsar_consumer.specs.declared.building.Built.{Built as ConsumerBuilt}
 use Rattle.pulsar_producer.specs.declared.building.BuildingProducer.TheVariants as build
 use Rattle.pulsar_searches.specs.declared.transition.Transition.TheVariants.{Stays, Gives}
@@ -229,6 +242,21 @@ pub data Arc : Plan → Outcome → Plan → Action → Type 0 where
   answered_settles : {r : Round} {n m : ℕ} {left : List ℕ} {reply : Reply} →
       Arc (Visiting r n (m ∷ left) at.Awaiting) (outcome.Replied reply) (Visiting r m left at.Settling) (OfTopic m Flush)
   awaiting_rests : {r : Round} {n : ℕ} {left : List ℕ} → Arc (Visiting r n left at.Awaiting) outcome.Queued (Visiting r n left at.Awaiting) Rest
+  multi_goes : {w : Ways} {m : Multi} {share : Option Share} {s q : MultiSend} {u : Outcome} (d : MultiDeed) → MultiSendArc w s (multi_news_of u) q d →
+      Arc (MultiSending w m share s) u (MultiSending w m share q) (multi_action_of m d)
+  multi_sends : {w : Ways} {m : Multi} {share : Option Share} {s : MultiSend} {u : Outcome} {e : Errand} {x : ProducerMessageValues} →
+      MultiSendEnd s (multi_news_of u) (Ok (dispatch.Send e x)) →
+      Arc (MultiSending w m share s) u (Sending w e share (send.Waiting x)) (OfTopic e.producer TakeTurn)
+  multi_stores : {w : Ways} {m : Multi} {share : Option Share} {s : MultiSend} {u : Outcome} {n : ℕ} {x : EntryValues} →
+      MultiSendEnd s (multi_news_of u) (Ok (dispatch.Store n x)) → Arc (MultiSending w m share s) u (Storing share) (OfTopic n (Store x))
+  multi_leaves : {w : Ways} {m : Multi} {h : Share} {s : MultiSend} {u : Outcome} {f : Failure} → MultiSendEnd s (multi_news_of u) (Err f) →
+      Arc (MultiSending w m (Some h) s) u (Leaving f) (tells h (parted h (Some f)))
+  multi_halts : {w : Ways} {m : Multi} {h : Share} {s : MultiSend} {u : Outcome} {f : Failure} → overrides u ≡ true →
+      Arc (MultiSending w m (Some h) s) u (Leaving f) (tells h outcome.Stopped)
+  multi_closes_on : {m : Multi} {s q : MultiClose} {u : Outcome} (ask : MultiAsk) → MultiCloseArc s (multi_news_of u) q ask →
+      Arc (MultiClosing m s) u (MultiClosing m q) (OfMulti m ask)
+  multi_visits : {m : Multi} {s : MultiClose} {u : Outcome} {n : ℕ} {left : List ℕ} → MultiCloseEnd s (multi_news_of u) (Ok (n ∷ left)) →
+      Arc (MultiClosing m s) u (Visiting Closes n left at.Settling) (OfTopic n Flush)
   subscribing_rests : {w : Ways} {o : ConsumerOrder} {b : ConsumerBuild} {u : Outcome} → consumer_news_of u ≡ None →
       Arc (Subscribing w o b) u (Subscribing w o b) Rest
   subscribes_on_gets : {w : Ways} {o : ConsumerOrder} {b q : ConsumerBuild} {u : Outcome} {y : ConsumerNews} {at : Place} → consumer_news_of u ≡ Some y →
@@ -401,6 +429,33 @@ visiting r n left at.Awaiting (outcome.Replied reply) =
 visiting r n left at.Awaiting outcome.Queued = awaiting_rests
 visiting r n left at.Awaiting _ = ends _ refl
 
+-- PRODUCERS OF MANY TOPICS
+
+module _ (w : Ways) (m : Multi) (s : MultiSend) (u : Outcome) where
+  dispatching : (share : Option Share) (given : Result Dispatch Failure) → MultiSendEnd s (multi_news_of u) given →
+      ToldTo (MultiSending w m share s) u (dispatches w share given)
+  dispatching None (Ok (dispatch.Send e x)) k = multi_sends k
+  dispatching (Some h) (Ok (dispatch.Send e x)) k = multi_sends k
+  dispatching share (Ok (dispatch.Store n x)) k = multi_stores k
+  dispatching None (Err f) k = ends _ refl
+  dispatching (Some h) (Err f) k = multi_leaves k
+
+  multi_sending : (share : Option Share) (x : multi.Dispatches) → MultiSendTo w s (multi_news_of u) x →
+      ToldTo (MultiSending w m share s) u (multi_turns w m share x)
+  multi_sending share (Stays q d) k = multi_goes d k
+  multi_sending share (Gives given) k = dispatching share given k
+
+  multi_halting : (share : Option Share) → overrides u ≡ true → ToldTo (MultiSending w m share s) u (halted share u)
+  multi_halting None b = ends _ refl
+  multi_halting (Some h) b = multi_halts b
+
+multi_closing : (m : Multi) (s : MultiClose) (u : Outcome) (x : multi.Closes) → MultiCloseTo s (multi_news_of u) x →
+    ToldTo (MultiClosing m s) u (multi_closes m x)
+multi_closing m s u (Stays q (Asks ask)) k = multi_closes_on ask k
+multi_closing m s u (Gives (Ok [])) k = ends _ refl
+multi_closing m s u (Gives (Ok (n ∷ left))) k = multi_visits k
+multi_closing m s u (Gives (Err f)) k = ends _ refl
+
 -- CONSUMERS
 
 module _ (w : Ways) (o : ConsumerOrder) (b : ConsumerBuild) (u : Outcome) where
@@ -490,6 +545,12 @@ told_arcs (Shutting []) (outcome.Granted news.Done) = ends _ refl
 told_arcs (Shutting (n ∷ ns)) (outcome.Granted news.Done) = shuts
 told_arcs (Shutting ns) (outcome.Granted _) = ends _ refl
 told_arcs (Visiting r n left x) u = told_if (Visiting r n left x) u (overrides u) _ _ (λ h. ends _ refl) (λ h. visiting r n left x u)
+told_arcs (MultiSending w m share s) u =
+    told_if (MultiSending w m share s) u (overrides u) _ _ (multi_halting w m s u share)
+    (λ h. multi_sending w m s u share (multi.multi_send_told w s (multi_news_of u)) (multi_send_arcs w s (multi_news_of u)))
+told_arcs (MultiClosing m s) u =
+    told_if (MultiClosing m s) u (overrides u) _ _ (λ h. ends _ refl)
+    (λ h. multi_closing m s u (multi.close_told s (multi_news_of u)) (multi_close_arcs s (multi_news_of u)))
 told_arcs (Subscribing w o b) u =
     told_if (Subscribing w o b) u (overrides u) _ _ (λ h. ends _ refl) (λ h. subscribing_news w o b u (consumer_news_of u) refl)
 told_arcs (Serving w n s) u = told_if (Serving w n s) u (overrides u) _ _ (λ h. over) (λ h. serving w n s u)
@@ -543,6 +604,9 @@ pub data Begun : Procedure → Plan → Action → Type 0 where
   begins_checks : {n : ℕ} {left : List ℕ} → Begun (procedure.Go Checks (n ∷ left)) (Visiting Checks n left at.Turning) (OfTopic n TakeTurn)
   begins_visits : {r : Round} {n : ℕ} {left : List ℕ} → Begun (procedure.Go r (n ∷ left)) (Visiting r n left at.Settling) (OfTopic n Flush)
   begins_close : {t : ℕ} {ns : List ℕ} → Begun (procedure.Close t ns) (Shutting ns) (Shut t)
+  begins_multi_send : {w : Ways} {m : Multi} {share : Option Share} {t : List ℕ} {x : ProducerMessageValues} →
+      Begun (procedure.MultiSend w m share t x) (MultiSending w m share (multi_send.Waiting t x)) (OfMulti m TakeMultiTurn)
+  begins_multi_close : {m : Multi} {t : List ℕ} → Begun (procedure.MultiClose m t) (MultiClosing m (multi_close.Waiting t)) (OfMulti m TakeMultiTurn)
   begins_subscribe_gets : {w : Ways} {o : ConsumerOrder} {k : Naming} {at : Place} → search.names_begins w o.topic ≡ Stays k (wish.Get at) →
       Begun (procedure.Subscribe w o) (Subscribing w o (consumer_build.Naming k)) (Get at)
   begins_subscribe_asks : {w : Ways} {o : ConsumerOrder} {k : Naming} {l : ℕ} {request : Words} →
@@ -577,6 +641,8 @@ begins_subscribe (wish.Wait delay) e = begins_subscribe_waits e
 pub data BegunEnd : Procedure → Verdict → Type 0 where
   begins_not : {p : Procedure} (x : Said) → BegunEnd p (verdict Nothing x)
   begins_none : {w : Ways} {o : ProducerOrder} → BegunEnd (procedure.Produce w o) (verdict (built_of o []) Done)
+  begins_multi : {name : Option (List ℕ)} {settings : ProducerOptionsValues} →
+      BegunEnd (procedure.MakeMulti name settings) (verdict (MultiProducer name settings) Done)
 
 abbrev BegunTo : Procedure → PlanTransition → Type 0
 BegunTo p = TurnTo (Begun p) (BegunEnd p)
@@ -625,6 +691,9 @@ begins_arcs (procedure.Go Checks (n ∷ left)) = begins_checks
 begins_arcs (procedure.Go Flushes (n ∷ left)) = begins_visits
 begins_arcs (procedure.Go Closes (n ∷ left)) = begins_visits
 begins_arcs (procedure.Close t ns) = begins_close
+begins_arcs (procedure.MakeMulti name settings) = begins_multi
+begins_arcs (procedure.MultiSend w m share t x) = begins_multi_send
+begins_arcs (procedure.MultiClose m t) = begins_multi_close
 begins_arcs (procedure.Subscribe w o) = begun_subscribing w o (search.names_begins w o.topic) refl
 begins_arcs (procedure.Serve w n) = begins_serve
 begins_arcs (procedure.Acknowledge None request) = begins_not _

@@ -88,12 +88,15 @@ use Rattle.pulsar_calls.specs.declared.act.Says.TheVariants as says
 use Rattle.pulsar_calls.specs.declared.act.Word.TheVariants as word
 use Rattle.pulsar_plans.specs.declared.plan.At.{At as Spot}
 use Rattle.pulsar_plans.specs.declared.plan.At.TheVariants as at
-use Rattle.pulsar_plans.specs.declared.plan.Plan.TheVariants.{Building, Getting, Searching, Sending, MultiSending, MultiClosing, Gathering, Shutting, Stopping, Acknowledging, Departing}
+use Rattle.pulsar_plans.specs.declared.plan.Plan.TheVariants.{Building, Getting, Searching, Sending, MultiSending, MultiClosing, Gathering, Shutting, Stopping, Acknowledging, Copying, Departing}
 use Rattle.pulsar_plans.specs.declared.plan.Wanted.{Wanted}
 use Rattle.pulsar_plans.specs.declared.service.Service.{Service}
 use Rattle.pulsar_plans.specs.declared.service.Service.TheVariants as service
 use Rattle.pulsar_plans.specs.declared.states.Resubscribing.{Resubscribing}
-use Rattle.pulsar_plans.specs.Plan.{asks_of, builds, consumer_news_of, goes, goes_on_sending, dispatches, goes_round, halted, in_subscribing, is_settled, multi_action_of, multi_closes, multi_news_of, multi_sends as multi_turns, parted, resubscribes, resubscribing, subscribes, tells, told_at, told_service, wanted, wished, built_of, consumer_of, replied}
+use Rattle.pulsar_plans.specs.Plan.{asks_of, builds, consumer_news_of, goes, goes_on_sending, dispatches, goes_round, halted, in_subscribing, is_settled, multi_action_of, multi_closes, multi_news_of, multi_sends as multi_turns, parted, resubscribes, resubscribing, subscribes, tells, told_at, told_copy, told_service, wanted, wished, built_of, consumer_of, replied}
+use Rattle.pulsar_plans.specs.declared.copying.CopyState.{CopyState}
+use Rattle.pulsar_plans.specs.declared.copying.CopyState.TheVariants as copy
+use Rattle.pulsar_plans.proofs.CopyArcs.{CopyArc, CopyTo, copies_on, copy_arcs}
 use Rattle.pulsar_plans.proofs.MultiArcs.{MultiCloseArc, MultiCloseEnd, MultiCloseTo, MultiSendArc, MultiSendEnd, MultiSendTo, multi_close_arcs, multi_send_arcs}
 use Rattle.pulsar_producer.proofs.Arcs.{BuildArc, BuildEnd, BuildTo, SendArc, StepSo, build_arcs, send_arcs}
 use Rattle.pulsar_calls.specs.Content.{Done}
@@ -307,6 +310,10 @@ pub data Arc : Plan → Outcome → Plan → Action → Type 0 where
   lives_rests : {w : Ways} {n : ℕ} {l : ℕ} → Arc (Serving w n (service.Reviving l)) (outcome.Word word.Lives) (Serving w n service.Resting) Rest
   over_closes : {w : Ways} {n : ℕ} {l : ℕ} →
       Arc (Serving w n (service.Reviving l)) (outcome.Word word.Over) (Serving w n service.Closing) (Ask l (words.CloseConsumerUnawaited n))
+  due_redelivers : {w : Ways} {n l : ℕ} {request : Words} →
+      Arc (Serving w n service.Resting) (outcome.Word (word.Asks l request)) (Serving w n service.Redelivering) (Ask l request)
+  redelivered_rests : {w : Ways} {n : ℕ} {u : Outcome} → Arc (Serving w n service.Redelivering) u (Serving w n service.Resting) Rest
+  copies_go : {w : Ways} {t : List ℕ} {s q : CopyState} {u : Outcome} {a : Action} → CopyArc w t s u q a → Arc (Copying w t s) u (Copying w t q) a
   departs_asks : {t n l : ℕ} → Arc (Departing t n) (outcome.GotLink l) (Asking (wanted l (words.CloseConsumer n) says.Nothing)) (Ask l (words.CloseConsumer n))
   departs_again : {t n : ℕ} → Arc (Departing t n) (outcome.Word word.Again) (Departing t n) (OfConsumer (consumer_ask.Find t))
 
@@ -337,12 +344,14 @@ resumes_on (wish.Wait delay) e = resumes_on_waits e
 
 abbrev pub is_server : Plan → Bool
 is_server (Serving w n s) = true
+is_server (Copying w t s) = true
 is_server _ = false
 
 -- what it ends with
 pub data End : Plan → Outcome → Verdict → Type 0 where
   ends : {p : Plan} {u : Outcome} (x : Said) → is_server p ≡ false → End p u (verdict Nothing x)
   over : {w : Ways} {n : ℕ} {s : Service} {u : Outcome} → End (Serving w n s) u (verdict Nothing Done)
+  copies_over : {w : Ways} {t : List ℕ} {s : CopyState} {u : Outcome} → End (Copying w t s) u (verdict Nothing Done)
   client_built : {l : ℕ} → End Building (outcome.GotLink l) (verdict Client Done)
   answers : {x : Wanted} {r : Reply} → End (Awaiting x) (outcome.Replied r) (replied x r)
   produced : {w : Ways} {o : ProducerOrder} {b : Build} {u : Outcome} {parts : List Built} → BuildEnd b (news_of u) (Ok parts) →
@@ -488,6 +497,7 @@ serving w n service.Resting (outcome.Word word.Due) = due_takes
 serving w n service.Resting (outcome.Word word.Lost) = lost_recalls
 serving w n service.Resting (outcome.Word (word.TopicEnded l)) = ended_closes
 serving w n service.Resting (outcome.Word word.Over) = over
+serving w n service.Resting (outcome.Word (word.Asks l request)) = due_redelivers
 serving w n service.Resting (outcome.Word _) = serving_rests refl
 serving w n service.Resting _ = serving_rests refl
 serving w n service.Taking (outcome.Word (word.Flow l permits)) = flow_asks
@@ -508,6 +518,12 @@ serving w n (service.Reviving l) (outcome.Word _) = serving_rests refl
 serving w n (service.Reviving l) _ = serving_rests refl
 serving w n service.Failing u = over
 serving w n service.Closing u = over
+serving w n service.Redelivering u = redelivered_rests
+
+-- THE COPIES OF ITS DEAD LETTERS
+
+copying : (w : Ways) (t : List ℕ) (s : CopyState) (u : Outcome) (x : PlanTransition) → CopyTo w t s u x → ToldTo (Copying w t s) u x
+copying w t s u (Stays (Copying w t q) a) (copies_on k) = copies_go k
 
 -- ALL
 
@@ -554,6 +570,8 @@ told_arcs (MultiClosing m s) u =
 told_arcs (Subscribing w o b) u =
     told_if (Subscribing w o b) u (overrides u) _ _ (λ h. ends _ refl) (λ h. subscribing_news w o b u (consumer_news_of u) refl)
 told_arcs (Serving w n s) u = told_if (Serving w n s) u (overrides u) _ _ (λ h. over) (λ h. serving w n s u)
+told_arcs (Copying w t s) u =
+    told_if (Copying w t s) u (overrides u) _ _ (λ h. copies_over) (λ h. copying w t s u (told_copy w t s u) (copy_arcs w t s u))
 told_arcs (Departing t n) (outcome.GotLink l) = departs_asks
 told_arcs (Departing t n) (outcome.Word word.Again) = departs_again
 told_arcs (Departing t n) (outcome.Word _) = ends _ refl
@@ -617,6 +635,7 @@ pub data Begun : Procedure → Plan → Action → Type 0 where
   begins_numbered : {w : Ways} {o : ConsumerOrder} (n : Named) →
       Begun (procedure.Subscribe w o) (Subscribing w o (consumer_build.Numbering n.name n.place)) (TakeNumber o.config.consumer_id)
   begins_serve : {w : Ways} {n : ℕ} → Begun (procedure.Serve w n) (Serving w n service.Resting) Rest
+  begins_copy : {w : Ways} {t : List ℕ} → Begun (procedure.Copy w t) (Copying w t copy.Resting) Rest
   begins_acknowledge : {l : ℕ} {request : Words} → Begun (procedure.Acknowledge (Some l) request) Acknowledging (Ask l request)
   begins_leave : {t n : ℕ} → Begun (procedure.Leave t n) (Departing t n) (OfConsumer (consumer_ask.Find t))
 
@@ -696,6 +715,7 @@ begins_arcs (procedure.MultiSend w m share t x) = begins_multi_send
 begins_arcs (procedure.MultiClose m t) = begins_multi_close
 begins_arcs (procedure.Subscribe w o) = begun_subscribing w o (search.names_begins w o.topic) refl
 begins_arcs (procedure.Serve w n) = begins_serve
+begins_arcs (procedure.Copy w t) = begins_copy
 begins_arcs (procedure.Acknowledge None request) = begins_not _
 begins_arcs (procedure.Acknowledge (Some l) request) = begins_acknowledge
 begins_arcs (procedure.Leave t n) = begins_leave

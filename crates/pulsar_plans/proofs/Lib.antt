@@ -1,3 +1,4 @@
 pub mod Saying
 pub mod MultiArcs
+pub mod CopyArcs
 pub mod Arcs

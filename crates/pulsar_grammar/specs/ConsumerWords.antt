@@ -1,5 +1,5 @@
 -- The words of a consumer, `NAME=VALUE` each: its topics, its subscription, its number and its name, and how it is made and reads.
-use Rattle.std.specs.Prelude.{ℕ, ℤ, nat_lt, Bool, true, false, ◌||◌, if◌then◌else◌, List, [], ◌∷◌, length, Option, Some, None, codes}
+use Rattle.std.specs.Prelude.{ℕ, ℤ, ◌+◌, ◌==◌, nat_lt, Bool, true, false, ◌||◌, if◌then◌else◌, List, [], ◌∷◌, drop, length, position as found, take, Option, Some, None, codes}
 use Rattle.std.specs.BTreeMap.{insert_entry}
 use Rattle.std.specs.Cmp.Lexicographic.{slice_cmp}
 use Rattle.std.specs.Option.{is_some}
@@ -7,7 +7,7 @@ use Rattle.std.specs.Ordering.{nat_cmp}
 use Rattle.std.specs.Str.{bytes_eq}
 use Rattle.pulsar_wire.specs.Field.{◌>>=◌}
 use Rattle.pulsar_messages.specs.Content.{ConsumerOptionsValues}
-use Rattle.pulsar_incoming.specs.Content.{ConsumerWanted, also_reads, no_consumer}
+use Rattle.pulsar_incoming.specs.Content.{ConsumerWanted, DeadLetterValues, also_reads, no_consumer}
 use Rattle.pulsar_grammar.specs.Choices.{flag, position, sub_type}
 use Rattle.pulsar_grammar.specs.Encoded.{id, schema_of}
 use Rattle.pulsar_grammar.specs.MessageWords.{cut, unless}
@@ -61,6 +61,25 @@ name d word =
 abbrev pub batch : Draft → List ℕ → Option Draft
 batch d word =
     unless (is_some d.wanted.batch_size) (small_number word >>= λ n. Some (record d { wanted = record d.wanted { batch_size = Some n } }))
+
+-- resend=NUMBER
+abbrev pub resend : Draft → List ℕ → Option Draft
+resend d word =
+    unless (is_some d.wanted.unacked_message_resend_delay)
+    (number word >>= λ n. Some (record d { wanted = record d.wanted { unacked_message_resend_delay = Some n } }))
+
+-- dead=NUMBER:TEXT: what stands in front of the first `:`, and behind it
+abbrev pub policy : List ℕ → Option DeadLetterValues
+policy word = do
+  at ← found (λ b. b == 58) word
+  count ← number (take at word)
+  topic ← text (drop (at + 1) word)
+  Some (record { max_redeliver_count = count; dead_letter_topic = topic })
+
+abbrev pub dead : Draft → List ℕ → Option Draft
+dead d word =
+    unless (is_some d.wanted.dead_letter_policy)
+    (policy word >>= λ p. Some (record d { wanted = record d.wanted { dead_letter_policy = Some p } }))
 
 -- queue=COUNT
 abbrev pub queue : Draft → List ℕ → Option Draft
@@ -146,6 +165,8 @@ part d n value =
     else if bytes_eq n (codes "id") then consumer_id d value
     else if bytes_eq n (codes "name") then name d value
     else if bytes_eq n (codes "batch") then batch d value
+    else if bytes_eq n (codes "resend") then resend d value
+    else if bytes_eq n (codes "dead") then dead d value
     else if bytes_eq n (codes "queue") then queue d value
     else option_part d n value
 

@@ -2,14 +2,15 @@
 
 ghost use Rattle.std.specs.Prelude.{◌≡◌, Some, IfOk, OnOk, map, string_bytes};
 ghost use Rattle.std.specs.Option.{option_map};
-ghost use Rattle.pulsar_incoming.specs.Content.{consumer_wanted};
-ghost use Rattle.pulsar_grammar.specs.ConsumerWords.{all, batch, blank, compacted, consumer, consumer_id, durable, initial_position, kind, level, limits_messages, meta, name, names_subscription, names_topics, namespace, one, option_part, part, priority, queue, says_more, schema, start, subscription, topic, who_subscribes, with_meta};
+ghost use Rattle.pulsar_incoming.specs.Content.{consumer_wanted, dead_letter_values};
+ghost use Rattle.pulsar_grammar.specs.ConsumerWords.{all, batch, blank, compacted, consumer, consumer_id, dead, durable, initial_position, kind, level, limits_messages, meta, name, names_subscription, names_topics, namespace, one, option_part, part, policy, priority, queue, resend, says_more, schema, start, subscription, topic, who_subscribes, with_meta};
 ghost use Rattle.pulsar_grammar.specs.Parsed.{consumer_draft_of, subscriber_of, taken_in};
 
 use crate::choice::{flag, position, sub_type};
 use crate::encoded::{id, schema_of};
 use crate::message::cut;
-use crate::word::{is, number, small_number, text};
+use crate::word::{find, is, number, small_number, text};
+use pulsar_incoming::DeadLetterPolicy;
 use pulsar_incoming::builder::ConsumerBuilder;
 use pulsar_messages::ConsumerOptions;
 use pulsar_wire::NoMemory;
@@ -142,6 +143,10 @@ fn part(alloc: Global, draft: &mut Draft, name: &[u8], value: &[u8]) -> Result<b
         with_name(alloc, draft, value)
     } else if is(name, "batch") {
         Ok(batch(draft, value))
+    } else if is(name, "resend") {
+        Ok(resend(draft, value))
+    } else if is(name, "dead") {
+        dead(alloc, draft, value)
     } else if is(name, "queue") {
         Ok(queue(draft, value))
     } else {
@@ -273,6 +278,53 @@ fn batch(draft: &mut Draft, word: &[u8]) -> bool
     };
     draft.builder.batch_size = Some(value);
     true
+}
+
+/// `resend=NUMBER`
+fn resend(draft: &mut Draft, word: &[u8]) -> bool
+    ensures { taken_in result (consumer_draft_of draft.new) ≡ resend (consumer_draft_of draft.old) word.now }
+{
+    if draft.builder.unacked_message_resend_delay.is_some() {
+        return false;
+    }
+    let Some(value) = number(word) else {
+        return false;
+    };
+    draft.builder.unacked_message_resend_delay = Some(value);
+    true
+}
+
+/// `dead=NUMBER:TEXT`
+fn dead(alloc: Global, draft: &mut Draft, word: &[u8]) -> Result<bool, NoMemory>
+    ensures { IfOk result (λ taken. taken_in taken (consumer_draft_of draft.new) ≡ dead (consumer_draft_of draft.old) word.now) }
+{
+    if draft.builder.dead_letter_policy.is_some() {
+        return Ok(false);
+    }
+    let Some(value) = policy(alloc, word)? else {
+        return Ok(false);
+    };
+    draft.builder.dead_letter_policy = Some(value);
+    Ok(true)
+}
+
+/// How often a message is given before it goes to this topic.
+fn policy(alloc: Global, word: &[u8]) -> Result<Option<DeadLetterPolicy>, NoMemory>
+    ensures { IfOk result (λ p. option_map dead_letter_values p ≡ policy word.now) }
+{
+    let Some(at) = find(word, b':') else {
+        return Ok(None);
+    };
+    let Some(count) = number(&word[..at]) else {
+        return Ok(None);
+    };
+    let Some(dead_letter_topic) = text(alloc, &word[at + 1..])? else {
+        return Ok(None);
+    };
+    Ok(Some(DeadLetterPolicy {
+        max_redeliver_count: count as usize,
+        dead_letter_topic,
+    }))
 }
 
 /// `queue=COUNT`

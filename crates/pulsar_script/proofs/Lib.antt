@@ -1,5 +1,6 @@
 pub mod WrittenLines
 pub mod WrittenRaw
+pub mod WrittenPolicies
 pub mod WrittenProducers
 pub mod WrittenConsumers
 pub mod WrittenMessages

@@ -15,11 +15,12 @@ use Rattle.pulsar_wire.specs.declared.commands.enumerations.InitialPosition.{Ini
 use Rattle.pulsar_wire.specs.declared.commands.enumerations.InitialPosition.TheVariants.{Latest, Earliest}
 use Rattle.pulsar_wire.specs.declared.commands.enumerations.SubType.{SubType}
 use Rattle.pulsar_messages.specs.Content.{ConsumerOptionsValues, Property, empty_consumer_options}
-use Rattle.pulsar_incoming.specs.Content.{ConsumerWanted, also_reads, no_consumer}
+use Rattle.pulsar_incoming.specs.Content.{ConsumerWanted, DeadLetterValues, also_reads, no_consumer}
 use Rattle.pulsar_grammar.specs.ConsumerWords.{Draft, all, blank, consumer, level, one, subscriber_in, who_subscribes, with_meta, with_options}
 use Rattle.pulsar_printing.specs.WordText.{word}
-use Rattle.pulsar_script.specs.WrittenRaw.{CanConsume, CanSubscribe, IsCount, IsId, IsNumber, IsProperty, IsSchema, IsText, IsUnsigned, Where, consumer_words, flag_word, id_word, meta_word, position_words, signed_word, sub_type_word, subscriber_words}
+use Rattle.pulsar_script.specs.WrittenRaw.{CanBeLeft, CanConsume, CanSubscribe, IsCount, IsId, IsNumber, IsProperty, IsSchema, IsText, IsUnsigned, Where, consumer_words, flag_word, id_word, meta_word, policy_word, position_words, signed_word, sub_type_word, subscriber_words}
 use Rattle.pulsar_script.proofs.WrittenLines.{IsWithinWord, decimal-within, hex-within, number-decimal, same-some, text-word, word-within}
+use Rattle.pulsar_script.proofs.WrittenPolicies.{policy-reads, policy-within}
 use Rattle.pulsar_script.proofs.WrittenProducers.{meta-within, schema-read, small}
 use Rattle.pulsar_script.proofs.WrittenRaw.{AreBelow, NoEquals, all-both, all-map, cut-at, flag-reads, flag-within, front-within, id-reads, id-within, more-below, none-below, small-reads, stands-last, tested-within, type-reads, type-within, word-free}
 
@@ -112,6 +113,20 @@ batch-said d (Some n) can none =
     let wide : n < 2 ^ 64 = omega (arith, can) in
     say-word d _ (codes "batch=" ++ decimal n) (front-within (codes "batch=") (decimal n) refl (decimal-within n wide))
     (rw (cut-at (codes "batch") (decimal n) (tested-free (codes "batch") refl), none, small-reads n can) refl)
+
+resend-said : (d : Draft) (o : Option ℕ) → Where IsNumber o → d.wanted.unacked_message_resend_delay ≡ None →
+    Say (map (λ n. codes "resend=" ++ decimal n) (option_to_list o)) d (record d { wanted = record d.wanted { unacked_message_resend_delay = o } })
+resend-said d None can none = record { is = ap (λ o. Some (record d { wanted = record d.wanted { unacked_message_resend_delay = o } })) none; within = tt }
+resend-said d (Some n) can none =
+    say-word d _ (codes "resend=" ++ decimal n) (front-within (codes "resend=") (decimal n) refl (decimal-within n can))
+    (rw (cut-at (codes "resend") (decimal n) (tested-free (codes "resend") refl), none, number-decimal n can) refl)
+
+dead-said : (d : Draft) (o : Option DeadLetterValues) → Where CanBeLeft o → d.wanted.dead_letter_policy ≡ None →
+    Say (map policy_word (option_to_list o)) d (record d { wanted = record d.wanted { dead_letter_policy = o } })
+dead-said d None can none = record { is = ap (λ o. Some (record d { wanted = record d.wanted { dead_letter_policy = o } })) none; within = tt }
+dead-said d (Some p) can none =
+    say-word d _ (policy_word p) (policy-within p can)
+    (rw (cut-at (codes "dead") (decimal p.max_redeliver_count ++ 58 ∷ word p.dead_letter_topic) (tested-free (codes "dead") refl), none, policy-reads p can) refl)
 
 queue-said : (d : Draft) (o : Option ℕ) → Where IsCount o → d.wanted.options.receiver_queue_size ≡ None →
     Say (map (λ n. codes "queue=" ++ decimal n) (option_to_list o)) d (with_options d (record d.wanted.options { receiver_queue_size = o }))
@@ -243,24 +258,23 @@ subscriber-reads name o can none =
 
 -- what has words of a consumer
 abbrev said : ConsumerWanted → ConsumerWanted
-said w = record w { topic_prefix = None; topic_refresh = None; dead_letter_policy = None; unacked_message_resend_delay = None }
+said w = record w { topic_prefix = None; topic_refresh = None }
 
 said-whole : (w : ConsumerWanted) → CanConsume w → said w ≡ w
 said-whole w can =
-    ap (λ o. record w { topic_prefix = o; topic_refresh = None; dead_letter_policy = None; unacked_message_resend_delay = None }) (sym can.no_prefix)
-    ∙ ap (λ o. record w { topic_refresh = o; dead_letter_policy = None; unacked_message_resend_delay = None }) (sym can.no_refresh)
-    ∙ ap (λ o. record w { dead_letter_policy = o; unacked_message_resend_delay = None }) (sym can.no_policy)
-    ∙ ap (λ o. record w { unacked_message_resend_delay = o }) (sym can.no_delay)
+    ap (λ o. record w { topic_prefix = o; topic_refresh = None }) (sym can.no_prefix) ∙ ap (λ o. record w { topic_refresh = o }) (sym can.no_refresh)
 
 consumer-said : (w : ConsumerWanted) → CanConsume w → Say (consumer_words w) blank (made (said w) w.consumer_name w.options)
 consumer-said w can =
-    say-both (say-both (say-both (say-both (say-both (say-both (say-both
+    say-both (say-both (say-both (say-both (say-both (say-both (say-both (say-both (say-both
     (topics-said blank w.topics can.topics)
     (sub-said _ w.subscription can.subscription refl))
     (kind-said _ w.subscription_type refl))
     (namespace-said _ w.namespace can.namespace refl))
     (number-said _ w.consumer_id can.consumer_id refl))
     (batch-said _ w.batch_size can.batch_size refl))
+    (resend-said _ w.unacked_message_resend_delay can.delay refl))
+    (dead-said _ w.dead_letter_policy can.policy refl))
     (queue-said _ w.options.receiver_queue_size can.queue_size refl))
     (subscriber-told (said w) w.consumer_name w.options can.subscribes)
 

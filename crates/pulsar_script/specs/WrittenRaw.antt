@@ -20,7 +20,7 @@ use Rattle.pulsar_wire.specs.declared.commands.topics.Mode.TheVariants.{Persiste
 use Rattle.pulsar_messages.specs.Content.{AuthenticationValues, ConsumerOptionsValues, ProducerMessageValues, ProducerOptionsValues, Property}
 use Rattle.pulsar_messages.specs.declared.routing_policy.RoutingPolicy.{RoutingPolicy}
 use Rattle.pulsar_messages.specs.declared.routing_policy.RoutingPolicy.TheVariants.{RoundRobin, Single, Custom}
-use Rattle.pulsar_incoming.specs.Content.{ConsumerWanted}
+use Rattle.pulsar_incoming.specs.Content.{ConsumerWanted, DeadLetterValues}
 use Rattle.pulsar_outgoing.specs.Wanted.{ProducerWanted}
 use Rattle.pulsar_messages.specs.Words.{Words, SendPing, SendPong, AuthChallenge, LookupTopic, LookupPartitionedTopic, GetTopicsOfNamespace, GetSchema, CreateProducer, Send, CloseProducer, Subscribe, SendFlow, SendAck, SendRedeliver, Seek, GetLastMessageId, GetConsumerStats, Unsubscribe, CloseConsumer, CloseConsumerUnawaited}
 use Rattle.pulsar_printing.specs.WordText.{word}
@@ -123,6 +123,10 @@ subscriber_words name o =
     ++ map meta_word o.metadata
     ++ map (λ s. codes "schema=" ++ encode_lower (spelling schema s)) (option_to_list o.schema)
 
+-- how often a message is given before it goes to which topic
+abbrev pub policy_word : DeadLetterValues → List ℕ
+policy_word p = codes "dead=" ++ decimal p.max_redeliver_count ++ 58 ∷ word p.dead_letter_topic
+
 -- and what it reads
 abbrev pub consumer_words : ConsumerWanted → List (List ℕ)
 consumer_words w =
@@ -132,6 +136,8 @@ consumer_words w =
     ++ map (λ t. codes "namespace=" ++ word t) (option_to_list w.namespace)
     ++ map (λ n. codes "id=" ++ decimal n) (option_to_list w.consumer_id)
     ++ map (λ n. codes "batch=" ++ decimal n) (option_to_list w.batch_size)
+    ++ map (λ n. codes "resend=" ++ decimal n) (option_to_list w.unacked_message_resend_delay)
+    ++ map policy_word (option_to_list w.dead_letter_policy)
     ++ map (λ n. codes "queue=" ++ decimal n) (option_to_list w.options.receiver_queue_size)
     ++ subscriber_words w.consumer_name w.options
 
@@ -259,7 +265,12 @@ pub record CanSubscribe (called : Option (List ℕ)) (o : ConsumerOptionsValues)
   pub ordered : IsStrictlySortedBy (slice_cmp nat_cmp) (map (λ p. p.0) o.metadata)
   pub schema : Where IsSchema o.schema
 
--- And those of a consumer. No word names a prefix of its topics, or says what becomes of messages that are not acknowledged.
+-- where a message goes that was given so often
+pub record CanBeLeft (p : DeadLetterValues) : Type 0 where
+  pub max_redeliver_count : IsNumber p.max_redeliver_count
+  pub dead_letter_topic : IsText p.dead_letter_topic
+
+-- And those of a consumer. No word names a prefix of its topics.
 pub record CanConsume (w : ConsumerWanted) : Type 0 where
   pub topics : AllByRecursion IsText w.topics
   pub subscription : Where IsText w.subscription
@@ -270,8 +281,8 @@ pub record CanConsume (w : ConsumerWanted) : Type 0 where
   pub subscribes : CanSubscribe w.consumer_name w.options
   pub no_prefix : w.topic_prefix ≡ None
   pub no_refresh : w.topic_refresh ≡ None
-  pub no_policy : w.dead_letter_policy ≡ None
-  pub no_delay : w.unacked_message_resend_delay ≡ None
+  pub policy : Where CanBeLeft w.dead_letter_policy
+  pub delay : Where IsNumber w.unacked_message_resend_delay
 
 -- on one connection nothing is said of how many messages a consumer holds
 abbrev pub CanBeSaid : Words → Type 0

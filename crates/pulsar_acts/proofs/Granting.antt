@@ -62,14 +62,14 @@ pub left_is : (o : Chosen) (who : Who) (m : Makes) (ps : Producers) →
       topics = λ n. row_after topic_after (topic_of (building_of m) who o n) false [] (ps.topics n);
     }
 left_is o (who.Call t) m ps = ap (freed t) (made_is o (who.Call t) m ps)
-left_is o (who.Consumer n t) m ps = made_is o (who.Consumer n t) m ps
+left_is o (who.Consumer n t key) m ps = made_is o (who.Consumer n t key) m ps
 left_is o (who.Producer n) m ps = made_is o (who.Producer n) m ps
 
 -- and consumers
 joins_is : (who : Who) (m : Member) (cs : Consumers) →
     joins_as who m cs ≡ record (listed_as who cs) { rows = λ t. row_after member_by (member_of (Some m) who t) false [] (cs.rows t) }
 joins_is (who.Call t) m cs = asking.joined_is t m cs
-joins_is (who.Consumer n t) m cs = refl
+joins_is (who.Consumer n t key) m cs = refl
 joins_is (who.Producer n) m cs = refl
 
 rows_are : (live : ℕ → Option Seat) (who : Who) (m : Makes) (cs : Consumers) →
@@ -85,5 +85,5 @@ pub held_is : (live : ℕ → Option Seat) (who : Who) (m : Makes) (cs : Consume
       rows = λ t. row_after member_by (member_of (member_made live cs.next_key m) who t) false [] (cs.rows t);
     }
 held_is live (who.Call t) m cs = ap (consumer.freed t) (rows_are live (who.Call t) m cs)
-held_is live (who.Consumer n t) m cs = rows_are live (who.Consumer n t) m cs
+held_is live (who.Consumer n t key) m cs = rows_are live (who.Consumer n t key) m cs
 held_is live (who.Producer n) m cs = rows_are live (who.Producer n) m cs

@@ -7,7 +7,7 @@ use Rattle.pulsar_calls.specs.declared.act.Action.TheVariants.{Ask}
 use Rattle.pulsar_calls.specs.declared.act.Part.TheVariants.{ToLink, Polls}
 use Rattle.pulsar_calls.specs.declared.act.Who.{Who}
 use Rattle.pulsar_links.specs.declared.addresses.Pause.{Pause}
-use Rattle.pulsar_calls.specs.declared.act.Who.TheVariants.{Call, Consumer, Copy, Producer}
+use Rattle.pulsar_calls.specs.declared.act.Who.TheVariants.{Call, Consumer, Producer}
 use Rattle.pulsar_calls.specs.Content.{Said, Shown, Ends, Retry}
 use Rattle.pulsar_links.specs.Links as links
 use Rattle.pulsar_consumer_table.specs.Consumers.{polled}
@@ -18,8 +18,7 @@ use Rattle.pulsar_links.specs.LinkEffects.{given_at, asked_at, connects}
 -- calls
 abbrev pub ends : Who → Said → List Shown
 ends (Call ticket) said = Ends ticket said ∷ []
-ends (Consumer number ticket) said = []
-ends (Copy number ticket key) said = []
+ends (Consumer number ticket key) said = []
 ends (Producer number) said = []
 
 -- an attempt that is to follow, with its delay

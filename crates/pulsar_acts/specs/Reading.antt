@@ -23,7 +23,7 @@ use Rattle.pulsar_calls.specs.declared.act.Procedure.TheVariants as procedure
 use Rattle.pulsar_calls.specs.declared.act.CallRefusal.{CallRefusal}
 use Rattle.pulsar_calls.specs.declared.act.CallRefusal.TheVariants as refusal
 use Rattle.pulsar_calls.specs.declared.act.Who.{Who}
-use Rattle.pulsar_calls.specs.declared.act.Who.TheVariants.{Consumer, Copy}
+use Rattle.pulsar_calls.specs.declared.act.Who.TheVariants.{Consumer}
 use Rattle.pulsar_calls.specs.declared.act.Word.{Word}
 use Rattle.pulsar_calls.specs.declared.act.Word.TheVariants as word
 use Rattle.pulsar_calls.specs.declared.content.Joining.{Joining}
@@ -78,14 +78,14 @@ numbering_said Spent = outcome.Refused Exhausted
 
 -- A consumer is served by a plan of its own, which begins with it.
 abbrev pub serves : Who → Joining → Ways → Act
-serves w j ways = Starts (Consumer j.number (ticket_of w)) (procedure.Serve ways j.number)
+serves w j ways = Starts (Consumer j.number (ticket_of w) 0) (procedure.Serve ways j.number)
 
 abbrev pub serves_by : Option Ways → Who → Joining → List Act
 serves_by ways w j = map (serves w j) (option_to_list ways)
 
 -- The copies of its dead letters are sent by another, where it is said to which topic.
 abbrev pub copies : (key : ℕ) → Who → Joining → Ways → DeadLetterValues → Act
-copies key w j ways p = Starts (Copy j.number (ticket_of w) key) (procedure.Copy ways p.dead_letter_topic)
+copies key w j ways p = Starts (Consumer j.number (ticket_of w) key) (procedure.Copy ways p.dead_letter_topic)
 
 abbrev pub copies_by : Option Ways → (key : ℕ) → Who → Joining → List Act
 copies_by None key w j = []

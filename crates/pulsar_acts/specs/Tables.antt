@@ -137,8 +137,7 @@ unused_act cs ps l = if is_unused l cs ps then Comes (ToLink l (Ends Idles)) ∷
 
 abbrev pub joins_as : Who → Member → Consumers → Consumers
 joins_as (who.Call t) m cs = consumer.joined t m cs
-joins_as (who.Consumer n t) m cs = cs
-joins_as (who.Copy n t key) m cs = cs
+joins_as (who.Consumer n t key) m cs = cs
 joins_as (who.Producer n) m cs = cs
 
 abbrev pub joins_some : Who → Option Member → Consumers → Consumers

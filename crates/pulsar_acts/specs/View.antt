@@ -438,8 +438,7 @@ checked_first n t (Some moment) alarms = set (Redelivery n t) moment alarms
 abbrev pub alarms_made : Who → Option Member → List (Alarm × ℕ) → List (Alarm × ℕ)
 alarms_made w None alarms = alarms
 alarms_made (who.Call t) (Some m) alarms = checked_first m.seen.number t m.seen.engine.check alarms
-alarms_made (who.Consumer n t) (Some m) alarms = alarms
-alarms_made (who.Copy n t key) (Some m) alarms = alarms
+alarms_made (who.Consumer n t key) (Some m) alarms = alarms
 alarms_made (who.Producer n) (Some m) alarms = alarms
 
 -- What is stored waits from its first message on, so long as its producer says. Where nothing is stored any longer nothing waits.
@@ -488,8 +487,7 @@ keyed_for (MultiProducer name settings) cs = cs
 -- and that is listed
 abbrev pub listed_as : Who → Consumers → Consumers
 listed_as (who.Call t) cs = consumer.listed t cs
-listed_as (who.Consumer n t) cs = cs
-listed_as (who.Copy n t key) cs = cs
+listed_as (who.Consumer n t key) cs = cs
 listed_as (who.Producer n) cs = cs
 
 abbrev pub consumers_listed : Who → Makes → Consumers → Consumers
@@ -503,8 +501,7 @@ consumers_listed w (MultiProducer name settings) cs = cs
 -- and a call that has ended holds no number
 abbrev pub consumers_left : Who → Consumers → Consumers
 consumers_left (who.Call t) cs = consumer.freed t cs
-consumers_left (who.Consumer n t) cs = cs
-consumers_left (who.Copy n t key) cs = cs
+consumers_left (who.Consumer n t key) cs = cs
 consumers_left (who.Producer n) cs = cs
 
 -- WHAT IS DONE TO A CONSUMER
@@ -551,8 +548,7 @@ member_acts v t _ = []
 abbrev pub member_of : Option Member → Who → (ticket : ℕ) → Option Member
 member_of None w t = None
 member_of (Some m) (who.Call u) t = if t == u then Some m else None
-member_of (Some m) (who.Consumer n u) t = None
-member_of (Some m) (who.Copy n u key) t = None
+member_of (Some m) (who.Consumer n u key) t = None
 member_of (Some m) (who.Producer n) t = None
 
 abbrev pub member_born : View → (ticket : ℕ) → Act → Option Member
@@ -596,8 +592,7 @@ producers_listed o who (MultiProducer name settings) ps = with_multi (rank who).
 -- and a call that has ended makes none any more
 abbrev pub producers_left : Who → Producers → Producers
 producers_left (who.Call t) ps = freed t ps
-producers_left (who.Consumer n t) ps = ps
-producers_left (who.Copy n t key) ps = ps
+producers_left (who.Consumer n t key) ps = ps
 producers_left (who.Producer n) ps = ps
 
 -- and so does one whose copy could not be sent

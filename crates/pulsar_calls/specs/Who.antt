@@ -1,27 +1,24 @@
 -- Those that have plans, and the order in which a cause serves them.
 use Rattle.std.specs.Prelude.{ℕ, ◌==◌, ◌-◌, ◌^◌, nat_lt, Bool, ◌&&◌, if◌then◌else◌}
 use Rattle.pulsar_calls.specs.declared.act.Who.{Who}
-use Rattle.pulsar_calls.specs.declared.act.Who.TheVariants.{Call, Consumer, Copy, Producer}
+use Rattle.pulsar_calls.specs.declared.act.Who.TheVariants.{Call, Consumer, Producer}
 
 -- their kind, and their number: calls by ticket, then consumers, then producers; a consumer goes before the copies of its dead letters
 abbrev pub rank : Who → ℕ × ℕ × ℕ
 rank (Call ticket) = (0, ticket, 0)
-rank (Consumer number ticket) = (1, number, 0)
-rank (Copy number ticket key) = (1, number, 1)
+rank (Consumer number ticket key) = (1, number, key)
 rank (Producer number) = (2, number, 0)
 
 -- the ticket of the call that made it: several consumers may have had one number, one after the other
 abbrev pub ticket_of : Who → ℕ
 ticket_of (Call ticket) = ticket
-ticket_of (Consumer number ticket) = ticket
-ticket_of (Copy number ticket key) = ticket
+ticket_of (Consumer number ticket key) = ticket
 ticket_of (Producer number) = 0
 
--- the key of the consumer whose dead letters are copied: none that has any has the key 0
+-- the key of the consumer whose dead letters are copied; the plan of a consumer itself has the key 0, and no consumer that has dead letters
 abbrev pub key_of : Who → ℕ
 key_of (Call ticket) = 0
-key_of (Consumer number ticket) = 0
-key_of (Copy number ticket key) = key
+key_of (Consumer number ticket key) = key
 key_of (Producer number) = 0
 
 abbrev pub has_kind_of : Who → Who → Bool
@@ -42,8 +39,7 @@ behind_all = 2 ^ 64 - 1
 
 abbrev pub turn_of : Who → ℕ
 turn_of (Call ticket) = ticket
-turn_of (Consumer number ticket) = behind_all
-turn_of (Copy number ticket key) = behind_all
+turn_of (Consumer number ticket key) = behind_all
 turn_of (Producer number) = behind_all
 
 -- who has this turn at the topic producer of a number

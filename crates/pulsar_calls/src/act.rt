@@ -25,14 +25,9 @@ pub type FromMulti = Boxed<MultiSaid>;
 pub enum Who {
     /// The call of this ticket.
     Call(u64),
-    /// The consumer of this number on the wire, which the call of this ticket built. Another one may have the number once it has ended.
-    Consumer { number: u64, ticket: u64 },
-    /// The copies that this consumer has made of its dead letters. The key tells it from others that have had its number and its ticket.
-    Copy {
-        number: u64,
-        ticket: u64,
-        key: u64,
-    },
+    /// The consumer of this number on the wire, which the call of this ticket built. Another one may have the number once it has ended. It has two
+    /// plans: the key 0 is its own, and its key is that of the copies of its dead letters, of no other one, also later.
+    Consumer { number: u64, ticket: u64, key: u64 },
     /// The topic producer of this number, which sends batches.
     Producer(u64),
 }

@@ -11,12 +11,11 @@ pub fn rank(who: Who) -> (u64, u64, u64)
 {
     match who {
         Who::Call(ticket) => (0, ticket, 0),
-        Who::Consumer { number, ticket: _ } => (1, number, 0),
-        Who::Copy {
+        Who::Consumer {
             number,
             ticket: _,
-            key: _,
-        } => (1, number, 1),
+            key,
+        } => (1, number, key),
         Who::Producer(number) => (2, number, 0),
     }
 }
@@ -30,7 +29,7 @@ pub fn turn_of(who: Who) -> u64
 {
     match who {
         Who::Call(ticket) => ticket,
-        Who::Consumer { .. } | Who::Copy { .. } | Who::Producer(_) => BEHIND_ALL,
+        Who::Consumer { .. } | Who::Producer(_) => BEHIND_ALL,
     }
 }
 
@@ -51,8 +50,7 @@ pub fn ticket_of(who: Who) -> u64
 {
     match who {
         Who::Call(ticket)
-        | Who::Consumer { number: _, ticket }
-        | Who::Copy {
+        | Who::Consumer {
             number: _,
             ticket,
             key: _,
@@ -61,17 +59,17 @@ pub fn ticket_of(who: Who) -> u64
     }
 }
 
-/// The key of the consumer whose dead letters it copies. No consumer that has any has the key 0.
+/// The key of the consumer whose dead letters it copies, and else 0. No consumer that has any has the key 0.
 pub fn key_of(who: Who) -> u64
     ensures { result ≡ key_of who }
 {
     match who {
-        Who::Copy {
+        Who::Consumer {
             number: _,
             ticket: _,
             key,
         } => key,
-        Who::Call(_) | Who::Consumer { .. } | Who::Producer(_) => 0,
+        Who::Call(_) | Who::Producer(_) => 0,
     }
 }
 

@@ -89,7 +89,7 @@ number_at None = 0
 number_at (Some m) = m.seen.number
 
 abbrev pub who_of : (ticket : ℕ) → Member → Who
-who_of t m = who.Consumer m.seen.number t
+who_of t m = who.Consumer m.seen.number t 0
 
 -- what is seen of it where it was built, by no raw call
 abbrev pub built_at : Option Member → Option Seen

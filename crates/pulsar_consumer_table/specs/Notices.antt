@@ -34,7 +34,7 @@ due_at t row = flat_map (due_to t) (option_to_list row)
 
 -- who copies its dead letters, and where a copy is due
 abbrev pub copies_of : (ticket : ℕ) → Member → Who
-copies_of t m = who.Copy m.seen.number t m.seen.key
+copies_of t m = who.Consumer m.seen.number t m.seen.key
 
 abbrev pub copy_if : Bool → (ticket : ℕ) → Member → List Notice
 copy_if is_so t m = if is_so then notice (copies_of t m) (outcome.Word word.CopyDue) ∷ [] else []

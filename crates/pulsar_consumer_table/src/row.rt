@@ -74,6 +74,7 @@ impl ConsumerRow {
         Who::Consumer {
             number: self.consumer.inner.number(),
             ticket,
+            key: 0,
         }
     }
 
@@ -81,7 +82,7 @@ impl ConsumerRow {
     pub fn copies(&self, ticket: u64) -> Who
         ensures { result ≡ copies_of ticket (member_in self.now) }
     {
-        Who::Copy {
+        Who::Consumer {
             number: self.consumer.inner.number(),
             ticket,
             key: self.consumer.inner.key(),

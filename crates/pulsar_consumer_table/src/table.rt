@@ -165,12 +165,7 @@ impl Consumers {
     }
 
     /// Consumers hear what comes to a link at this moment: what they are told.
-    pub fn hear(
-        &mut self,
-        clock: u64,
-        link: u64,
-        arrival: Arrival,
-    ) -> Result<Vec<Notice>, NoMemory>
+    pub fn hear(&mut self, clock: u64, link: u64, arrival: Arrival) -> Result<Vec<Notice>, NoMemory>
         ensures notices { IfOk result (λ ns. ns.items ≡ over_rows (heard_at clock link arrival) (consumers_in self.old.rows self.old.numbers)) }
         ensures after { OnOk result (consumers_in self.new.rows self.new.numbers
             ≡ all_changed (hears clock link arrival) (consumers_in self.old.rows self.old.numbers)) }

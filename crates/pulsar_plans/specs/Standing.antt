@@ -4,15 +4,11 @@ use Rattle.std.specs.BTreeMap.{get}
 use Rattle.std.specs.Ordering.{nat_cmp, ordering_then}
 use Rattle.std.specs.declared.cmp.Ordering.{Ordering}
 use Rattle.pulsar_calls.specs.declared.act.Who.{Who}
-use Rattle.pulsar_calls.specs.declared.act.Who.TheVariants.{Call, Consumer, Copy, Producer}
+use Rattle.pulsar_calls.specs.declared.act.Who.TheVariants.{Call, Consumer, Producer}
 use Rattle.pulsar_plans.specs.declared.plan.Plan.{Plan}
 use Rattle.pulsar_plans.specs.declared.table.Plans.{Plans}
 
--- consumers stand by number, and then by ticket
-abbrev pub pair_cmp : ℕ × ℕ → ℕ × ℕ → Ordering
-pair_cmp a b = ordering_then (nat_cmp a.0 b.0) (nat_cmp a.1 b.1)
-
--- and the copies of their dead letters by number, ticket and key
+-- consumers stand by number, ticket and key
 abbrev pub triple_cmp : ℕ × ℕ × ℕ → ℕ × ℕ × ℕ → Ordering
 triple_cmp a b = ordering_then (ordering_then (nat_cmp a.0 b.0) (nat_cmp a.1 b.1)) (nat_cmp a.2 b.2)
 
@@ -21,6 +17,5 @@ is_at_place p q = (p.0 == q.0) && ((p.1 == q.1) && (p.2 == q.2))
 
 abbrev pub stand_of : Plans → Who → Option Plan
 stand_of p (Call ticket) = get nat_cmp p.calls ticket
-stand_of p (Consumer number ticket) = get pair_cmp p.consumers (number, ticket)
-stand_of p (Copy number ticket key) = get triple_cmp p.copies (number, ticket, key)
+stand_of p (Consumer number ticket key) = get triple_cmp p.consumers (number, ticket, key)
 stand_of p (Producer number) = get nat_cmp p.producers number

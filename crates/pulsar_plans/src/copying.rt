@@ -216,7 +216,12 @@ fn in_settling(ways: Ways, topic: Text, outcome: Outcome) -> PlanTransition
 {
     match outcome {
         Outcome::Word(Word::Asks { link, request }) => {
-            stays(ways, topic, CopyState::Asking, Action::Ask { link, request })
+            stays(
+                ways,
+                topic,
+                CopyState::Asking,
+                Action::Ask { link, request },
+            )
         }
         Outcome::Word(Word::NoAsk) => begins(ways, topic),
         _ => stays(ways, topic, CopyState::Settling, Action::Rest),

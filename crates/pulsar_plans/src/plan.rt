@@ -9,8 +9,8 @@ use crate::copying::CopyState;
 use crate::service::Service;
 use crate::states::{BatchState, BuildState, ConsumerState, MultiState, SearchState, SendState};
 use crate::{
-    answers, batches, copying, departing, gathering, multi, producing, search, sends, serving, subscribing,
-    visiting,
+    answers, batches, copying, departing, gathering, multi, producing, search, sends, serving,
+    subscribing, visiting,
 };
 use pulsar_addresses::content::{Refusal as Failure, Text};
 use pulsar_calls::act::{

@@ -3,7 +3,7 @@
 ghost use Rattle.std.specs.Prelude.{◌≡◌, ℕ, ◌==◌, ◌&&◌, OnOk, None, if◌then◌else◌};
 ghost use Rattle.std.specs.BTreeMap.{get};
 ghost use Rattle.std.specs.Ordering.{nat_cmp};
-ghost use Rattle.pulsar_plans.specs.Standing.{is_at_place, pair_cmp, stand_of, triple_cmp};
+ghost use Rattle.pulsar_plans.specs.Standing.{is_at_place, stand_of, triple_cmp};
 ghost use Rattle.pulsar_calls.specs.Who.{is_same};
 ghost use Rattle.pulsar_calls.specs.declared.act.Who.{Who};
 
@@ -17,10 +17,8 @@ use std::collections::BTreeMap;
 pub struct Plans {
     /// Those of the calls, by ticket.
     pub calls: BTreeMap<u64, Plan>,
-    /// Those of the consumers, by number and ticket.
-    pub consumers: BTreeMap<(u64, u64), Plan>,
-    /// Those of the copies of dead letters, by number, ticket and key of the consumers.
-    pub copies: BTreeMap<(u64, u64, u64), Plan>,
+    /// Those of the consumers, and of the copies of their dead letters, by number, ticket and key.
+    pub consumers: BTreeMap<(u64, u64, u64), Plan>,
     /// Those of the topic producers that send batches, by number.
     pub producers: BTreeMap<u64, Plan>,
 }
@@ -30,7 +28,6 @@ impl Drop for Plans {
         let Plans {
             calls: _,
             consumers: _,
-            copies: _,
             producers: _,
         } = self;
     }
@@ -43,7 +40,6 @@ impl Plans {
         Plans {
             calls: BTreeMap::new(alloc),
             consumers: BTreeMap::new(alloc),
-            copies: BTreeMap::new(alloc),
             producers: BTreeMap::new(alloc),
         }
     }
@@ -55,12 +51,11 @@ impl Plans {
     {
         match who {
             Who::Call(ticket) => self.calls.remove(&ticket),
-            Who::Consumer { number, ticket } => remove_pair(&mut self.consumers, (number, ticket)),
-            Who::Copy {
+            Who::Consumer {
                 number,
                 ticket,
                 key,
-            } => remove_copies(&mut self.copies, (number, ticket, key)),
+            } => remove_at(&mut self.consumers, (number, ticket, key)),
             Who::Producer(number) => self.producers.remove(&number),
         }
     }
@@ -71,14 +66,11 @@ impl Plans {
     {
         match who {
             Who::Call(ticket) => set_in(&mut self.calls, ticket, plan),
-            Who::Consumer { number, ticket } => {
-                set_pair(&mut self.consumers, (number, ticket), plan)
-            }
-            Who::Copy {
+            Who::Consumer {
                 number,
                 ticket,
                 key,
-            } => set_copies(&mut self.copies, (number, ticket, key), plan),
+            } => set_at(&mut self.consumers, (number, ticket, key), plan),
             Who::Producer(number) => set_in(&mut self.producers, number, plan),
         }
     }
@@ -94,28 +86,7 @@ fn set_in(plans: &mut BTreeMap<u64, Plan>, number: u64, plan: Option<Plan>) -> R
     Ok(())
 }
 
-fn set_pair(
-    plans: &mut BTreeMap<(u64, u64), Plan>,
-    pair: (u64, u64),
-    plan: Option<Plan>,
-) -> Result<(), NoMemory>
-    ensures { OnOk result ((p : ℕ × ℕ) → get pair_cmp plans.new p ≡ (if (p.0 == pair.0) && (p.1 == pair.1) then plan else get pair_cmp plans.old p)) }
-{
-    match plan {
-        None => drop(plans.remove(&pair)),
-        Some(plan) => drop(plans.insert(pair, plan)?),
-    }
-    Ok(())
-}
-
-fn remove_pair(plans: &mut BTreeMap<(u64, u64), Plan>, pair: (u64, u64)) -> Option<Plan>
-    ensures plan { result ≡ get pair_cmp plans.old pair }
-    ensures left { (p : ℕ × ℕ) → get pair_cmp plans.new p ≡ (if (p.0 == pair.0) && (p.1 == pair.1) then None else get pair_cmp plans.old p) }
-{
-    plans.remove(&pair)
-}
-
-fn set_copies(
+fn set_at(
     plans: &mut BTreeMap<(u64, u64, u64), Plan>,
     place: (u64, u64, u64),
     plan: Option<Plan>,
@@ -129,10 +100,7 @@ fn set_copies(
     Ok(())
 }
 
-fn remove_copies(
-    plans: &mut BTreeMap<(u64, u64, u64), Plan>,
-    place: (u64, u64, u64),
-) -> Option<Plan>
+fn remove_at(plans: &mut BTreeMap<(u64, u64, u64), Plan>, place: (u64, u64, u64)) -> Option<Plan>
     ensures plan { result ≡ get triple_cmp plans.old place }
     ensures left { (p : ℕ × ℕ × ℕ) → get triple_cmp plans.new p ≡ (if is_at_place p place then None else get triple_cmp plans.old p) }
 {

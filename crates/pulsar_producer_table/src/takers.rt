@@ -13,12 +13,17 @@ pub fn taker_of(who: Who) -> Option<Taker>
 {
     match who {
         Who::Call(ticket) => Some(Taker::Call(ticket)),
-        Who::Copy {
+        Who::Consumer {
             number,
             ticket,
             key,
-        } => Some(copy(number, ticket, key)),
-        Who::Consumer { .. } | Who::Producer(_) => None,
+        } => {
+            if key == 0 {
+                return None;
+            }
+            Some(copy(number, ticket, key))
+        }
+        Who::Producer(_) => None,
     }
 }
 
@@ -37,12 +42,17 @@ pub fn turn_taker(who: Who) -> Taker
     ensures { result ≡ turn_taker who }
 {
     match who {
-        Who::Copy {
+        Who::Consumer {
             number,
             ticket,
             key,
-        } => copy(number, ticket, key),
-        Who::Call(_) | Who::Consumer { .. } | Who::Producer(_) => Taker::Call(turn_of(who)),
+        } => {
+            if key == 0 {
+                return Taker::Call(turn_of(who));
+            }
+            copy(number, ticket, key)
+        }
+        Who::Call(_) | Who::Producer(_) => Taker::Call(turn_of(who)),
     }
 }
 
@@ -56,7 +66,7 @@ pub(crate) fn who_of(taker: Taker) -> Who
             consumer,
             ticket,
             key,
-        } => Who::Copy {
+        } => Who::Consumer {
             number: consumer,
             ticket,
             key,
@@ -74,7 +84,7 @@ pub(crate) fn who_at(number: u64, taker: Taker) -> Who
             consumer,
             ticket,
             key,
-        } => Who::Copy {
+        } => Who::Consumer {
             number: consumer,
             ticket,
             key,

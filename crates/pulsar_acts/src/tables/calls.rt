@@ -457,7 +457,7 @@ fn tell_end(who: Who, said: Said, out: &mut Vec<Effect>) -> Result<(), NoMemory>
             ticket,
             answer: said.into_inner(),
         })?,
-        Who::Consumer { .. } | Who::Copy { .. } | Who::Producer(_) => drop(said),
+        Who::Consumer { .. } | Who::Producer(_) => drop(said),
     }
     Ok(())
 }

@@ -122,7 +122,7 @@ impl Tables {
                 self.checks_first(ticket, &row)?;
                 self.consumers.join(ticket, row)
             }
-            Who::Consumer { .. } | Who::Copy { .. } | Who::Producer(_) => {
+            Who::Consumer { .. } | Who::Producer(_) => {
                 drop(row);
                 Ok(())
             }
@@ -159,7 +159,7 @@ impl Tables {
                 self.consumers.free(ticket);
                 self.producers.free(ticket);
             }
-            Who::Consumer { .. } | Who::Copy { .. } | Who::Producer(_) => {}
+            Who::Consumer { .. } | Who::Producer(_) => {}
         }
     }
 
@@ -193,7 +193,11 @@ impl Tables {
         let mut acts = VecDeque::new(self.alloc);
         if let Some(ways) = self.settings.ways(self.alloc)? {
             acts.push_back(Deed::Starts {
-                who: Who::Consumer { number, ticket },
+                who: Who::Consumer {
+                    number,
+                    ticket,
+                    key: 0,
+                },
                 procedure: Procedure::Serve { ways, number },
             })?;
         }
@@ -213,7 +217,7 @@ impl Tables {
             return Ok(());
         };
         let topic = Text::new(policy.dead_letter_topic.clone()?);
-        let copier = Who::Copy {
+        let copier = Who::Consumer {
             number: joining.number,
             ticket: ticket_of(who),
             key: self.consumers.next_key(),

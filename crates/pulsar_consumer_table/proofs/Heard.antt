@@ -14,18 +14,18 @@ use Rattle.pulsar_calls.specs.declared.act.Arrival.{Arrival}
 use Rattle.pulsar_calls.specs.declared.act.Arrival.TheVariants.{Bad, Gives, Nothing, Passes, Readied, Settles}
 use Rattle.pulsar_calls.specs.declared.act.Notice.{Notice}
 use Rattle.pulsar_calls.specs.declared.act.Outcome.TheVariants as outcome
-use Rattle.pulsar_calls.specs.declared.act.Who.TheVariants.{Consumer}
+use Rattle.pulsar_calls.specs.declared.act.Who.TheVariants.{Consumer, Copy}
 use Rattle.pulsar_calls.specs.declared.act.Word.{Word}
 use Rattle.pulsar_calls.specs.declared.act.Word.TheVariants as word
 use Rattle.pulsar_consumer.specs.Frames.{frame_in}
 use Rattle.pulsar_consumer.specs.Topic as topic
-use Rattle.pulsar_consumer.specs.Topic.{Hears, Ends, Loses, is_due as is_flow_due, lives_on, resubscribes}
+use Rattle.pulsar_consumer.specs.Topic.{Hears, Ends, IsAt, Loses, is_due as is_flow_due, lives_on, resubscribes}
 use Rattle.pulsar_incoming.specs.declared.polled.Ending.TheVariants.{Closed, TopicEnded}
-use Rattle.pulsar_consumer_table.specs.Consumers.{Consumers, Member, all_changed, at_row, closes, ends_on, hears, hears_frame, lives_at, lives_with, member_after, word_if, word_of_close, word_of_frame}
+use Rattle.pulsar_consumer_table.specs.Consumers.{Consumers, Member, all_changed, at_row, closes, copy_of_frame, ends_on, hears, hears_frame, hears_message, is_copy_due, lives_at, lives_with, member_after, word_if, word_of_close, word_of_frame}
 use Rattle.pulsar_calls.specs.Places.{is_listed}
 use Rattle.pulsar_calls.specs.Notices.{notice}
-use Rattle.pulsar_consumer_table.specs.Notices.{heard_at, word_to}
-use Rattle.pulsar_consumer_table.proofs.Numbered.{frame_number}
+use Rattle.pulsar_consumer_table.specs.Notices.{copy_if, heard_at, hears_to, word_to}
+use Rattle.pulsar_consumer_table.proofs.Numbered.{frame_key, frame_number}
 use Rattle.pulsar_calls.proofs.Places.{by_keys}
 
 -- TWO LISTS OF TICKETS
@@ -90,48 +90,60 @@ filtered_same g g' test (t ∷ ts) same = elim (cases_Bool (test t)) [
 
 -- A FRAME: one that does not live on the link hears nothing, and is told nothing
 
-module _ (l : ℕ) (r : Reply) (m : Member) (h : lives_on l m.seen ≡ false) where
-  unheard : hears_frame l r m ≡ m
+module _ (clock l : ℕ) (r : Reply) (m : Member) (h : lives_on l m.seen ≡ false) where
+  unheard : hears_frame clock l r m ≡ m
   unheard = by (is_body 9 r.content.body) (is_body 27 r.content.body) (is_body 16 r.content.body)
     where
-      by : (b c d : Bool) → cond b (member_after (Hears l (frame_in r)) m) (cond c (ends_on l TopicEnded m) (cond d (member_after (Loses l) m) m)) ≡ m
-      by true c d = ap (λ e. record m { seen = cond e (topic.heard (frame_in r) m.seen) m.seen }) h
+      by : (b c d : Bool) → cond b (hears_message clock l r m) (cond c (ends_on l TopicEnded m) (cond d (member_after (Loses l) m) m)) ≡ m
+      by true c d = ap (λ e. cond e (member_after (Hears l (frame_in r)) (member_after (IsAt clock) m)) m) h
       by false true d = ap (λ e. cond e (member_after (Ends TopicEnded) m) m) h
       by false false true = ap (λ e. record m { seen = cond e (topic.loses m.seen) m.seen }) h
       by false false false = refl
 
-  untold : word_of_frame l r m ≡ None
+  untold : word_of_frame clock l r m ≡ None
   untold = by (is_body 9 r.content.body) (is_body 27 r.content.body) (is_body 16 r.content.body)
     where
       by : (b c d : Bool) →
-          cond b (word_if (lives_on l m.seen && is_flow_due (hears_frame l r m).seen) word.Due)
+          cond b (word_if (lives_on l m.seen && is_flow_due (hears_message clock l r m).seen) word.Due)
           (cond c (word_if (resubscribes l m.seen) (word.TopicEnded l)) (cond d (word_if (resubscribes l m.seen) word.Lost) None)) ≡ None
-      by true c d = ap (λ e. word_if (e && is_flow_due (hears_frame l r m).seen) word.Due) h
+      by true c d = ap (λ e. word_if (e && is_flow_due (hears_message clock l r m).seen) word.Due) h
       by false true d = ap (λ e. word_if (e && not m.seen.is_raw) (word.TopicEnded l)) h
       by false false true = ap (λ e. word_if (e && not m.seen.is_raw) word.Lost) h
       by false false false = refl
 
+  uncopied : copy_of_frame clock l r m ≡ false
+  uncopied = by (is_body 9 r.content.body)
+    where
+      by : (b : Bool) → (b && (lives_on l m.seen && is_copy_due (hears_message clock l r m).seen)) ≡ false
+      by true = ap (λ e. e && is_copy_due (hears_message clock l r m).seen) h
+      by false = refl
+
 -- those of the number that live on the link hear it, and others hear nothing
-module _ (n l : ℕ) (r : Reply) where
-  pub heard_by : (row : Option Member) → cond (lives_with n l row) (option_map (hears_frame l r) row) row ≡ option_map (hears l (Gives n r)) row
+module _ (clock n l : ℕ) (r : Reply) where
+  pub heard_by : (row : Option Member) → cond (lives_with n l row) (option_map (hears_frame clock l r) row) row ≡ option_map (hears clock l (Gives n r)) row
   heard_by None = refl
   heard_by (Some m) = by (m.seen.number == n) (lives_on l m.seen) refl
     where
-      by : (a b : Bool) → lives_on l m.seen ≡ b → cond (a && b) (Some (hears_frame l r m)) (Some m) ≡ Some (cond a (hears_frame l r m) m)
+      by : (a b : Bool) → lives_on l m.seen ≡ b → cond (a && b) (Some (hears_frame clock l r m)) (Some m) ≡ Some (cond a (hears_frame clock l r m) m)
       by true true h = refl
-      by true false h = ap Some (sym (unheard l r m h))
+      by true false h = ap Some (sym (unheard clock l r m h))
       by false b h = refl
 
-  pub none_told : (t : ℕ) (m : Member) → lives_with n l (Some m) ≡ false → heard_at l (Gives n r) t m ≡ []
+  told_if : (b : Bool) (t : ℕ) (m : Member) → List Notice
+  told_if b t m = word_to t m (cond b (word_of_frame clock l r m) None) ++ copy_if (b && copy_of_frame clock l r m) t m
+
+  pub none_told : (t : ℕ) (m : Member) → lives_with n l (Some m) ≡ false → heard_at clock l (Gives n r) t m ≡ []
   none_told t m h = elim (cases_Bool (m.seen.number == n)) [
     | inl e ↦
         (let away : lives_on l m.seen ≡ false = sym (ap (λ b. b && lives_on l m.seen) e) ∙ h in
-        ap (word_to t m) (ap (λ b. cond b (word_of_frame l r m) None) e ∙ untold l r m away))
-    | inr e ↦ ap (λ b. word_to t m (cond b (word_of_frame l r m) None)) e
+        ap (λ b. told_if b t m) e
+        ∙ ap (λ w. word_to t m w ++ copy_if (copy_of_frame clock l r m) t m) (untold clock l r m away)
+        ∙ ap (λ b. copy_if b t m) (uncopied clock l r m away))
+    | inr e ↦ ap (λ b. told_if b t m) e
   ]
 
-  pub same_told : (t : ℕ) (m : Member) → lives_with n l (Some m) ≡ true → word_to t m (word_of_frame l r m) ≡ heard_at l (Gives n r) t m
-  same_told t m h = sym (ap (λ b. word_to t m (cond b (word_of_frame l r m) None)) (and_parts (m.seen.number == n) (lives_on l m.seen) h).0)
+  pub same_told : (t : ℕ) (m : Member) → lives_with n l (Some m) ≡ true → hears_to clock l r t m ≡ heard_at clock l (Gives n r) t m
+  same_told t m h = sym (ap (λ b. told_if b t m) (and_parts (m.seen.number == n) (lives_on l m.seen) h).0)
 
 -- A LOSS, AND A CLOSE
 
@@ -170,20 +182,20 @@ module _ (n l : ℕ) where
 abbrev pub Quiet : Arrival → Type 0
 Quiet a = (a ≡ Nothing) ⊎ ((a ≡ Readied) ⊎ ((a ≡ Settles) ⊎ ((a ≡ Passes) ⊎ ((cause : Fault) × (a ≡ Bad cause)))))
 
-module _ (l : ℕ) (a : Arrival) where
-  pub quiet_told : Quiet a → (t : ℕ) (m : Member) → heard_at l a t m ≡ []
-  quiet_told (inl e) t m = ap (λ x. heard_at l x t m) e
-  quiet_told (inr (inl e)) t m = ap (λ x. heard_at l x t m) e
-  quiet_told (inr (inr (inl e))) t m = ap (λ x. heard_at l x t m) e
-  quiet_told (inr (inr (inr (inl e)))) t m = ap (λ x. heard_at l x t m) e
-  quiet_told (inr (inr (inr (inr e)))) t m = ap (λ x. heard_at l x t m) e.1
+module _ (clock l : ℕ) (a : Arrival) where
+  pub quiet_told : Quiet a → (t : ℕ) (m : Member) → heard_at clock l a t m ≡ []
+  quiet_told (inl e) t m = ap (λ x. heard_at clock l x t m) e
+  quiet_told (inr (inl e)) t m = ap (λ x. heard_at clock l x t m) e
+  quiet_told (inr (inr (inl e))) t m = ap (λ x. heard_at clock l x t m) e
+  quiet_told (inr (inr (inr (inl e)))) t m = ap (λ x. heard_at clock l x t m) e
+  quiet_told (inr (inr (inr (inr e)))) t m = ap (λ x. heard_at clock l x t m) e.1
 
-  pub quiet_same : Quiet a → (m : Member) → hears l a m ≡ m
-  quiet_same (inl e) m = ap (λ x. hears l x m) e
-  quiet_same (inr (inl e)) m = ap (λ x. hears l x m) e
-  quiet_same (inr (inr (inl e))) m = ap (λ x. hears l x m) e
-  quiet_same (inr (inr (inr (inl e)))) m = ap (λ x. hears l x m) e
-  quiet_same (inr (inr (inr (inr e)))) m = ap (λ x. hears l x m) e.1
+  pub quiet_same : Quiet a → (m : Member) → hears clock l a m ≡ m
+  quiet_same (inl e) m = ap (λ x. hears clock l x m) e
+  quiet_same (inr (inl e)) m = ap (λ x. hears clock l x m) e
+  quiet_same (inr (inr (inl e))) m = ap (λ x. hears clock l x m) e
+  quiet_same (inr (inr (inr (inl e)))) m = ap (λ x. hears clock l x m) e
+  quiet_same (inr (inr (inr (inr e)))) m = ap (λ x. hears clock l x m) e.1
 
 -- where no consumer is named, none is closed
 module _ (l : ℕ) where
@@ -226,15 +238,19 @@ pub consumers_are : (a b : Consumers) → ((t : ℕ) → a.rows t ≡ b.rows t) 
 consumers_are a b rows tickets held named next key i =
     record { rows = λ t. rows t i; tickets = tickets i; held = held i; named = named i; next = next i; next_key = key i }
 
--- ONE HEARS A FRAME, and is told what follows by the number that it keeps
+-- ONE HEARS A FRAME, and is told what follows by the number and the key that it keeps
 
-abbrev word_as : (ticket number : ℕ) → Option Word → List Notice
-word_as t n w = option_to_list (option_map (λ x. notice (Consumer n t) (outcome.Word x)) w)
+abbrev told_as : (ticket number key : ℕ) → Option Word → Bool → List Notice
+told_as t n k w b =
+    option_to_list (option_map (λ x. notice (Consumer n t) (outcome.Word x)) w) ++ cond b (notice (Copy n t k) (outcome.Word word.CopyDue) ∷ []) []
 
-pub told_as_before : (l t : ℕ) (r : Reply) (rows : ℕ → Option Member) (old new : Member) (w : Option Word) → Some old ≡ rows t →
-    w ≡ word_of_frame l r old → new ≡ hears_frame l r old → word_to t new w ≡ at_row (λ t m. word_to t m (word_of_frame l r m)) rows t
-told_as_before l t r rows old new w found is becomes =
-    ap (λ n. word_as t n w) (ap (λ m. m.seen.number) becomes ∙ frame_number l r old)
-    ∙ ap (word_to t old) is
-    ∙ sym (append-nil (word_to t old (word_of_frame l r old)))
-    ∙ ap (λ row. flat_map (λ m. word_to t m (word_of_frame l r m)) (option_to_list row)) found
+pub told_as_before : (clock l t : ℕ) (r : Reply) (rows : ℕ → Option Member) (old new : Member) (w : Option Word) (b : Bool) → Some old ≡ rows t →
+    w ≡ word_of_frame clock l r old → b ≡ copy_of_frame clock l r old → new ≡ hears_frame clock l r old →
+    word_to t new w ++ copy_if b t new ≡ at_row (hears_to clock l r) rows t
+told_as_before clock l t r rows old new w b found is due becomes =
+    ap (λ n. told_as t n new.seen.key w b) (ap (λ m. m.seen.number) becomes ∙ frame_number clock l r old)
+    ∙ ap (λ k. told_as t old.seen.number k w b) (ap (λ m. m.seen.key) becomes ∙ frame_key clock l r old)
+    ∙ ap (λ x. told_as t old.seen.number old.seen.key x b) is
+    ∙ ap (λ x. told_as t old.seen.number old.seen.key (word_of_frame clock l r old) x) due
+    ∙ sym (append-nil (hears_to clock l r t old))
+    ∙ ap (λ row. flat_map (hears_to clock l r t) (option_to_list row)) found

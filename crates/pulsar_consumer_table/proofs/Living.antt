@@ -11,15 +11,16 @@ use Rattle.pulsar_exchange.specs.Messages.{Reply, is_body}
 use Rattle.pulsar_consumer.specs.Frames.{Frame, frame_in}
 use Rattle.pulsar_consumer.specs.Items.{Item}
 use Rattle.pulsar_consumer.specs.Topic as topic
-use Rattle.pulsar_consumer.specs.Topic.{Engine, Hears, Loses, Ends, Live, Seen, link_of, lives_on}
+use Rattle.pulsar_consumer.specs.Topic.{Engine, Hears, IsAt, Loses, Ends, Live, Seen, link_of, lives_on}
 use Rattle.pulsar_incoming.specs.declared.polled.Ending.{Ending}
 use Rattle.pulsar_incoming.specs.declared.polled.Ending.TheVariants.{LinkLost, TopicEnded}
 use Rattle.pulsar_consumer_table.specs.declared.row.ConsumerRow.{ConsumerRow}
-use Rattle.pulsar_consumer_table.specs.Consumers.{Member, ends_on, hears_frame, link_at, lives_at, lives_with, member_after, stopped}
+use Rattle.pulsar_consumer_table.specs.Consumers.{Member, ends_on, hears_frame, hears_message, link_at, lives_at, lives_with, member_after, stopped}
 use Rattle.pulsar_consumer_table.specs.KeptConsumers.{AreHeard, listed_at, rows_in, tickets_of}
 use Rattle.pulsar_calls.specs.Places.{is_listed}
 use Rattle.pulsar_consumer_table.proofs.Finding.{both, found_any, keyed, there_is}
 use Rattle.pulsar_consumer_table.proofs.Heard.{filtered}
+use Rattle.pulsar_consumer_table.proofs.Numbered.{stopped_over}
 use Rattle.pulsar_consumer_table.proofs.Placed.{Holds}
 use Rattle.pulsar_calls.proofs.Places.{swapped}
 
@@ -51,6 +52,9 @@ going_link (f ∷ fs) e = elim (cases_Bool (topic.is_finished e)) [
       ∙ same_link (topic.finishes e.batch) (finished_link e.batch) e.live)
   | inr n ↦ rw n refl
 ]
+
+pub advancing_link : (e : Engine) → link_in (topic.advances e) ≡ link_in e
+advancing_link e = going_link e.waiting (topic.places e)
 
 pub giving_link : (items : List Item) (e : Engine) → link_in (topic.gives_from items e) ≡ link_in e
 giving_link [] e = refl
@@ -94,17 +98,21 @@ loses_lifeless k l m = by (lives_on k m.seen)
 pub ends_lifeless : (why : Ending) → Holds lives_at (member_after (Ends why))
 ends_lifeless why l m h = none_there l m.seen (topic.ends why m.seen) refl h
 
-pub frame_lifeless : (k : ℕ) (r : Reply) → Holds lives_at (hears_frame k r)
-frame_lifeless k r l m = by (is_body 9 r.content.body) (is_body 27 r.content.body) (is_body 16 r.content.body)
+pub frame_lifeless : (clock k : ℕ) (r : Reply) → Holds lives_at (hears_frame clock k r)
+frame_lifeless clock k r l m = by (is_body 9 r.content.body) (is_body 27 r.content.body) (is_body 16 r.content.body)
   where
     on : (b : Bool) → lives_on l (cond b (member_after (Ends TopicEnded) m) m).seen ≡ true → lives_on l m.seen ≡ true
     on true h = ends_lifeless TopicEnded l m h
     on false h = h
 
+    heard : (b : Bool) → lives_on l (cond b (member_after (Hears k (frame_in r)) (member_after (IsAt clock) m)) m).seen ≡ true → lives_on l m.seen ≡ true
+    heard true h = hears_lifeless k (frame_in r) l (member_after (IsAt clock) m) h
+    heard false h = h
+
     by : (b c d : Bool) →
-        lives_on l (cond b (member_after (Hears k (frame_in r)) m) (cond c (ends_on k TopicEnded m) (cond d (member_after (Loses k) m) m))).seen ≡ true →
+        lives_on l (cond b (hears_message clock k r m) (cond c (ends_on k TopicEnded m) (cond d (member_after (Loses k) m) m))).seen ≡ true →
         lives_on l m.seen ≡ true
-    by true c d h = hears_lifeless k (frame_in r) l m h
+    by true c d h = heard (lives_on k m.seen) h
     by false true d h = on (lives_on k m.seen) h
     by false false true h = loses_lifeless k l m h
     by false false false h = h
@@ -149,7 +157,7 @@ module _ (heard : BTreeMap ℕ (BTreeSet ℕ)) (rows : ℕ → Option Member) (a
 -- once the client is stopped none lives
 pub stopped_nowhere : (l : ℕ) (row : Option Member) → lives_at l (option_map stopped row) ≡ false
 stopped_nowhere l None = refl
-stopped_nowhere l (Some m) = refl
+stopped_nowhere l (Some m) = away l (stopped m).seen (stopped_over m).live
 
 -- one lives where its link is
 pub where_it_lives : (l : ℕ) (row : Option Member) → lives_at l row ≡ topic.is_on l (link_at row)

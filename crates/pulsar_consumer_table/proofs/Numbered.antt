@@ -5,21 +5,21 @@ use Rattle.std.specs.Option.{is_some, option_map, option_or}
 use Rattle.pulsar_exchange.specs.Messages.{Reply, is_body}
 use Rattle.pulsar_consumer.specs.Frames.{frame_in}
 use Rattle.pulsar_consumer.specs.Topic as topic
-use Rattle.pulsar_consumer.specs.Topic.{Act, Hears, Loses, Ends, Live, Seen, is_ended, link_of, lives_on}
+use Rattle.pulsar_consumer.specs.Topic.{Act, Hears, IsAt, Loses, Ends, Stops, Live, Seen, is_ended, link_of, lives_on}
 use Rattle.pulsar_consumer.proofs.Checking.{same_after}
 use Rattle.pulsar_consumer.proofs.Histories.{shut_after, stays_after}
 use Rattle.pulsar_incoming.specs.declared.polled.Ending.{Ending}
 use Rattle.pulsar_incoming.specs.declared.polled.Ending.TheVariants.{Stopped, TopicEnded}
-use Rattle.pulsar_consumer_table.specs.Consumers.{Member, ends_on, hears_frame, lives_with, member_after, number_at, stopped}
+use Rattle.pulsar_consumer_table.specs.Consumers.{Member, ends_on, hears_frame, hears_message, lives_with, member_after, number_at, stopped}
 use Rattle.pulsar_consumer_table.specs.KeptConsumers.{is_known, known_at}
 use Rattle.pulsar_consumer_table.proofs.Placed.{Holds}
 use Rattle.pulsar_calls.proofs.Places.{swapped}
 
 -- ONE THAT IS OVER has ended, and lives on no link. So it stays.
 
-record IsOver (v : Seen) : Type 0 where
-  ended : is_ended v ≡ true
-  live : v.engine.live ≡ None
+pub record IsOver (v : Seen) : Type 0 where
+  pub ended : is_ended v ≡ true
+  pub live : v.engine.live ≡ None
 
 reason : (o : Option Ending) → is_some o ≡ true → (why : Ending) × (o ≡ Some why)
 reason None h = absurd (false≢true h)
@@ -71,17 +71,21 @@ known_before v w same over n h = elim (cases_Bool (there v)) [
 pub act_holds : (act : Act) → Holds is_known (member_after act)
 act_holds act n m h = known_before m.seen (topic.after act m.seen) (same_number act m.seen) (stays_over act m.seen) n h
 
-pub frame_holds : (l : ℕ) (r : Reply) → Holds is_known (hears_frame l r)
-frame_holds l r n m = by (is_body 9 r.content.body) (is_body 27 r.content.body) (is_body 16 r.content.body)
+pub frame_holds : (clock l : ℕ) (r : Reply) → Holds is_known (hears_frame clock l r)
+frame_holds clock l r n m = by (is_body 9 r.content.body) (is_body 27 r.content.body) (is_body 16 r.content.body)
   where
     on : (b : Bool) → is_known n (Some (cond b (member_after (Ends TopicEnded) m) m)) ≡ true → is_known n (Some m) ≡ true
     on true h = act_holds (Ends TopicEnded) n m h
     on false h = h
 
+    heard : (b : Bool) → is_known n (Some (cond b (member_after (Hears l (frame_in r)) (member_after (IsAt clock) m)) m)) ≡ true → is_known n (Some m) ≡ true
+    heard true h = act_holds (IsAt clock) n m (act_holds (Hears l (frame_in r)) n (member_after (IsAt clock) m) h)
+    heard false h = h
+
     by : (b c d : Bool) →
-        is_known n (Some (cond b (member_after (Hears l (frame_in r)) m) (cond c (ends_on l TopicEnded m) (cond d (member_after (Loses l) m) m)))) ≡ true →
+        is_known n (Some (cond b (hears_message clock l r m) (cond c (ends_on l TopicEnded m) (cond d (member_after (Loses l) m) m)))) ≡ true →
         is_known n (Some m) ≡ true
-    by true c d h = act_holds (Hears l (frame_in r)) n m h
+    by true c d h = heard (lives_on l m.seen) h
     by false true d h = on (lives_on l m.seen) h
     by false false true h = act_holds (Loses l) n m h
     by false false false h = h
@@ -113,26 +117,54 @@ number_kept f same true None = refl
 number_kept f same true (Some m) = same m
 number_kept f same false row = refl
 
--- once the client is stopped none is known
-pub stopped_none : (n : ℕ) (row : Option Member) → is_known n (option_map stopped row) ≡ false
-stopped_none n None = refl
-stopped_none n (Some m) = ap (λ b. (m.seen.number == n) && b) (by m.seen.ended) ∙ and_none (m.seen.number == n)
+-- once the client is stopped it has ended, and no subscription of it is live
+pub stopped_over : (m : Member) → IsOver (stopped m).seen
+stopped_over m = stays_over Stops (topic.after (Ends Stopped) m.seen) (record { ended = by m.seen.ended; live = refl })
   where
-    by : (o : Option Ending) → (not (is_some (option_or o (Some Stopped))) || false) ≡ false
+    by : (o : Option Ending) → is_some (option_or o (Some Stopped)) ≡ true
     by None = refl
     by (Some why) = refl
 
--- one that hears a frame keeps its number
-pub frame_number : (l : ℕ) (r : Reply) (m : Member) → (hears_frame l r m).seen.number ≡ m.seen.number
-frame_number l r m = by (is_body 9 r.content.body) (is_body 27 r.content.body) (is_body 16 r.content.body)
+-- then none is known
+pub stopped_none : (n : ℕ) (row : Option Member) → is_known n (option_map stopped row) ≡ false
+stopped_none n None = refl
+stopped_none n (Some m) =
+    ap (λ b. ((stopped m).seen.number == n) && b) (over_not (stopped m).seen (stopped_over m)) ∙ and_none ((stopped m).seen.number == n)
+
+-- one that hears a frame keeps its number, and its key
+pub same_key : (act : Act) (v : Seen) → (topic.after act v).key ≡ v.key
+same_key act v = ap (λ x. x.key) (same_after act v)
+
+pub frame_number : (clock l : ℕ) (r : Reply) (m : Member) → (hears_frame clock l r m).seen.number ≡ m.seen.number
+frame_number clock l r m = by (is_body 9 r.content.body) (is_body 27 r.content.body) (is_body 16 r.content.body)
   where
     on : (b : Bool) → (cond b (member_after (Ends TopicEnded) m) m).seen.number ≡ m.seen.number
     on true = refl
     on false = refl
 
-    by : (b c d : Bool) →
-        (cond b (member_after (Hears l (frame_in r)) m) (cond c (ends_on l TopicEnded m) (cond d (member_after (Loses l) m) m))).seen.number ≡ m.seen.number
-    by true c d = same_number (Hears l (frame_in r)) m.seen
+    heard : (b : Bool) → (cond b (member_after (Hears l (frame_in r)) (member_after (IsAt clock) m)) m).seen.number ≡ m.seen.number
+    heard true = same_number (Hears l (frame_in r)) (topic.after (IsAt clock) m.seen)
+    heard false = refl
+
+    by : (b c d : Bool) → (cond b (hears_message clock l r m) (cond c (ends_on l TopicEnded m) (cond d (member_after (Loses l) m) m))).seen.number ≡ m.seen.number
+    by true c d = heard (lives_on l m.seen)
     by false true d = on (lives_on l m.seen)
     by false false true = same_number (Loses l) m.seen
+    by false false false = refl
+
+pub frame_key : (clock l : ℕ) (r : Reply) (m : Member) → (hears_frame clock l r m).seen.key ≡ m.seen.key
+frame_key clock l r m = by (is_body 9 r.content.body) (is_body 27 r.content.body) (is_body 16 r.content.body)
+  where
+    on : (b : Bool) → (cond b (member_after (Ends TopicEnded) m) m).seen.key ≡ m.seen.key
+    on true = refl
+    on false = refl
+
+    heard : (b : Bool) → (cond b (member_after (Hears l (frame_in r)) (member_after (IsAt clock) m)) m).seen.key ≡ m.seen.key
+    heard true = same_key (Hears l (frame_in r)) (topic.after (IsAt clock) m.seen)
+    heard false = refl
+
+    by : (b c d : Bool) → (cond b (hears_message clock l r m) (cond c (ends_on l TopicEnded m) (cond d (member_after (Loses l) m) m))).seen.key ≡ m.seen.key
+    by true c d = heard (lives_on l m.seen)
+    by false true d = on (lives_on l m.seen)
+    by false false true = same_key (Loses l) m.seen
     by false false false = refl

@@ -2,10 +2,10 @@ use Rattle.std.proofs.Common.{◌≡◌, ◌∙◌, ◌++◌, ◌∷◌, [], ℕ
 use Rattle.std.specs.List.{flat_map}
 use Rattle.std.specs.List.Sorted.{IsStrictlySortedBy}
 use Rattle.std.specs.Ordering.{nat_cmp}
-use Rattle.pulsar_consumer_table.specs.Consumers.{Member, at_row, hears_frame, word_of_frame}
+use Rattle.pulsar_consumer_table.specs.Consumers.{at_row, hears_frame}
 use Rattle.pulsar_consumer_table.specs.KeptConsumers.{one_changed, rows_in, some_changed}
 use Rattle.pulsar_calls.specs.Places.{is_listed}
-use Rattle.pulsar_consumer_table.specs.Notices.{word_to}
+use Rattle.pulsar_consumer_table.specs.Notices.{hears_to}
 use Rattle.pulsar_consumer_table.proofs.Several.{more_changed, more_given, sorted_front, unlisted}
 use Rattle.pulsar_consumer_table.proofs.hearing.hear_all.Goals as goal
 
@@ -20,8 +20,8 @@ returns-clause-notices c =
     let apart : is_listed x ts ≡ false = unlisted ts [] x (subst (IsStrictlySortedBy nat_cmp) split c.requires) in
     let rows = rows_in c.args.rows.now in
     let kept = rows_in c.hear_copies.new.rows in
-    let f = hears_frame c.args.link c.args.reply in
-    let g = λ (t : ℕ) (m : Member). word_to t m (word_of_frame c.args.link c.args.reply m) in
+    let f = hears_frame c.args.clock c.args.link c.args.reply in
+    let g = hears_to c.args.clock c.args.link c.args.reply in
     let copies = c.in_ok-hear_copies.ensures in
     let done = c.in_ok-hear_at.ensures in
     done.notices
@@ -36,6 +36,6 @@ returns-clause-rows c = λ t.
     let x = c.in-Some.last.now in
     let apart : is_listed x ts ≡ false = unlisted ts [] x (subst (IsStrictlySortedBy nat_cmp) split c.requires) in
     let rows = rows_in c.args.rows.now in
-    let f = hears_frame c.args.link c.args.reply in
+    let f = hears_frame c.args.clock c.args.link c.args.reply in
     more_changed ts x f rows (rows_in c.hear_copies.new.rows) (rows_in c.hear_at.new.rows) apart c.in_ok-hear_copies.ensures.rows c.in_ok-hear_at.ensures.rows t
     ∙ ap (λ us. some_changed us f rows t) (sym split)

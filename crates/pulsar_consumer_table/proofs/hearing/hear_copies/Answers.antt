@@ -1,9 +1,9 @@
 use Rattle.std.proofs.Common.{◌≡◌, ◌∙◌, ◌++◌, ℕ, ap, append_assoc, get_or, sym, take}
 use Rattle.std.proofs.lemmas.List.{take_more}
 use Rattle.std.specs.List.{flat_map}
-use Rattle.pulsar_consumer_table.specs.Consumers.{Member, at_row, hears_frame, word_of_frame}
+use Rattle.pulsar_consumer_table.specs.Consumers.{at_row, hears_frame}
 use Rattle.pulsar_consumer_table.specs.KeptConsumers.{one_changed, rows_in, some_changed}
-use Rattle.pulsar_consumer_table.specs.Notices.{word_to}
+use Rattle.pulsar_consumer_table.specs.Notices.{hears_to}
 use Rattle.pulsar_consumer_table.proofs.Several.{apart_at, more_changed, more_given}
 use Rattle.pulsar_consumer_table.proofs.hearing.hear_copies.Goals as goal
 
@@ -18,13 +18,13 @@ loop-ticket-preserved c =
     let rows = rows_in c.args.rows.now in
     let kept = rows_in c.loop-ticket.rows in
     let new = rows_in c.hear_at.new.rows in
-    let f = hears_frame c.args.link c.args.reply.now in
-    let g = λ (t : ℕ) (m : Member). word_to t m (word_of_frame c.args.link c.args.reply.now m) in
+    let f = hears_frame c.args.clock c.args.link c.args.reply.now in
+    let g = hears_to c.args.clock c.args.link c.args.reply.now in
     let was = c.loop-ticket.invariant in
     let done = c.in_ok-hear_at.ensures in
-    let is : (t : ℕ) → new t ≡ one_changed x f kept t = λ t. done.rows t ∙ ap (λ r. one_changed x (hears_frame c.args.link r) kept t) c.in_ok-copy.ensures in (
+    let is : (t : ℕ) → new t ≡ one_changed x f kept t = λ t. done.rows t ∙ ap (λ r. one_changed x (hears_frame c.args.clock c.args.link r) kept t) c.in_ok-copy.ensures in (
       done.notices
-          ∙ ap (λ r. c.loop-ticket.notices.items ++ at_row (λ t m. word_to t m (word_of_frame c.args.link r m)) kept x) c.in_ok-copy.ensures
+          ∙ ap (λ r. c.loop-ticket.notices.items ++ at_row (hears_to c.args.clock c.args.link r) kept x) c.in_ok-copy.ensures
           ∙ ap (λ ns. ns ++ at_row g kept x) was.0
           ∙ append_assoc c.args.notices.now.items (flat_map (at_row g rows) (take i ts)) (at_row g kept x)
           ∙ ap (λ ns. c.args.notices.now.items ++ ns)

@@ -11,6 +11,6 @@ returns c =
     let l = c.args.link in
     let a = c.args.arrival in
     record {
-      notices = c.new.ensures.items ∙ sym (over_none (heard_at l a) (quiet_told l a c.in-Nothing.is) cs.rows cs.tickets);
-      after = all_same (hears l a) (quiet_same l a c.in-Nothing.is) cs;
+      notices = c.new.ensures.items ∙ sym (over_none (heard_at c.args.clock l a) (quiet_told c.args.clock l a c.in-Nothing.is) cs.rows cs.tickets);
+      after = all_same (hears c.args.clock l a) (quiet_same c.args.clock l a c.in-Nothing.is) cs;
     }

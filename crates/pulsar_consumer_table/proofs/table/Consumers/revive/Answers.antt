@@ -16,9 +16,9 @@ invariant_of-self-2 c =
     let after = rows_in c.revive_at.new.rows in
     record {
       ordered = λ whole. subst (IsStrictlySortedBy nat_cmp) (sym done.tickets) (cs.ordered c.if-self.false);
-      listed = λ whole. one_placed is_known cs.listing (rows_in cs.rows) (cs.listed c.if-self.false) c.args.ticket (revived c.args.link c.args.url) after
-          (revived_known c.args.link c.args.url) done.rows;
+      listed = λ whole. one_placed is_known cs.listing (rows_in cs.rows) (cs.listed c.if-self.false) c.args.ticket (revived c.args.clock c.args.link c.args.url) after
+          (revived_known c.args.clock c.args.link c.args.url) done.rows;
       lives = λ whole. moved_placed lives_at cs.heard (rows_in cs.rows) (cs.lives c.if-self.false) link_at where_it_lives c.relist.new.listing c.args.ticket after
-          (λ t e. done.rows t ∙ ap (λ b. cond b (option_map (revived c.args.link c.args.url) (rows_in cs.rows t)) (rows_in cs.rows t)) e)
+          (λ t e. done.rows t ∙ ap (λ b. cond b (option_map (revived c.args.clock c.args.link c.args.url) (rows_in cs.rows t)) (rows_in cs.rows t)) e)
           c.link_of-old_link.result c.link_of-new_link.result c.link_of-old_link.ensures c.link_of-new_link.ensures c.in_ok-relist.ensures;
     }

@@ -11,4 +11,4 @@ returns-clause-says c = ap says_word (c.revived_word.ensures ∙ ap revived_said
 pub returns-clause-after : goal.returns-clause-after
 returns-clause-after c =
     c.in_ok-serves.ensures.after
-    ∙ changed_is c.args.ticket (Revived c.args.link c.args.url) (consumers_in c.args.self.now.rows c.args.self.now.numbers)
+    ∙ changed_is c.args.ticket (Revived c.args.clock c.args.link c.args.url) (consumers_in c.args.self.now.rows c.args.self.now.numbers)

@@ -11,7 +11,7 @@ use Rattle.pulsar_consumer_table.proofs.table.Consumers.stop.Goals as goal
 pub invariant_of-self-2 : goal.invariant_of-self-2
 invariant_of-self-2 c =
     let cs = c.args.self.now in
-    let done = c.stop_all.ensures in
+    let done = c.in_ok-stop_all.ensures in
     record {
       ordered = λ whole. subst (IsStrictlySortedBy nat_cmp) (sym done.tickets) (cs.ordered c.if-self.false);
       listed = λ whole t n. none_listed c.new.result c.new.ensures.empty t n ∙ sym (ap (is_known n) (done.rows t) ∙ stopped_none n (rows_in cs.rows t));

@@ -1,6 +1,6 @@
 -- The arcs of the plans: from which plan they come to which, at what outcome, and what they do there. `told` is walked once, here; what holds
 -- of a step is read off its arcs, by clauses for those that matter and one for all others.
-use Rattle.std.proofs.Common.{◌≡◌, ◌⊎◌, inl, inr, absurd, subst, ℕ, ◌-◌, List, [], ◌∷◌, refl, map, Bool, true, false, cond, Option, Some, None, Result, Ok, Err, ◌==◌}
+use Rattle.std.proofs.Common.{◌≡◌, ◌⊎◌, inl, inr, subst, ℕ, ◌-◌, List, [], ◌∷◌, refl, map, Bool, true, false, cond, Option, Some, None, Result, Ok, Err, ◌==◌}
 use Rattle.std.specs.Prelude.{◌&&◌, not}
 use Rattle.pulsar_addresses.specs.Address.{Named, Place}
 use Rattle.pulsar_calls.specs.Content.{Said}

@@ -495,16 +495,16 @@ IsReady o who n e older =
     × (is_woken act ((view o older).producers.topics number) ≡ true) × CutsSo o number act e older
 
 -- a producer is closed that has the topic producer of this number: as itself, or as that of a topic of a producer of many topics
-abbrev pub Shuts : Options → (number : ℕ) → Entry → List Entry → Type 0
-Shuts o number e older =
-    (other : Who) × (((t : ℕ) × (e ≡ Then (Does other (Shut t))) × In number (numbers_at ((view o older).producers.built t)))
-    ⊎ ((m : Multi) × (topic : List ℕ) × (e ≡ Then (Does other (OfMulti m (ask.Remove topic))))
-    × In number (topic_numbers topic (multi_at (view o older) m))))
+abbrev pub Shuts : View → (number : ℕ) → Action → Type 0
+Shuts v n (Shut t) = In n (numbers_at (v.producers.built t))
+Shuts v n (OfMulti m (ask.Remove topic)) = In n (topic_numbers topic (multi_at v m))
+Shuts v n _ = ⊥
 
 -- its message is stored at a producer that is closed
 abbrev pub IsDropped : Options → Who → Outcome → Entry → List Entry → Type 0
 IsDropped o who u e older =
-    (number ticket : ℕ) × (who ≡ Call ticket) × Shuts o number e older × In ticket (stored_at ((view o older).producers.topics number))
+    (other : Who) × (closes : Action) × (number ticket : ℕ) × (e ≡ Then (Does other closes)) × (who ≡ Call ticket)
+    × Shuts (view o older) number closes × In ticket (stored_at ((view o older).producers.topics number))
     × (u ≡ outcome.Settled (Err (OfProducer ProducerClosed)))
 
 -- the number of the body of a procedure's request

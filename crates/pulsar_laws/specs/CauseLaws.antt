@@ -20,7 +20,7 @@ use Rattle.pulsar_calls.specs.declared.act.Who.TheVariants.{Call, Producer}
 use Rattle.pulsar_acts.specs.Rules.{notice}
 use Rattle.pulsar_acts.specs.Run.{Entry, IsRun, Then}
 use Rattle.pulsar_machine.specs.Options.{Options}
-use Rattle.pulsar_laws.specs.Laws.{Acts, AsksSo, AttemptEnds, BecomesReady, DrawsNone, FailsSo, Finds, Gets, GetsTurn, GrantsSo, IsDropped, IsReady, IsReplied, IsStopped, IsUnknown, IsWoken, LineEnds, MovesUp, RequestEnds, WordComes, base_of, outcomes, started}
+use Rattle.pulsar_laws.specs.Laws.{Acts, AsksSo, AttemptEnds, BecomesReady, DrawsNone, FailsSo, Finds, Gets, GetsMultiTurn, GetsTurn, GrantsSo, IsDropped, IsReady, IsReplied, IsStopped, IsUnknown, IsWoken, LineEnds, MovesUp, MultiSaysSo, RequestEnds, WordComes, base_of, outcomes, started}
 use Rattle.pulsar_laws.specs.BatchLaws.{TellsBatch}
 use Rattle.pulsar_laws.specs.ProducerLaws.{is_queued}
 
@@ -131,7 +131,8 @@ IsToldByBatch o who u e older =
 -- its request, its frame in the line or the attempt that it waited for ended so; Disconnected also: there is no such topic producer; Stopped
 -- also: the client was stopped, or a part of it, or its batch, says so. Granted: it asked for a turn, for a number or the like, or its turn
 -- came; a batch was cut, or its flush is settled. Parted: a part of it says so. Settled: its batch says so, or its producer is closed. Word:
--- it asked of consumers, and this is said at once; OfMulti: it asked a producer of many topics, and this is said at once, or its turn there came; or it happened to its own consumer, or to the one whose link it waits for.
+-- it asked of consumers, and this is said at once; or it happened to its own consumer, or to the one whose link it waits for. OfMulti: it asked a
+-- producer of many topics, and this is said at once; or its turn there came.
 abbrev pub Cause : Options → Who → Outcome → Entry → List Entry → Type 0
 Cause o who (outcome.GotLink link) e older =
     Gets o who (λ p v. (is_reachable p ≡ true) × ((base_of v p).series ≡ Serves link)) e older

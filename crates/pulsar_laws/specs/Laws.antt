@@ -607,8 +607,8 @@ has_failed _ = false
 
 -- a call fails where it is refused, and else with the fault of an outcome that it was told, or of a reply to its request; a search with
 -- these as faults of its own, and a send and a close as a producer; one with parts where some of them failed; a message that is stored
--- with what it is told; one that the producer of a topic refuses, so; a consumer that is built where its number is in use, and where its topic has several partitions; and the close of one
--- that has ended
+-- with what it is told; one that the producer of a topic refuses, so; a consumer that is built where its number is in use, and where its topic has
+-- several partitions; and the close of one that has ended
 pub data FailsSo (p : Procedure) (os : List Outcome) (f : Failure) : Type 0 where
   IsRefused : (r : CallRefusal) → p ≡ procedure.Refuse r → f ≡ failure_of r → FailsSo p os f
   IsRefusedShare : (s : Share) (r : CallRefusal) → p ≡ procedure.FailShare s r → f ≡ failure_of r → FailsSo p os f

@@ -49,7 +49,8 @@ use Rattle.pulsar_producer_table.specs.Producers.{is_bare, numbers_at, timeout_a
 use Rattle.pulsar_producer_table.specs.declared.table.Topic.{Topic}
 use Rattle.pulsar_acts.specs.Rules.{notice}
 use Rattle.pulsar_acts.specs.Run.{Entry, Begins, Then, IsRun, Rests, view}
-use Rattle.pulsar_acts.specs.View.{Turned, View, builds, turned}
+use Rattle.pulsar_acts.specs.View.{Turned, View, builds, multi_at, turned}
+use Rattle.pulsar_producer_table.specs.MultiAsks.{removed_by}
 use Rattle.pulsar_machine.specs.Options.{Chosen, Options}
 use Rattle.pulsar_laws.specs.Laws.{Acted, Deed, deeds, started, ways_in}
 use Rattle.pulsar_searches.specs.declared.transition.Transition.TheVariants.{Stays, Gives}

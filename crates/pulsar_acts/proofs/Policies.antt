@@ -1,15 +1,13 @@
 -- The policies of a client are lent to each step: what an act makes of the tables does not depend on them.
-use Rattle.std.proofs.Common.{◌≡◌, refl, ℕ, List, Option, Some, None}
+use Rattle.std.proofs.Common.{◌≡◌, refl, List, Option, Some, None}
 use Rattle.pulsar_calls.specs.Content.{Heard, Called, Opened, FailedToOpen, Bytes, Lost, Drain, Ticked, Poll}
 use Rattle.pulsar_calls.specs.declared.act.Act.{Act}
 use Rattle.pulsar_calls.specs.declared.act.Act.TheVariants.{Comes, Starts, Told, Does, Answers, Dials}
 use Rattle.pulsar_calls.specs.declared.act.Action.{Action}
 use Rattle.pulsar_calls.specs.declared.act.Action.TheVariants.{OfTopic, OfMulti, OfConsumer, Get, Ask, Wait, Number, Hold, Shut, TakeNumber, Tell, TellAll, StopAll, Rest}
-use Rattle.pulsar_calls.specs.declared.act.LinkAct.{LinkAct}
 use Rattle.pulsar_calls.specs.declared.act.LinkAct.TheVariants.{Opens, Reads, Drains, Pings, Ends}
 use Rattle.pulsar_calls.specs.declared.act.Part.{Part}
 use Rattle.pulsar_calls.specs.declared.act.Part.TheVariants.{Calls, ToLink, Rings, Polls}
-use Rattle.pulsar_calls.specs.declared.act.TopicAsk.{TopicAsk}
 use Rattle.pulsar_calls.specs.declared.act.TopicAsk.TheVariants.{TakeTurn, PassTurn, Draw, Recall, Remake, Find, Store, Flush, TakeBatch}
 use Rattle.pulsar_calls.specs.declared.act.Who.{Who}
 use Rattle.pulsar_outgoing.specs.declared.multi_topic.Multi.{Multi}
@@ -17,10 +15,10 @@ use Rattle.pulsar_outgoing.specs.declared.multi_topic.MultiAsk.{MultiAsk}
 use Rattle.pulsar_outgoing.specs.declared.multi_topic.MultiAsk.TheVariants as ask
 use Rattle.pulsar_producer.specs.MultiTopic as multi
 use Rattle.pulsar_producer.specs.Routing.{Policy}
-use Rattle.pulsar_producer_table.specs.MultiAsks.{Around, given, joined_by}
+use Rattle.pulsar_producer_table.specs.MultiAsks.{Around, given}
 use Rattle.pulsar_producer_table.specs.Multis.{all_changed}
 use Rattle.pulsar_acts.specs.Tables.{with_policies}
-use Rattle.pulsar_acts.specs.View.{View, after, around_multi, is_live, multi_asked, multi_asked_of, multi_at, producers_after, ticket_of, with_numbers}
+use Rattle.pulsar_acts.specs.View.{View, after, around_multi, is_live, multi_at, producers_after}
 
 -- what is done to a producer of many topics
 acts_same : (ps : List Policy) (x : Around) (a : MultiAsk) (row : Option multi.Seen) →

@@ -47,7 +47,7 @@ use Rattle.pulsar_links.specs.Links.{Change, Remains, Becomes, IsOver, change_by
 use Rattle.pulsar_plans.specs.Plan.{begins, told}
 use Rattle.pulsar_run.specs.Things.{row_after, row_by}
 use Rattle.pulsar_outgoing.specs.Storage.{limits_of}
-use Rattle.pulsar_outgoing.specs.declared.multi_topic.Joining.{Joining}
+use Rattle.pulsar_outgoing.specs.declared.multi_topic.Joining.{Joining as MultiJoining}
 use Rattle.pulsar_outgoing.specs.declared.multi_topic.Multi.{Multi}
 use Rattle.pulsar_outgoing.specs.declared.multi_topic.MultiAsk.{MultiAsk}
 use Rattle.pulsar_producer.specs.MultiTopic as multi
@@ -625,7 +625,7 @@ abbrev pub multi_asked_of : View → Who → Multi → MultiAsk → of_multi.Giv
 multi_asked_of v who m ask = of_multi.given (around_multi v who) ask (multi_at v m)
 
 -- the numbers of the topic producers that are made for it: the call that made them holds them no longer by itself
-abbrev pub with_numbers : (ticket : ℕ) → Option Joining → Producers → Producers
+abbrev pub with_numbers : (ticket : ℕ) → Option MultiJoining → Producers → Producers
 with_numbers t None ps = ps
 with_numbers t (Some j) ps = record (freed t ps) { numbers = ps.numbers ++ map (λ b. b.number) j.parts }
 
@@ -670,7 +670,7 @@ topic_of None who o n = None
 topic_of (Some b) who o n = topic_in (of_call (rank who).1) o.first_number (limits_of b.settings) b.parts n
 
 -- or those of a producer that was built for a producer of many topics
-abbrev pub topic_joined : Option Joining → Who → Multi → Chosen → (number : ℕ) → Option Topic
+abbrev pub topic_joined : Option MultiJoining → Who → Multi → Chosen → (number : ℕ) → Option Topic
 topic_joined None who m o n = None
 topic_joined (Some j) who m o n = topic_in (owned_by (ticket_of who) m) o.first_number (limits_of j.settings) j.parts n
 

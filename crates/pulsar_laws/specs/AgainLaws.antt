@@ -21,6 +21,8 @@ use Rattle.pulsar_producer.specs.declared.batching.Batching.{Batching}
 use Rattle.pulsar_producer.specs.declared.batching.Batching.TheVariants as batch
 use Rattle.pulsar_producer.specs.declared.building.BuildingProducer.{BuildingProducer}
 use Rattle.pulsar_producer.specs.declared.building.BuildingProducer.TheVariants as produce
+use Rattle.pulsar_producer.specs.declared.multi_topic.sending.MultiSending.{MultiSending}
+use Rattle.pulsar_producer.specs.declared.multi_topic.sending.MultiSending.TheVariants as multi_send
 use Rattle.pulsar_producer.specs.declared.sending.Sending.{Sending}
 use Rattle.pulsar_producer.specs.declared.sending.Sending.TheVariants as send
 use Rattle.pulsar_consumer.specs.declared.building.BuildingConsumer.{BuildingConsumer}
@@ -111,6 +113,13 @@ served_at (service.Reviving link) = None
 served_at service.Failing = None
 served_at service.Closing = None
 
+abbrev pub multi_stage : MultiSending → Option Stage
+multi_stage (multi_send.Waiting t m) = None
+multi_stage multi_send.Handing = None
+multi_stage (multi_send.Building order m b) = built_at b
+multi_stage (multi_send.Joining t m) = None
+multi_stage (multi_send.Passing given) = None
+
 -- In which operation a plan stands. A search that rests by itself stands in none: no call begins with one.
 abbrev pub stage : Plan → Option Stage
 stage plan.Building = None
@@ -128,6 +137,8 @@ stage (plan.Leaving f) = None
 stage (plan.Gathering first count left failures) = None
 stage (plan.Shutting numbers) = None
 stage (plan.Visiting r n left x) = None
+stage (plan.MultiSending w m share s) = multi_stage s
+stage (plan.MultiClosing m s) = None
 stage (plan.Subscribing w order b) = subscribed_at b
 stage (plan.Serving w n s) = served_at s
 stage plan.Acknowledging = None

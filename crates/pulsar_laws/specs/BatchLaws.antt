@@ -6,20 +6,21 @@ use Rattle.pulsar_wire.specs.Row.{Values, spelling}
 use Rattle.pulsar_wire.specs.Rows.{send_receipt}
 use Rattle.pulsar_wire.specs.Sink.{capped}
 use Rattle.pulsar_wire.specs.declared.key.RequestKey.TheVariants as key
-use Rattle.pulsar_messages.specs.Content.{ProducerMessageValues}
+use Rattle.pulsar_messages.specs.Content.{ProducerMessageValues, ProducerOptionsValues, empty_producer_options}
 use Rattle.pulsar_messages.specs.Words as words
 use Rattle.pulsar_messages.specs.Words.{Words}
 use Rattle.pulsar_searches.specs.declared.turn.Ways.{Ways}
 use Rattle.pulsar_wire.specs.Failures.{Disconnected, Encoding, Failure, OfBatch, Shutdown}
 use Rattle.pulsar_wire.specs.declared.error.Reason.{Reason}
 use Rattle.pulsar_exchange.specs.Messages.{Reply, is_body}
+use Rattle.pulsar_outgoing.specs.declared.multi_topic.Multi.{Multi}
+use Rattle.pulsar_outgoing.specs.declared.multi_topic.Multi.TheVariants.{Own, Made}
 use Rattle.pulsar_outgoing.specs.declared.multi_topic.Taker.TheVariants as taker
 use Rattle.pulsar_outgoing.specs.Batch.{batch_of, entries_in, entry_of, placed}
 use Rattle.pulsar_outgoing.specs.Errors.{in_producer}
 use Rattle.pulsar_producer.specs.BatchLaws.{cut_by, items_of, joined, taken_of}
 use Rattle.pulsar_messages.specs.Message.{with_version}
 use Rattle.pulsar_outgoing.specs.Storage.{Item, SingleMessage, Flush, bytes_of, is_nothing}
-use Rattle.pulsar_producer.specs.Producer as producer
 use Rattle.pulsar_producer.specs.Topic.{Act as Deed, Cuts, Setup, seen}
 use Rattle.pulsar_outgoing.specs.declared.batch.Fate.{Fate}
 use Rattle.pulsar_outgoing.specs.declared.batch.Fate.TheVariants as fate
@@ -31,7 +32,7 @@ use Rattle.pulsar_outgoing.specs.declared.orders.ProducerOrder.{ProducerOrder}
 use Rattle.pulsar_calls.specs.declared.act.Act.TheVariants.{Answers, Comes, Starts, Told, Does}
 use Rattle.pulsar_calls.specs.declared.act.Action.{Action}
 use Rattle.pulsar_calls.specs.declared.act.Action.TheVariants as action
-use Rattle.pulsar_calls.specs.declared.act.Action.TheVariants.{OfTopic, Ask, Get, Shut, TellAll, Wait}
+use Rattle.pulsar_calls.specs.declared.act.Action.TheVariants.{OfTopic, Ask, Get, TellAll, Wait}
 use Rattle.pulsar_calls.specs.declared.act.Alarm.TheVariants.{Wake}
 use Rattle.pulsar_calls.specs.declared.act.TopicAsk.TheVariants.{Store, TakeBatch}
 use Rattle.pulsar_calls.specs.declared.act.Makes.TheVariants.{Nothing}
@@ -44,12 +45,13 @@ use Rattle.pulsar_calls.specs.declared.act.Verdict.{Verdict}
 use Rattle.pulsar_calls.specs.declared.act.Who.{Who}
 use Rattle.pulsar_calls.specs.declared.act.Who.TheVariants.{Call, Consumer, Producer}
 use Rattle.pulsar_plans.specs.declared.plan.Plan.{Plan}
+use Rattle.pulsar_producer_table.specs.declared.table.Owner.{Owner}
 use Rattle.pulsar_producer_table.specs.declared.table.Topic.{Topic}
 use Rattle.pulsar_calls.specs.Content.{Asked, Failed, Receipt, sent_by}
-use Rattle.pulsar_laws.specs.Laws.{AreActs, FailsSo, IsDropped, started}
+use Rattle.pulsar_laws.specs.Laws.{AreActs, FailsSo, IsDropped, Shuts, started}
 use Rattle.pulsar_plans.specs.Plan.{closed_notice, fails, overrides, verdict}
 use Rattle.pulsar_laws.specs.ProducerLaws.{Dealing, DealsWithNone, GoesRound, Sends, SendsBatches, acts_on, asks_in, dealing, is_queued, queued_times, version_told}
-use Rattle.pulsar_producer_table.specs.Producers.{is_bare, is_settled_at, next_batch_at, numbers_at, stored_at, timeout_at}
+use Rattle.pulsar_producer_table.specs.Producers.{is_bare, is_settled_at, next_batch_at, options_of, stored_at, timeout_at}
 use Rattle.pulsar_acts.specs.Rules.{call_part, notice, ready_notice}
 use Rattle.pulsar_acts.specs.Run.{Entry, Then, IsRun, Rests, view}
 use Rattle.pulsar_acts.specs.View.{View}
@@ -98,7 +100,8 @@ asks_others (Wait delay) = true
 asks_others (OfTopic m ask) = false
 asks_others action.Number = false
 asks_others (action.Hold l m) = false
-asks_others (Shut t) = false
+asks_others (action.Shut t) = false
+asks_others (action.OfMulti m ask) = false
 asks_others (action.TakeNumber wanted) = false
 asks_others (action.OfConsumer ask) = false
 asks_others (action.Tell notice) = false
@@ -309,17 +312,26 @@ EachSentOnce = (o : Options) (log : List Entry) (t : ℕ) → IsRun o log → qu
 
 -- HOW MUCH A BATCH HAS
 
--- A topic producer makes batches by the options of the call that built it: what it stores is cut by these limits, and waits so long. What is stored
--- reaches none of them.
+-- The options of a topic producer: those of the order of the call that built it; and for a topic of a producer of many topics those with which that
+-- was made, by its call, or the empty ones of the client's own.
+abbrev pub OptionsBy : List Entry → (ticket : ℕ) → Option Multi → ProducerOptionsValues → Type 0
+OptionsBy log t None x = (w : Ways) × (order : ProducerOrder) × (started (Call t) log ≡ Some (procedure.Produce w order)) × (x ≡ order.options)
+OptionsBy log t (Some Own) x = x ≡ empty_producer_options
+OptionsBy log t (Some (Made u)) x = (name : Option (List ℕ)) × (started (Call u) log ≡ Some (procedure.MakeMulti name x))
+
+abbrev pub OptionsOf : List Entry → Owner → ProducerOptionsValues → Type 0
+OptionsOf log owner x = OptionsBy log owner.ticket owner.multi x
+
+-- A topic producer makes batches by its options: what it stores is cut by these limits, and waits so long. What is stored reaches none of them.
 abbrev pub BatchesByItsOptions : Type 0
 BatchesByItsOptions = (o : Options) (log : List Entry) (n : ℕ) (row : Topic) → IsRun o log → (view o log).producers.topics n ≡ Some row →
-    (w : Ways) × (order : ProducerOrder) × (started (Call row.owner) log ≡ Some (procedure.Produce w order))
-    × (row.seen.storage.limits.max_size ≡ order.options.batch_size) × (row.seen.storage.limits.max_byte_size ≡ order.options.batch_byte_size)
-    × ((p : producer.Seen) → (view o log).producers.built row.owner ≡ Some p →
-    timeout_at (view o log).producers (Some row) ≡ order.options.batch_timeout)
+    (x : ProducerOptionsValues) × OptionsOf log row.owner x
+    × (row.seen.storage.limits.max_size ≡ x.batch_size) × (row.seen.storage.limits.max_byte_size ≡ x.batch_byte_size)
+    × ((known : ProducerOptionsValues) → options_of (view o log).producers row.owner ≡ Some known →
+    timeout_at (view o log).producers (Some row) ≡ x.batch_timeout)
     × (is_nothing row.seen.storage.items ≡ false →
-    ((limit : ℕ) → order.options.batch_size ≡ Some limit → length row.seen.storage.items < limit)
-    × ((limit : ℕ) → order.options.batch_byte_size ≡ Some limit → capped (bytes_of row.seen.storage.items) < limit))
+    ((limit : ℕ) → x.batch_size ≡ Some limit → length row.seen.storage.items < limit)
+    × ((limit : ℕ) → x.batch_byte_size ≡ Some limit → capped (bytes_of row.seen.storage.items) < limit))
 
 -- What is stored has as many bytes as its payloads, and a flush has none: that is compared with the limit.
 abbrev pub SizesAreSaid : Type 0
@@ -341,23 +353,22 @@ abbrev pub CutByLimits : Type 0
 CutByLimits = (s : Setup) (h : List Deed) (d : Deed) (b : List Item) → cut_by d (seen s h) ≡ b ∷ [] →
     (d ≡ Cuts) ⊎ IsFullBy s.limits.max_size s.limits.max_byte_size b
 
--- So whatever is done to a topic producer in a run cuts a batch only where the options of the call that built it say so, or by its time.
+-- So whatever is done to a topic producer in a run cuts a batch only where its options say so, or by its time.
 abbrev pub CutByItsOptions : Type 0
 CutByItsOptions = (o : Options) (log : List Entry) (n : ℕ) (row : Topic) (d : Deed) (b : List Item) → IsRun o log →
     (view o log).producers.topics n ≡ Some row → cut_by d row.seen ≡ b ∷ [] →
-    (w : Ways) × (order : ProducerOrder) × (started (Call row.owner) log ≡ Some (procedure.Produce w order))
-    × ((d ≡ Cuts) ⊎ IsFullBy order.options.batch_size order.options.batch_byte_size b)
+    (x : ProducerOptionsValues) × OptionsOf log row.owner x × ((d ≡ Cuts) ⊎ IsFullBy x.batch_size x.batch_byte_size b)
 
 -- WHERE ITS PRODUCER IS CLOSED
 
 -- As a producer is closed, each message that one of its topic producers stores is settled in that step: its send fails. Nothing is stored there any
 -- more.
 abbrev pub ClosedWithTheProducer : Type 0
-ClosedWithTheProducer = (o : Options) (newer older : List Entry) (who : Who) (t n ticket : ℕ) →
-    IsRun o (newer ++ Then (Does who (Shut t)) ∷ older) → Rests o (newer ++ Then (Does who (Shut t)) ∷ older) → AreActs newer →
-    In n (numbers_at ((view o older).producers.built t)) →
+ClosedWithTheProducer = (o : Options) (newer older : List Entry) (who : Who) (closes : Action) (n ticket : ℕ) →
+    IsRun o (newer ++ Then (Does who closes) ∷ older) → Rests o (newer ++ Then (Does who closes) ∷ older) → AreActs newer →
+    Shuts (view o older) n closes →
     (In ticket (stored_at ((view o older).producers.topics n)) → In (Then (Told (closed_notice ticket))) newer)
-    × (is_bare ((view o (Then (Does who (Shut t)) ∷ older)).producers.topics n) ≡ true)
+    × (is_bare ((view o (Then (Does who closes) ∷ older)).producers.topics n) ≡ true)
 
 -- WHAT IS STORED
 

@@ -20,7 +20,7 @@ use Rattle.pulsar_calls.specs.declared.act.Who.TheVariants.{Call, Producer}
 use Rattle.pulsar_acts.specs.Rules.{notice}
 use Rattle.pulsar_acts.specs.Run.{Entry, IsRun, Then}
 use Rattle.pulsar_machine.specs.Options.{Options}
-use Rattle.pulsar_laws.specs.Laws.{Acts, AsksSo, AttemptEnds, BecomesReady, DrawsNone, FailsSo, Finds, Gets, GetsTurn, GrantsSo, IsDropped, IsReady, IsReplied, IsStopped, IsUnknown, IsWoken, LineEnds, MovesUp, RequestEnds, WordComes, base_of, outcomes, started}
+use Rattle.pulsar_laws.specs.Laws.{Acts, AsksSo, AttemptEnds, BecomesReady, DrawsNone, FailsSo, Finds, Gets, GetsMultiTurn, GetsTurn, GrantsSo, IsDropped, IsReady, IsReplied, IsStopped, IsUnknown, IsWoken, LineEnds, MovesUp, MultiSaysSo, RequestEnds, WordComes, base_of, outcomes, started}
 use Rattle.pulsar_laws.specs.BatchLaws.{TellsBatch}
 use Rattle.pulsar_laws.specs.ProducerLaws.{is_queued}
 
@@ -40,6 +40,9 @@ share_in (procedure.FailShare s r) = Some s
 share_in (procedure.Gather first count) = None
 share_in (procedure.Go round numbers) = None
 share_in (procedure.Close ticket numbers) = None
+share_in (procedure.MakeMulti name settings) = None
+share_in (procedure.MultiSend ways multi share topic message) = share
+share_in (procedure.MultiClose multi topic) = None
 share_in (procedure.Subscribe ways order) = None
 share_in (procedure.Serve ways number) = None
 share_in (procedure.Acknowledge link request) = None
@@ -64,6 +67,9 @@ is_taken (procedure.FailShare s r) u = false
 is_taken (procedure.Gather first count) u = false
 is_taken (procedure.Go round numbers) u = false
 is_taken (procedure.Close ticket numbers) u = false
+is_taken (procedure.MakeMulti name settings) u = false
+is_taken (procedure.MultiSend ways multi share topic message) u = is_queued u || is_done u
+is_taken (procedure.MultiClose multi topic) u = false
 is_taken (procedure.Subscribe ways order) u = false
 is_taken (procedure.Serve ways number) u = false
 is_taken (procedure.Acknowledge link request) u = false
@@ -84,6 +90,7 @@ is_stopped outcome.TimedOut = false
 is_stopped outcome.Disconnected = false
 is_stopped outcome.Woken = false
 is_stopped (outcome.Granted n) = false
+is_stopped (outcome.OfMulti x) = false
 is_stopped (outcome.Parted ticket f) = false
 is_stopped (outcome.Settled f) = false
 is_stopped (outcome.Word w) = false
@@ -124,7 +131,8 @@ IsToldByBatch o who u e older =
 -- its request, its frame in the line or the attempt that it waited for ended so; Disconnected also: there is no such topic producer; Stopped
 -- also: the client was stopped, or a part of it, or its batch, says so. Granted: it asked for a turn, for a number or the like, or its turn
 -- came; a batch was cut, or its flush is settled. Parted: a part of it says so. Settled: its batch says so, or its producer is closed. Word:
--- it asked of consumers, and this is said at once; or it happened to its own consumer, or to the one whose link it waits for.
+-- it asked of consumers, and this is said at once; or it happened to its own consumer, or to the one whose link it waits for. OfMulti: it asked a
+-- producer of many topics, and this is said at once; or its turn there came.
 abbrev pub Cause : Options → Who → Outcome → Entry → List Entry → Type 0
 Cause o who (outcome.GotLink link) e older =
     Gets o who (λ p v. (is_reachable p ≡ true) × ((base_of v p).series ≡ Serves link)) e older
@@ -132,6 +140,7 @@ Cause o who (outcome.GotLink link) e older =
 Cause o who (outcome.Granted n) e older =
     Acts o who (GrantsSo n) e older
     ⊎ (GetsTurn o who n e older ⊎ (IsReady o who n e older ⊎ IsToldByBatch o who (outcome.Granted n) e older))
+Cause o who (outcome.OfMulti x) e older = Acts o who (MultiSaysSo x) e older ⊎ GetsMultiTurn o who x e older
 Cause o who (outcome.Settled f) e older = IsToldByBatch o who (outcome.Settled f) e older ⊎ IsDropped o who (outcome.Settled f) e older
 Cause o who (outcome.Parted ticket f) e older = IsToldByPart who (outcome.Parted ticket f) e older
 Cause o who (outcome.Word w) e older = WordComes o who w e older

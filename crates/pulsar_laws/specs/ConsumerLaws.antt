@@ -99,6 +99,7 @@ made_as key makes.Client = None
 made_as key (makes.Consumer j) = Some (setup_of key j)
 made_as key (makes.RawConsumer l made) = Some (of_raw made)
 made_as key (makes.Producer b) = None
+made_as key (makes.MultiProducer name settings) = None
 
 abbrev pub making_does : (ℕ → Option Seat) → Makes → List Done
 making_does live makes.Nothing = []
@@ -106,6 +107,7 @@ making_does live makes.Client = []
 making_does live (makes.Consumer j) = subscription_does j.link (url_at (live j.link))
 making_does live (makes.RawConsumer l made) = subscription_does l (url_at (live l))
 making_does live (makes.Producer b) = []
+making_does live (makes.MultiProducer name settings) = []
 
 -- how the consumer of a ticket was made
 abbrev pub made_with : Options → (ticket : ℕ) → List Entry → Option Setup
@@ -401,12 +403,17 @@ Licenses v (content.Topics namespace mode) l r = ⊥
 Licenses v (content.Lookup topic) l r = ⊥
 Licenses v (content.Partitions topic) l r = ⊥
 Licenses v (content.Brokers topic) l r = ⊥
+Licenses v (content.Post topic m) l r = ⊥
 Licenses v (content.Producer wanted) l r = ⊥
+Licenses v (content.MultiProducer wanted) l r = ⊥
 Licenses v (content.Send t m) l r = ⊥
 Licenses v (content.SendAll t ms) l r = ⊥
 Licenses v (content.Flush t) l r = ⊥
 Licenses v (content.CheckProducer t) l r = ⊥
 Licenses v (content.CloseProducer t) l r = ⊥
+Licenses v (content.MultiSend t topic m) l r = ⊥
+Licenses v (content.MultiSendAll t topic ms) l r = ⊥
+Licenses v (content.MultiClose t topic) l r = ⊥
 Licenses v (content.Consumer wanted) l r = ⊥
 Licenses v (content.Nack t name id) l r = ⊥
 Licenses v (content.CloseConsumer t) l r = ⊥

@@ -29,7 +29,7 @@ use Rattle.pulsar_links.specs.Alarms.{ringing, rings}
 use Rattle.pulsar_calls.specs.declared.act.Act.{Act}
 use Rattle.pulsar_calls.specs.declared.act.Act.TheVariants.{Comes, Starts, Told, Does, Answers, Dials}
 use Rattle.pulsar_calls.specs.declared.act.Action.{Action}
-use Rattle.pulsar_calls.specs.declared.act.Action.TheVariants.{OfTopic, Get, Ask, Number, Hold, Shut, TakeNumber, Tell, TellAll, StopAll, Rest, OfConsumer}
+use Rattle.pulsar_calls.specs.declared.act.Action.TheVariants.{OfTopic, OfMulti, Get, Ask, Number, Hold, Shut, TakeNumber, Tell, TellAll, StopAll, Rest, OfConsumer}
 use Rattle.pulsar_calls.specs.declared.act.ConsumerAsk.TheVariants.{Find as FindConsumer, TakeFlow, Recall as RecallConsumer, Revive, Fail as FailConsumer}
 use Rattle.pulsar_calls.specs.declared.act.TopicAsk.TheVariants.{TakeTurn, PassTurn, Draw, Recall, Remake, Find, Store, Flush, TakeBatch}
 use Rattle.pulsar_calls.specs.declared.act.Alarm.{Alarm}
@@ -75,11 +75,22 @@ use Rattle.pulsar_consumer_table.specs.declared.row.LinkAnswer.TheVariants.{Gone
 use Rattle.pulsar_consumer.specs.Plans.{in_use, not_found}
 use Rattle.pulsar_incoming.specs.declared.orders.ConsumerOrder.{ConsumerOrder}
 use Rattle.pulsar_consumer.specs.Topic as reader
-use Rattle.pulsar_acts.specs.View.{View, builds, member_on, pause_of, setup, setup_of, room_of}
+use Rattle.pulsar_acts.specs.View.{View, builds, member_on, multi_at, pause_of, setup, setup_of, room_of}
 use Rattle.pulsar_machine.specs.Options.{Options}
 use Rattle.pulsar_links.specs.Seats.{Base, Seat, answer_at, arrival_at, closing, is_asked, url_at}
 use Rattle.pulsar_calls.specs.Who.{in_turn, is_same, rank, ticket_of, turn_of as taken_as}
+use Rattle.pulsar_outgoing.specs.declared.multi_topic.Multi.{Multi}
+use Rattle.pulsar_outgoing.specs.declared.multi_topic.MultiAsk.TheVariants as ask
+use Rattle.pulsar_outgoing.specs.declared.multi_topic.MultiSaid.{MultiSaid}
+use Rattle.pulsar_outgoing.specs.declared.multi_topic.MultiSaid.TheVariants as said
+use Rattle.pulsar_outgoing.specs.declared.multi_topic.Taker.{Taker}
 use Rattle.pulsar_outgoing.specs.declared.multi_topic.Taker.TheVariants as taker
+use Rattle.pulsar_producer.specs.Dispatching.{dispatched}
+use Rattle.pulsar_producer.specs.MultiTopic as multi
+use Rattle.pulsar_producer.specs.MultiTopic.{found, is_free, order_for}
+use Rattle.pulsar_producer.specs.Producer as producer
+use Rattle.pulsar_producer_table.specs.Multis.{next_on, topic_numbers, waiting}
+use Rattle.pulsar_producer_table.specs.Takers.{who_of}
 use Rattle.pulsar_run.specs.Laws as run
 use Rattle.pulsar_session.specs.Link as session
 use Rattle.pulsar_outgoing.specs.declared.news.News.TheVariants as news
@@ -320,14 +331,15 @@ abbrev pub IsWoken : Options → Who → Entry → List Entry → Type 0
 IsWoken o who e older = (e ≡ Then (Comes (Rings (Wake who)))) × (rings (view o older).now (Wake who) (view o older).alarms ≡ true)
 
 -- this one stops the client; or it waits for a moment or for an attempt that is to follow, for its turn at a topic producer, or for a batch
--- that is not under way, or for the link of a consumer, while another does
+-- that is not under way, or for the link of a consumer, or for the turn of a producer of many topics, while another does
 abbrev pub IsStopped : Options → Who → Entry → List Entry → Type 0
 IsStopped o who e older =
     (stopper : Who) × (e ≡ Then (Does stopper StopAll))
     × ((who ≡ stopper) ⊎ In (notice who outcome.Stopped) (flat_map (λ a. stopped_with (view o older).addresses a.0) (view o older).alarms)
     ⊎ ((number : ℕ) × In who (waiting_at number ((view o older).producers.topics number)))
     ⊎ ((number ticket : ℕ) × (who ≡ Call ticket) × In ticket (unsent_at ((view o older).producers.topics number)))
-    ⊎ ((ticket : ℕ) × In who (consumer.seekers_at ((view o older).consumers.rows ticket))))
+    ⊎ ((ticket : ℕ) × In who (consumer.seekers_at ((view o older).consumers.rows ticket)))
+    ⊎ In who (map who_of (waiting (view o older).producers.multis)))
 
 -- its plan does this, and what is seen there is so
 abbrev pub Acts : Options → Who → (Action → View → Type 0) → Entry → List Entry → Type 0
@@ -366,11 +378,12 @@ Finds link (OfTopic n Find) v = link_at (v.producers.topics n) ≡ Some link
 Finds link (OfConsumer (FindConsumer t)) v = consumer.link_at (v.consumers.rows t) ≡ Some link
 Finds link _ v = ⊥
 
--- it asks of a topic producer that is not known, or of its own consumer, where that is not
+-- it asks of a topic producer that is not known, of a producer of many topics that is not, or of its own consumer, where that is not
 abbrev pub IsUnknown : Who → Action → View → Type 0
 IsUnknown who (OfTopic n TakeTurn) v = v.producers.topics n ≡ None
 IsUnknown who (OfTopic n Recall) v = recalled v.producers n ≡ None
 IsUnknown who (OfTopic n Find) v = v.producers.topics n ≡ None
+IsUnknown who (OfMulti m ask) v = multi_at v m ≡ None
 IsUnknown who (OfConsumer RecallConsumer) v = v.consumers.rows (ticket_of who) ≡ None
 IsUnknown who _ v = ⊥
 
@@ -446,6 +459,28 @@ GetsTurn o who n e older =
     (other : Who) × (number turn : ℕ) × (version : Option (List ℕ)) × (e ≡ Then (Does other (OfTopic number PassTurn))) × (who ≡ in_turn number turn)
     × (n ≡ news.HasTurn version) × (turn_passed ((view o older).producers.topics number) ≡ Some (taker.Call turn, version))
 
+-- What it asks of a producer of many topics is said at once: the turn, which nobody has; how the producer of a topic takes a message, by what its policy
+-- says of that, or refuses it; that there is no such producer, and how it is built; the topic producers of one that is removed; or nothing more.
+abbrev pub MultiIs : View → Multi → (multi.Seen → Type 0) → Type 0
+MultiIs v m P = (s : multi.Seen) × (multi_at v m ≡ Some s) × P s
+
+abbrev pub MultiSaysSo : MultiSaid → Action → View → Type 0
+MultiSaysSo said.HasTurn (OfMulti m ask.TakeTurn) v = MultiIs v m (λ s. is_free s ≡ true)
+MultiSaysSo (said.Handed given) (OfMulti m (ask.Hand h)) v =
+    MultiIs v m (λ s. (p : producer.Seen) × (found h.topic s.topics ≡ Some p) × (given ≡ dispatched (producer.advice v.policies h.message p) h.message p))
+MultiSaysSo (said.Absent x) (OfMulti m (ask.Hand h)) v =
+    MultiIs v m (λ s. (found h.topic s.topics ≡ None) × (x ≡ record { order = order_for h.topic s; message = h.message }))
+MultiSaysSo (said.Removed numbers) (OfMulti m (ask.Remove topic)) v = MultiIs v m (λ s. numbers ≡ numbers_at (found topic s.topics))
+MultiSaysSo said.Done (OfMulti m ask.PassTurn) v = MultiIs v m (λ s. Unit {0})
+MultiSaysSo said.Done (OfMulti m (ask.Join j)) v = MultiIs v m (λ s. Unit {0})
+MultiSaysSo _ _ v = ⊥
+
+-- another passes the turn of a producer of many topics on to it
+abbrev pub GetsMultiTurn : Options → Who → MultiSaid → Entry → List Entry → Type 0
+GetsMultiTurn o who x e older =
+    (other : Who) × (m : Multi) × (next : Taker) × (e ≡ Then (Does other (OfMulti m ask.PassTurn))) × (who ≡ who_of next) × (x ≡ said.HasTurn)
+    × (next_on (multi_at (view o older) m) ≡ Some next)
+
 -- what is stored at a topic producer is cut into a batch, and none was under way: by another message, by a flush, or since it has waited
 abbrev pub CutsSo : Options → (number : ℕ) → (act : topic.Act) → Entry → List Entry → Type 0
 CutsSo o n (topic.Stores turn entry) e older = (other : Who) × (e ≡ Then (Does other (OfTopic n (Store entry)))) × (turn ≡ taken_as other)
@@ -459,11 +494,17 @@ IsReady o who n e older =
     (number : ℕ) × (act : topic.Act) × (who ≡ Producer number) × (n ≡ news.Ready)
     × (is_woken act ((view o older).producers.topics number) ≡ true) × CutsSo o number act e older
 
+-- a producer is closed that has the topic producer of this number: as itself, or as that of a topic of a producer of many topics
+abbrev pub Shuts : View → (number : ℕ) → Action → Type 0
+Shuts v n (Shut t) = In n (numbers_at (v.producers.built t))
+Shuts v n (OfMulti m (ask.Remove topic)) = In n (topic_numbers topic (multi_at v m))
+Shuts v n _ = ⊥
+
 -- its message is stored at a producer that is closed
 abbrev pub IsDropped : Options → Who → Outcome → Entry → List Entry → Type 0
 IsDropped o who u e older =
-    (other : Who) × (producer number ticket : ℕ) × (e ≡ Then (Does other (Shut producer))) × (who ≡ Call ticket)
-    × In number (numbers_at ((view o older).producers.built producer)) × In ticket (stored_at ((view o older).producers.topics number))
+    (other : Who) × (closes : Action) × (number ticket : ℕ) × (e ≡ Then (Does other closes)) × (who ≡ Call ticket)
+    × Shuts (view o older) number closes × In ticket (stored_at ((view o older).producers.topics number))
     × (u ≡ outcome.Settled (Err (OfProducer ProducerClosed)))
 
 -- the number of the body of a procedure's request
@@ -480,6 +521,9 @@ number_in (procedure.FailShare share r) = None
 number_in (procedure.Gather first count) = None
 number_in (procedure.Go round numbers) = None
 number_in (procedure.Close ticket numbers) = None
+number_in (procedure.MakeMulti name settings) = None
+number_in (procedure.MultiSend ways multi share topic message) = None
+number_in (procedure.MultiClose multi topic) = None
 number_in (procedure.Subscribe ways order) = None
 number_in (procedure.Serve ways number) = None
 number_in (procedure.Acknowledge link request) = None
@@ -524,6 +568,9 @@ ways_in (procedure.FailShare share r) = None
 ways_in (procedure.Gather first count) = None
 ways_in (procedure.Go round numbers) = None
 ways_in (procedure.Close ticket numbers) = None
+ways_in (procedure.MakeMulti name settings) = None
+ways_in (procedure.MultiSend ways multi share topic message) = Some ways
+ways_in (procedure.MultiClose multi topic) = None
 ways_in (procedure.Subscribe ways order) = Some ways
 ways_in (procedure.Serve ways number) = Some ways
 ways_in (procedure.Acknowledge link request) = None
@@ -544,6 +591,9 @@ fails_in_producer (procedure.FailShare share r) = false
 fails_in_producer (procedure.Gather first count) = false
 fails_in_producer (procedure.Go round numbers) = false
 fails_in_producer (procedure.Close ticket numbers) = true
+fails_in_producer (procedure.MakeMulti name settings) = false
+fails_in_producer (procedure.MultiSend ways multi share topic message) = true
+fails_in_producer (procedure.MultiClose multi topic) = true
 fails_in_producer (procedure.Subscribe ways order) = false
 fails_in_producer (procedure.Serve ways number) = false
 fails_in_producer (procedure.Acknowledge link request) = false
@@ -557,8 +607,8 @@ has_failed _ = false
 
 -- a call fails where it is refused, and else with the fault of an outcome that it was told, or of a reply to its request; a search with
 -- these as faults of its own, and a send and a close as a producer; one with parts where some of them failed; a message that is stored
--- with what it is told; a consumer that is built where its number is in use, and where its topic has several partitions; and the close of one
--- that has ended
+-- with what it is told; one that the producer of a topic refuses, so; a consumer that is built where its number is in use, and where its topic has
+-- several partitions; and the close of one that has ended
 pub data FailsSo (p : Procedure) (os : List Outcome) (f : Failure) : Type 0 where
   IsRefused : (r : CallRefusal) → p ≡ procedure.Refuse r → f ≡ failure_of r → FailsSo p os f
   IsRefusedShare : (s : Share) (r : CallRefusal) → p ≡ procedure.FailShare s r → f ≡ failure_of r → FailsSo p os f
@@ -571,6 +621,7 @@ pub data FailsSo (p : Procedure) (os : List Outcome) (f : Failure) : Type 0 wher
   IsUnexpectedInProducer : (r : Reply) → fails_in_producer p ≡ true → In (outcome.Replied r) os →
       f ≡ in_producer (unexpected r.content r.content.body) → FailsSo p os f
   IsSettled : In (outcome.Settled (Err f)) os → FailsSo p os f
+  IsNotTaken : In (outcome.OfMulti (said.Handed (Err f))) os → FailsSo p os f
   IsPartial : (first count : ℕ) (failures : List (ℕ × Failure)) → p ≡ procedure.Gather first count → list_any has_failed os ≡ true →
       f ≡ OfPartialSend (outcomes_of failures (numbers_from first count)) → FailsSo p os f
   IsInUse : (w : Ways) (order : ConsumerOrder) → p ≡ procedure.Subscribe w order → In (outcome.Word word.InUse) os → f ≡ in_use → FailsSo p os f

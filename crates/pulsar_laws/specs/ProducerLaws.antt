@@ -42,7 +42,7 @@ use Rattle.pulsar_producer.specs.declared.batching.Batching.TheVariants as batch
 use Rattle.pulsar_searches.specs.declared.turn.Ways.{Ways}
 use Rattle.pulsar_calls.specs.declared.act.Act.{Act}
 use Rattle.pulsar_calls.specs.declared.act.Act.TheVariants.{Answers, Does, Told}
-use Rattle.pulsar_calls.specs.declared.act.Action.TheVariants.{OfTopic, Ask}
+use Rattle.pulsar_calls.specs.declared.act.Action.TheVariants.{OfTopic, OfMulti, Ask}
 use Rattle.pulsar_calls.specs.declared.act.TopicAsk.TheVariants.{PassTurn, Remake, TakeTurn}
 use Rattle.pulsar_calls.specs.declared.act.Makes.{Makes}
 use Rattle.pulsar_calls.specs.declared.act.Makes.TheVariants as makes
@@ -67,7 +67,9 @@ use Rattle.pulsar_acts.specs.Things.{topics}
 pub use Rattle.pulsar_producer_table.specs.Asks.{drawn_by}
 pub use Rattle.pulsar_producer_table.specs.Producers.{shut_by}
 pub use Rattle.pulsar_acts.specs.View.{rung_by, topic_acts}
-use Rattle.pulsar_acts.specs.View.{View}
+use Rattle.pulsar_acts.specs.View.{View, multi_at}
+use Rattle.pulsar_outgoing.specs.declared.multi_topic.Joining.{Joining}
+use Rattle.pulsar_producer_table.specs.MultiAsks.{joined_by}
 use Rattle.pulsar_machine.specs.Options.{Options}
 use Rattle.pulsar_links.specs.Seats.{Seat, answer_at}
 use Rattle.pulsar_calls.specs.Who.{is_same, turn_of as taken_as}
@@ -104,6 +106,8 @@ dealing (plan.Leaving f) = DealsWithNone
 dealing (plan.Gathering first count left failures) = DealsWithNone
 dealing (plan.Shutting numbers) = DealsWithNone
 dealing (plan.Visiting r n left x) = GoesRound n x
+dealing (plan.MultiSending w m share s) = DealsWithNone
+dealing (plan.MultiClosing m s) = DealsWithNone
 dealing (plan.Subscribing w order b) = DealsWithNone
 dealing (plan.Serving w n s) = DealsWithNone
 dealing plan.Acknowledging = DealsWithNone
@@ -167,24 +171,31 @@ built_by n makes.Client before = before
 built_by n (makes.Consumer j) before = before
 built_by n (makes.RawConsumer l made) before = before
 built_by n (makes.Producer b) before = built_in n b.parts before
+built_by n (makes.MultiProducer name settings) before = before
+
+-- and as one that was built for a producer of many topics
+abbrev pub built_for : (number : ℕ) → Option Joining → (before : Option (ℕ × Given)) → Option (ℕ × Given)
+built_for n None before = before
+built_for n (Some j) before = built_in n j.parts before
 
 -- with what the topic producer of a number was made last: with its newest remaking since it was built, else as it was built
-abbrev pub made_last : (number : ℕ) → List Entry → Option (ℕ × Given)
-made_last n [] = None
-made_last n (Then (Answers who verdict) ∷ log) = built_by n verdict.makes (made_last n log)
-made_last n (Then (Does who (OfTopic m (Remake r))) ∷ log) = if n == m then Some (r.link, r.given) else made_last n log
-made_last n (_ ∷ log) = made_last n log
+abbrev pub made_last : Options → (number : ℕ) → List Entry → Option (ℕ × Given)
+made_last o n [] = None
+made_last o n (Then (Answers who verdict) ∷ log) = built_by n verdict.makes (made_last o n log)
+made_last o n (Then (Does who (OfTopic m (Remake r))) ∷ log) = if n == m then Some (r.link, r.given) else made_last o n log
+made_last o n (Then (Does who (OfMulti m ask)) ∷ log) = built_for n (joined_by ask (multi_at (view o log) m)) (made_last o n log)
+made_last o n (_ ∷ log) = made_last o n log
 
 -- The link of a topic producer, its name and the version of its schema are those with which it was made last.
 abbrev pub AsMadeLast : Type 0
 AsMadeLast = (o : Options) (log : List Entry) (n : ℕ) (t : Topic) → (view o log).producers.topics n ≡ Some t →
-    made_last n log ≡ Some (t.seen.link, t.seen.given)
+    made_last o n log ≡ Some (t.seen.link, t.seen.given)
 
 -- The version that one is told with its turn, had at once or passed on to it, is that with which the topic producer was made last.
 abbrev pub TurnsTellTheNewest : Type 0
 TurnsTellTheNewest = (o : Options) (log : List Entry) (who : Who) (version : Option (List ℕ)) →
     IsRun o (Then (Told (notice who (outcome.Granted (news.HasTurn version)))) ∷ log) →
-    InThisStep (λ e older. (n link : ℕ) × (given : Given) × (made_last n older ≡ Some (link, given)) × (given.version ≡ version)
+    InThisStep (λ e older. (n link : ℕ) × (given : Given) × (made_last o n older ≡ Some (link, given)) × (given.version ≡ version)
     × ((e ≡ Then (Does who (OfTopic n TakeTurn))) ⊎ ((other : Who) × (e ≡ Then (Does other (OfTopic n PassTurn)))))) log
 
 -- No other topic producer has the number of a new one, and none that was drawn before is as great: so none is drawn twice. And it is none that a raw call

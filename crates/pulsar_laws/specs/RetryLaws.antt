@@ -27,7 +27,7 @@ use Rattle.pulsar_searches.specs.declared.turn.Ways.{Ways}
 use Rattle.pulsar_producer.specs.Topic as topic
 use Rattle.pulsar_calls.specs.declared.act.Act.{Act}
 use Rattle.pulsar_calls.specs.declared.act.Act.TheVariants.{Answers, Comes, Dials, Does, Told}
-use Rattle.pulsar_calls.specs.declared.act.Action.TheVariants.{OfTopic, Shut, StopAll, Wait}
+use Rattle.pulsar_calls.specs.declared.act.Action.TheVariants.{OfTopic, OfMulti, Shut, StopAll, Wait}
 use Rattle.pulsar_calls.specs.declared.act.TopicAsk.TheVariants.{Flush, Store}
 use Rattle.pulsar_calls.specs.declared.act.Alarm.{Alarm}
 use Rattle.pulsar_calls.specs.declared.act.Alarm.TheVariants.{Batch, CheckIdle, KeepAlive, Retry, Wake}
@@ -49,7 +49,8 @@ use Rattle.pulsar_producer_table.specs.Producers.{is_bare, numbers_at, timeout_a
 use Rattle.pulsar_producer_table.specs.declared.table.Topic.{Topic}
 use Rattle.pulsar_acts.specs.Rules.{notice}
 use Rattle.pulsar_acts.specs.Run.{Entry, Begins, Then, IsRun, Rests, view}
-use Rattle.pulsar_acts.specs.View.{Turned, View, builds, turned}
+use Rattle.pulsar_acts.specs.View.{Turned, View, builds, multi_at, turned}
+use Rattle.pulsar_producer_table.specs.MultiAsks.{removed_by}
 use Rattle.pulsar_machine.specs.Options.{Chosen, Options}
 use Rattle.pulsar_laws.specs.Laws.{Acted, Deed, deeds, started, ways_in}
 use Rattle.pulsar_searches.specs.declared.transition.Transition.TheVariants.{Stays, Gives}
@@ -131,6 +132,7 @@ clears v (Comes (ToLink l x)) a = cleared_on (turned v (Comes (ToLink l x))) a
 clears v (Comes (Rings b)) a = rings v.now b v.alarms && is_same_alarm a b
 clears v (Does who (OfTopic n (Store x))) a = cleared_at v n (topic.Stores (taken_as who) x) a
 clears v (Does who (OfTopic n Flush)) a = cleared_at v n (topic.Flushes (taken_as who)) a
+clears v (Does who (OfMulti m ask)) a = list_any (λ n. is_same_alarm a (Batch n)) (removed_by ask (multi_at v m))
 clears v (Does who (Shut t)) a = list_any (λ n. is_same_alarm a (Batch n)) (numbers_at (v.producers.built t))
 clears v (Does who StopAll) a = true
 clears v _ a = false

@@ -19,7 +19,7 @@ use Rattle.pulsar_frame.specs.Reply.{Reply as Content, Written}
 use Rattle.pulsar_addresses.specs.Address.{Place}
 use Rattle.pulsar_addresses.specs.Backoff.{connection_id}
 use Rattle.pulsar_messages.specs.Claims.{claim}
-use Rattle.pulsar_messages.specs.Content.{ProducerMessageValues, Property}
+use Rattle.pulsar_messages.specs.Content.{ProducerMessageValues, ProducerOptionsValues, Property}
 use Rattle.pulsar_messages.specs.Message.{with_version}
 use Rattle.pulsar_messages.specs.Messages.{metadata_of}
 use Rattle.pulsar_messages.specs.Words.{CreateProducer, Subscribe, Words}
@@ -37,7 +37,6 @@ use Rattle.pulsar_outgoing.specs.Replies.{given}
 use Rattle.pulsar_incoming.specs.Content.{ConfigValues}
 use Rattle.pulsar_consumer.specs.Topic as reader
 use Rattle.pulsar_consumer.specs.Topic.{fresh, of_raw}
-use Rattle.pulsar_producer.specs.Producer as producer
 use Rattle.pulsar_producer_table.specs.Producers as producing
 use Rattle.pulsar_producer_table.specs.Producers.{Producers}
 use Rattle.pulsar_producer_table.specs.declared.table.Topic.{Topic}
@@ -117,9 +116,9 @@ pub record ConsumersAreMadeSo : Type 0 where
 
 -- A producer is made again, and a consumer is subscribed again, under its own number, by the options of its call; a producer by the name that it has.
 pub record CommandsAreSaid : Type 0 where
-  pub producers : (ps : Producers) (n : ℕ) (row : Topic) (p : producer.Seen) → ps.topics n ≡ Some row → ps.built row.owner ≡ Some p →
+  pub producers : (ps : Producers) (n : ℕ) (row : Topic) (x : ProducerOptionsValues) → ps.topics n ≡ Some row → producing.options_of ps row.owner ≡ Some x →
       producing.recalled ps n
-      ≡ Some (record { topic = row.seen.topic; request = CreateProducer row.seen.topic row.seen.number (Some row.seen.given.name) p.options; answer = 17 })
+      ≡ Some (record { topic = row.seen.topic; request = CreateProducer row.seen.topic row.seen.number (Some row.seen.given.name) x; answer = 17 })
   pub consumers : (m : Member) →
       consuming.recalled (Some m)
       ≡ Some (record {

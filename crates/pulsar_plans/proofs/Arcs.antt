@@ -68,7 +68,7 @@ use Rattle.pulsar_outgoing.specs.declared.news.News.TheVariants as news
 use Rattle.pulsar_producer.specs.declared.multi_topic.closing.MultiClosing.{MultiClosing as MultiClose}
 use Rattle.pulsar_producer.specs.declared.multi_topic.closing.MultiClosing.TheVariants as multi_close
 use Rattle.pulsar_producer.specs.declared.multi_topic.deed.MultiDeed.{MultiDeed}
-use Rattle.pulsar_producer.specs.declared.multi_topic.deed.MultiDeed.TheVariants.{Asks}
+use Rattle.pulsar_producer.specs.declared.multi_topic.deed.MultiDeed.TheVariants.{Asks, Does}
 use Rattle.pulsar_producer.specs.declared.multi_topic.sending.MultiSending.{MultiSending as MultiSend}
 use Rattle.pulsar_producer.specs.declared.multi_topic.sending.MultiSending.TheVariants as multi_send
 use Rattle.pulsar_producer.specs.declared.sending.Sending.TheVariants as send
@@ -461,6 +461,8 @@ module _ (w : Ways) (m : Multi) (s : MultiSend) (u : Outcome) where
 multi_closing : (m : Multi) (s : MultiClose) (u : Outcome) (x : multi.Closes) → MultiCloseTo s (multi_news_of u) x →
     ToldTo (MultiClosing m s) u (multi_closes m x)
 multi_closing m s u (Stays q (Asks ask)) k = multi_closes_on ask k
+multi_closing m s u (Stays q (Does d)) k = absurd k
+multi_closing m s u (Stays q (Does d)) k = absurd k
 multi_closing m s u (Gives (Ok [])) k = ends _ refl
 multi_closing m s u (Gives (Ok (n ∷ left))) k = multi_visits k
 multi_closing m s u (Gives (Err f)) k = ends _ refl

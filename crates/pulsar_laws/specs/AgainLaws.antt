@@ -38,6 +38,8 @@ use Rattle.pulsar_calls.specs.declared.act.Who.{Who}
 use Rattle.pulsar_calls.specs.Who.{is_same}
 use Rattle.pulsar_plans.specs.Plan.{news_in, told}
 use Rattle.pulsar_plans.specs.Transitions.{PlanTransition}
+use Rattle.pulsar_plans.specs.declared.copying.CopyState.{CopyState}
+use Rattle.pulsar_plans.specs.declared.copying.CopyState.TheVariants as copy
 use Rattle.pulsar_plans.specs.declared.plan.Plan.{Plan}
 use Rattle.pulsar_plans.specs.declared.plan.Plan.TheVariants as plan
 use Rattle.pulsar_plans.specs.declared.service.Service.{Service}
@@ -120,6 +122,14 @@ multi_stage (multi_send.Building order m b) = built_at b
 multi_stage (multi_send.Joining t m) = None
 multi_stage (multi_send.Passing given) = None
 
+abbrev pub copied_at : CopyState → Option Stage
+copied_at copy.Resting = None
+copied_at copy.Taking = None
+copied_at (copy.Handing s) = multi_stage s
+copied_at (copy.Sending e s) = sent_at s
+copied_at copy.Settling = None
+copied_at copy.Asking = None
+
 -- In which operation a plan stands. A search that rests by itself stands in none: no call begins with one.
 abbrev pub stage : Plan → Option Stage
 stage plan.Building = None
@@ -141,6 +151,7 @@ stage (plan.MultiSending w m share s) = multi_stage s
 stage (plan.MultiClosing m s) = None
 stage (plan.Subscribing w order b) = subscribed_at b
 stage (plan.Serving w n s) = served_at s
+stage (plan.Copying w t s) = copied_at s
 stage plan.Acknowledging = None
 stage (plan.Departing consumer n) = None
 stage plan.Stopping = None

@@ -6,12 +6,14 @@ use Rattle.pulsar_outgoing.specs.Storage.{is_nothing}
 use Rattle.pulsar_calls.specs.Content.{Ticked}
 use Rattle.pulsar_calls.specs.declared.act.Act.TheVariants.{Comes, Dials, Told}
 use Rattle.pulsar_calls.specs.declared.act.Alarm.{Alarm}
-use Rattle.pulsar_calls.specs.declared.act.Alarm.TheVariants.{Batch, CheckIdle, KeepAlive, Retry, Wake}
+use Rattle.pulsar_calls.specs.declared.act.Alarm.TheVariants.{Batch, CheckIdle, KeepAlive, Redelivery, Retry, Wake}
 use Rattle.pulsar_calls.specs.declared.act.End.TheVariants.{Idles}
 use Rattle.pulsar_calls.specs.declared.act.LinkAct.TheVariants.{Ends, Pings}
 use Rattle.pulsar_calls.specs.declared.act.Outcome.TheVariants as outcome
 use Rattle.pulsar_calls.specs.declared.act.Part.TheVariants.{Rings, ToLink}
-use Rattle.pulsar_consumer_table.specs.Consumers.{is_heard}
+use Rattle.pulsar_calls.specs.declared.act.Word.TheVariants as word
+use Rattle.pulsar_consumer_table.specs.Consumers.{Member, is_heard, redelivers, who_of}
+use Rattle.pulsar_messages.specs.Words.{Words}
 use Rattle.pulsar_links.specs.Seats.{Seat}
 use Rattle.pulsar_links.specs.declared.addresses.Pause.{Pause}
 use Rattle.pulsar_producer_table.specs.Producers.{is_held}
@@ -47,7 +49,7 @@ CutsStored o n row newer older =
     × (left.seen.cut ≡ row.seen.cut ++ row.seen.storage.items ∷ []) × (row.seen.is_under_way ≡ false → In (Then (Told (ready_notice n))) newer)
 
 -- What an alarm is for: the attempt that was to follow is made, with one retry more; one who waited is told so; what is stored is cut; a link is pinged that
--- has no ping that waits; and each link that nothing uses ends.
+-- has no ping that waits; what of a consumer is due is to be asked for again, in one frame; and each link that nothing uses ends.
 abbrev pub ActsSo : Options → Alarm → (newer older : List Entry) → Type 0
 ActsSo o (Retry l) newer older =
     (p : Pause) → (view o older).addresses.pause l ≡ Some p → In (Then (Dials p.address p.starter (p.retries + 1))) newer
@@ -56,6 +58,9 @@ ActsSo o (Batch n) newer older =
     (row : Topic) → (view o older).producers.topics n ≡ Some row → is_nothing row.seen.storage.items ≡ false → CutsStored o n row newer older
 ActsSo o (KeepAlive l) newer older =
     (seat : Seat) → (view o older).links.live l ≡ Some seat → seat.ping ≡ None → In (Then (Comes (ToLink l Pings))) newer
+ActsSo o (Redelivery n t) newer older =
+    (m : Member) (l : ℕ) (request : Words) → (view o older).consumers.rows t ≡ Some m → redelivers (view o older).now (Some m) ≡ Some (l, request) →
+    In (Then (Told (notice (who_of t m) (outcome.Word (word.Asks l request))))) newer
 ActsSo o CheckIdle newer older =
     (l : ℕ) (seat : Seat) → (view o older).links.live l ≡ Some seat → IsUnused (view o older) l seat → In (Then (Comes (ToLink l (Ends Idles)))) newer
 

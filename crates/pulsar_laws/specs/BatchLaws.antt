@@ -299,7 +299,7 @@ times_under t (Some items) = times_in t items
 abbrev pub batched_at : Options → (ticket : ℕ) → List Entry → Who → Outcome → ℕ
 batched_at o t log (Producer n) u = if is_queued u && asks_batch ((view o log).stand (Producer n)) then times_under t (under_way o n log) else 0
 batched_at o t log (Call ticket) u = 0
-batched_at o t log (Consumer number ticket) u = 0
+batched_at o t log (Consumer number ticket key) u = 0
 
 abbrev pub batched_times : Options → (ticket : ℕ) → List Entry → ℕ
 batched_times o t [] = 0

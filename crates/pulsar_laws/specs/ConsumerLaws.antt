@@ -1,5 +1,5 @@
 -- What follows of consumers, in plain words.
-use Rattle.std.specs.Prelude.{◌≡◌, ℕ, ◌+◌, ◌-◌, ◌≤◌, nat_lt, ◌==◌, ◌&&◌, ◌||◌, Bool, true, false, if◌then◌else◌, List, [], ◌∷◌, ◌++◌, length, map, Option, Some, None, Ok}
+use Rattle.std.specs.Prelude.{◌≡◌, ◌⊎◌, ℕ, ◌+◌, ◌-◌, ◌≤◌, nat_lt, ◌==◌, ◌&&◌, ◌||◌, not, Bool, true, false, if◌then◌else◌, List, [], ◌∷◌, ◌++◌, length, map, Option, Some, None, Ok}
 use Rattle.std.specs.List.{filter, flat_map, list_any, sum, sum_by}
 use Rattle.std.specs.Option.{is_some, option_map, option_to_list}
 use Rattle.url.specs.Parts.{Parts}
@@ -16,32 +16,35 @@ use Rattle.pulsar_consumer.specs.Frames.{frame_in}
 use Rattle.pulsar_consumer.specs.Items.{Item as Arrived, handed}
 use Rattle.pulsar_consumer.specs.Laws.{ArePlaced, arrivals, asked_since, begun, items_of, weighed_before, weights}
 use Rattle.pulsar_consumer.specs.Topic as reader
-use Rattle.pulsar_consumer.specs.Topic.{Act as Done, Lives, Hears, Loses, Fails, Ends as Over, Polls as Polled, Asks, Live, Seen, Setup, batch_size, first_of, half, is_ended, link_of, lives_on, of_raw, polled_from}
+use Rattle.pulsar_consumer.specs.Topic.{Act as Done, Lives, Hears, Loses, Fails, Ends as Over, Polls as Polled, Asks, IsAt, TakesCopy, IsCopied, FailsCopy, Forgets, Checks, Stops, Live, Seen, Setup, batch_size, first_of, half, is_ended, link_of, lives_on, of_raw, polled_from}
 use Rattle.pulsar_incoming.specs.declared.polled.Ending.{Ending}
 use Rattle.pulsar_incoming.specs.declared.polled.Ending.TheVariants.{Closed, TopicEnded, Stopped}
 use Rattle.pulsar_calls.specs.declared.act.Act.{Act}
 use Rattle.pulsar_calls.specs.declared.act.Act.TheVariants.{Comes, Starts, Told, Does, Answers}
 use Rattle.pulsar_exchange.specs.Request.{closed_consumer}
 use Rattle.pulsar_calls.specs.declared.act.Action.TheVariants.{Ask, OfConsumer, StopAll}
-use Rattle.pulsar_calls.specs.declared.act.ConsumerAsk.TheVariants.{TakeFlow, Revive, Fail}
+use Rattle.pulsar_calls.specs.declared.act.ConsumerAsk.TheVariants.{TakeFlow, Revive, Fail, TakeCopy, CopySent, CopyFailed}
+use Rattle.pulsar_calls.specs.declared.act.Alarm.{Alarm}
+use Rattle.pulsar_calls.specs.declared.act.Alarm.TheVariants.{Retry, Wake, Batch, KeepAlive, Redelivery, CheckIdle}
+use Rattle.pulsar_links.specs.Alarms.{rings}
 use Rattle.pulsar_calls.specs.declared.act.Arrival.{Arrival}
 use Rattle.pulsar_calls.specs.declared.act.Arrival.TheVariants.{Nothing, Readied, Settles, Gives, Passes, Bad}
 use Rattle.pulsar_calls.specs.declared.act.Makes.{Makes}
 use Rattle.pulsar_calls.specs.declared.act.Makes.TheVariants as makes
 use Rattle.pulsar_calls.specs.declared.act.LinkAct.TheVariants.{Reads, Ends}
-use Rattle.pulsar_calls.specs.declared.act.Part.TheVariants.{ToLink, Polls}
+use Rattle.pulsar_calls.specs.declared.act.Part.TheVariants.{Calls, ToLink, Rings, Polls}
 use Rattle.pulsar_calls.specs.declared.act.Procedure.{Procedure}
 use Rattle.pulsar_calls.specs.declared.act.Who.{Who}
 use Rattle.pulsar_calls.specs.declared.act.Outcome.TheVariants as outcome
 use Rattle.pulsar_calls.specs.declared.act.Word.TheVariants as word
 use Rattle.pulsar_calls.specs.declared.act.Who.TheVariants.{Call, Consumer}
 use Rattle.pulsar_calls.specs.Content as content
-use Rattle.pulsar_calls.specs.Content.{Asked, Heard, Poll, Shown, Hands, Faults, FindsNothing, FindsEnd}
-use Rattle.pulsar_calls.specs.Who.{is_same, ticket_of}
+use Rattle.pulsar_calls.specs.Content.{Asked, Heard, Poll, Shown, Hands, Faults, FindsNothing, FindsEnd, lacks_tickets, shares}
+use Rattle.pulsar_calls.specs.Who.{is_same, key_of, ticket_of}
 use Rattle.pulsar_consumer_table.specs.Consumers as consumer
 use Rattle.pulsar_consumer_table.specs.Consumers.{Member, is_closed_by}
 use Rattle.pulsar_links.specs.Links.{line_places}
-use Rattle.pulsar_acts.specs.View.{View, setup_of}
+use Rattle.pulsar_acts.specs.View.{View, may_call, setup_of}
 use Rattle.pulsar_machine.specs.Options.{Options}
 use Rattle.pulsar_links.specs.Seats.{Seat, answer_at, arrival_at, closing, is_asked, place_of, url_at}
 use Rattle.pulsar_acts.specs.Rules.{call_part, notice}
@@ -53,20 +56,20 @@ use Rattle.pulsar_laws.specs.Laws.{counted}
 -- WHAT IS DONE TO A CONSUMER
 
 -- by a frame for its number that comes on a link: a message, the end of its topic, or the close of the broker
-abbrev pub frame_does : (link : ℕ) → Reply → Seen → List Done
-frame_does l r s =
-    if is_body 9 r.content.body then Hears l (frame_in r) ∷ []
+abbrev pub frame_does : (now link : ℕ) → Reply → Seen → List Done
+frame_does now l r s =
+    if is_body 9 r.content.body then (if lives_on l s then Hears l (frame_in r) ∷ IsAt now ∷ [] else [])
     else if is_body 27 r.content.body then (if lives_on l s then Over TopicEnded ∷ [] else [])
     else if is_body 16 r.content.body then Loses l ∷ []
     else []
 
-abbrev pub arrival_does : (link : ℕ) → Arrival → Seen → List Done
-arrival_does l Nothing s = []
-arrival_does l Readied s = []
-arrival_does l Settles s = []
-arrival_does l (Gives number reply) s = if s.number == number then frame_does l reply s else []
-arrival_does l Passes s = []
-arrival_does l (Bad cause) s = []
+abbrev pub arrival_does : (now link : ℕ) → Arrival → Seen → List Done
+arrival_does now l Nothing s = []
+arrival_does now l Readied s = []
+arrival_does now l Settles s = []
+arrival_does now l (Gives number reply) s = if s.number == number then frame_does now l reply s else []
+arrival_does now l Passes s = []
+arrival_does now l (Bad cause) s = []
 
 -- by the end of a link, by the asking for its close, and by a subscription on a link that has not ended
 abbrev pub loss_does : (link : ℕ) → Option Fault → List Done
@@ -76,20 +79,60 @@ loss_does l (Some cause) = Loses l ∷ []
 abbrev pub close_does : (closed : Option ℕ) → (link : ℕ) → (is_asked : Bool) → Member → List Done
 close_does closed l is_asked m = if is_asked && is_closed_by closed l m then Over Closed ∷ [] else []
 
-abbrev pub subscription_does : (link : ℕ) → Option Parts → List Done
-subscription_does l None = []
-subscription_does l (Some url) = Lives l url ∷ []
+abbrev pub subscription_does : (now link : ℕ) → Option Parts → List Done
+subscription_does now l None = []
+subscription_does now l (Some url) = Lives l url ∷ IsAt now ∷ []
+
+-- by a call that acknowledges a message, or asks for it again where a subscription is live: it is not asked for again by itself
+abbrev pub call_does : Asked → (ticket : ℕ) → Member → List Done
+call_does (content.Ack u name id cumulative) t m = if t == u then Forgets id ∷ [] else []
+call_does (content.Nack u name id) t m = if (t == u) && is_some (link_of m.seen) then Forgets id ∷ [] else []
+call_does content.Build t m = []
+call_does content.Stop t m = []
+call_does (content.Topics namespace mode) t m = []
+call_does (content.Lookup topic) t m = []
+call_does (content.Partitions topic) t m = []
+call_does (content.Brokers topic) t m = []
+call_does (content.Post topic message) t m = []
+call_does (content.Producer wanted) t m = []
+call_does (content.MultiProducer wanted) t m = []
+call_does (content.Send u message) t m = []
+call_does (content.SendAll u messages) t m = []
+call_does (content.Flush u) t m = []
+call_does (content.CheckProducer u) t m = []
+call_does (content.CloseProducer u) t m = []
+call_does (content.MultiSend u topic message) t m = []
+call_does (content.MultiSendAll u topic messages) t m = []
+call_does (content.MultiClose u topic) t m = []
+call_does (content.Consumer wanted) t m = []
+call_does (content.CloseConsumer u) t m = []
+call_does (content.Raw l request) t m = []
+
+-- by its check, where that rings
+abbrev pub ring_does : View → Alarm → (ticket : ℕ) → List Done
+ring_does v (Redelivery n u) t = if (t == u) && rings v.now (Redelivery n u) v.alarms then Checks v.now ∷ [] else []
+ring_does v (Retry l) t = []
+ring_does v (Wake who) t = []
+ring_does v (Batch n) t = []
+ring_does v (KeepAlive l) t = []
+ring_does v CheckIdle t = []
 
 -- by an act, to the consumer of a ticket
 abbrev pub does_to : View → (ticket : ℕ) → Member → Act → List Done
-does_to v t m (Comes (ToLink l Reads)) = arrival_does l (arrival_at (v.links.live l)) m.seen
+does_to v t m (Comes (Calls asked advice)) =
+    if not (lacks_tickets v.calls.drawn (shares asked)) && may_call v.calls then call_does asked t m else []
+does_to v t m (Comes (Rings a)) = ring_does v a t
+does_to v t m (Comes (ToLink l Reads)) = arrival_does v.now l (arrival_at (v.links.live l)) m.seen
 does_to v t m (Comes (ToLink l (Ends end))) = loss_does l (closing end v.now (v.links.live l))
 does_to v t m (Comes (Polls u)) = if t == u then Polled v.now ∷ [] else []
 does_to v t m (Does who (Ask l request)) = close_does (closed_consumer request) l (is_asked (answer_at v.now request (v.links.live l))) m
 does_to v t m (Does who (OfConsumer TakeFlow)) = if t == ticket_of who then Asks ∷ [] else []
-does_to v t m (Does who (OfConsumer (Revive l))) = if t == ticket_of who then subscription_does l (url_at (v.links.live l)) else []
+does_to v t m (Does who (OfConsumer (Revive l))) = if t == ticket_of who then subscription_does v.now l (url_at (v.links.live l)) else []
 does_to v t m (Does who (OfConsumer (Fail f))) = if t == ticket_of who then Fails f ∷ [] else []
-does_to v t m (Does who StopAll) = Over Stopped ∷ []
+does_to v t m (Does who (OfConsumer TakeCopy)) = if t == ticket_of who then TakesCopy ∷ [] else []
+does_to v t m (Does who (OfConsumer CopySent)) = if t == ticket_of who then IsCopied (key_of who) v.now ∷ [] else []
+does_to v t m (Does who (OfConsumer CopyFailed)) = if t == ticket_of who then FailsCopy (key_of who) v.now ∷ [] else []
+does_to v t m (Does who StopAll) = Stops ∷ Over Stopped ∷ []
 does_to v t m _ = []
 
 -- and by the verdict that makes it: its first subscription
@@ -101,13 +144,13 @@ made_as key (makes.RawConsumer l made) = Some (of_raw made)
 made_as key (makes.Producer b) = None
 made_as key (makes.MultiProducer name settings) = None
 
-abbrev pub making_does : (ℕ → Option Seat) → Makes → List Done
-making_does live makes.Nothing = []
-making_does live makes.Client = []
-making_does live (makes.Consumer j) = subscription_does j.link (url_at (live j.link))
-making_does live (makes.RawConsumer l made) = subscription_does l (url_at (live l))
-making_does live (makes.Producer b) = []
-making_does live (makes.MultiProducer name settings) = []
+abbrev pub making_does : (ℕ → Option Seat) → (now : ℕ) → Makes → List Done
+making_does live now makes.Nothing = []
+making_does live now makes.Client = []
+making_does live now (makes.Consumer j) = subscription_does now j.link (url_at (live j.link))
+making_does live now (makes.RawConsumer l made) = subscription_does now l (url_at (live l))
+making_does live now (makes.Producer b) = []
+making_does live now (makes.MultiProducer name settings) = []
 
 -- how the consumer of a ticket was made
 abbrev pub made_with : Options → (ticket : ℕ) → List Entry → Option Setup
@@ -118,7 +161,7 @@ made_with o t (_ ∷ log) = made_with o t log
 
 -- all that was done to it since, newest first
 abbrev pub done_since : View → (ticket : ℕ) → Act → Option Member → List Done → List Done
-done_since v t (Answers who verdict) None h = if is_same (Call t) who then making_does v.links.live verdict.makes else h
+done_since v t (Answers who verdict) None h = if is_same (Call t) who then making_does v.links.live v.now verdict.makes else h
 done_since v t a None h = h
 done_since v t a (Some m) h = does_to v t m a ++ h
 
@@ -271,20 +314,20 @@ PermitsAreKept = (o : Options) (log : List Entry) (t : ℕ) (m : Member) (l : Li
 -- The plan of a consumer gives permits only by a flow that it took from it: the frame that it asks for bears its number and these permits, on the link
 -- of the subscription that is live where it takes them; and it asks for it in that step, right behind what it is told of it.
 abbrev pub TakesSo : Options → (number ticket link permits : ℕ) → Entry → List Entry → Type 0
-TakesSo o n t l p e older = (e ≡ Then (Does (Consumer n t) (OfConsumer TakeFlow))) × (consumer.flow_at ((view o older).consumers.rows t) ≡ Some (l, p))
+TakesSo o n t l p e older = (e ≡ Then (Does (Consumer n t 0) (OfConsumer TakeFlow))) × (consumer.flow_at ((view o older).consumers.rows t) ≡ Some (l, p))
 
 abbrev pub FlowsAreTaken : Type 0
-FlowsAreTaken = (o : Options) (log : List Entry) (n t l m p : ℕ) → IsRun o (Then (Does (Consumer n t) (Ask l (words.SendFlow m p))) ∷ log) →
-    (older : List Entry) × (m ≡ n) × (log ≡ Then (Told (notice (Consumer n t) (outcome.Word (word.Flow l p)))) ∷ older)
+FlowsAreTaken = (o : Options) (log : List Entry) (n t l m p : ℕ) → IsRun o (Then (Does (Consumer n t 0) (Ask l (words.SendFlow m p))) ∷ log) →
+    (older : List Entry) × (m ≡ n) × (log ≡ Then (Told (notice (Consumer n t 0) (outcome.Word (word.Flow l p)))) ∷ older)
     × InThisStep (TakesSo o n t l p) older
 
 -- Each flow that it takes is asked for: it is told of it next, and next it asks for it.
 abbrev pub FlowsAreAsked : Type 0
-FlowsAreAsked = (o : Options) (older : List Entry) (n t l p : ℕ) → IsRun o (Then (Does (Consumer n t) (OfConsumer TakeFlow)) ∷ older) →
+FlowsAreAsked = (o : Options) (older : List Entry) (n t l p : ℕ) → IsRun o (Then (Does (Consumer n t 0) (OfConsumer TakeFlow)) ∷ older) →
     consumer.flow_at ((view o older).consumers.rows t) ≡ Some (l, p) →
-    (first (agenda o (Then (Does (Consumer n t) (OfConsumer TakeFlow)) ∷ older)) ≡ Some (Told (notice (Consumer n t) (outcome.Word (word.Flow l p)))))
-    × (first (agenda o (Then (Told (notice (Consumer n t) (outcome.Word (word.Flow l p)))) ∷ Then (Does (Consumer n t) (OfConsumer TakeFlow)) ∷ older))
-    ≡ Some (Does (Consumer n t) (Ask l (words.SendFlow n p))))
+    (first (agenda o (Then (Does (Consumer n t 0) (OfConsumer TakeFlow)) ∷ older)) ≡ Some (Told (notice (Consumer n t 0) (outcome.Word (word.Flow l p)))))
+    × (first (agenda o (Then (Told (notice (Consumer n t 0) (outcome.Word (word.Flow l p)))) ∷ Then (Does (Consumer n t 0) (OfConsumer TakeFlow)) ∷ older))
+    ≡ Some (Does (Consumer n t 0) (Ask l (words.SendFlow n p))))
 
 -- No flow that is asked for is refused: the subscription is live there, and its link ready. It is queued at once where there is room, and else it
 -- stands at the end of the line.
@@ -292,7 +335,7 @@ abbrev pub place_on : Connection → Placed
 place_on s = if has_room s then placed.Queued s.waits.queued else placed.Waiting (s.waits.queued + length s.line)
 
 abbrev pub FlowsArePlaced : Type 0
-FlowsArePlaced = (o : Options) (log : List Entry) (n t l m p : ℕ) → IsRun o (Then (Does (Consumer n t) (Ask l (words.SendFlow m p))) ∷ log) →
+FlowsArePlaced = (o : Options) (log : List Entry) (n t l m p : ℕ) → IsRun o (Then (Does (Consumer n t 0) (Ask l (words.SendFlow m p))) ∷ log) →
     (seat : Seat) × ((view o log).links.live l ≡ Some seat)
     × (answer_at (view o log).now (words.SendFlow m p) (Some seat) ≡ Ok (place_on seat.seen))
 
@@ -304,7 +347,7 @@ pub record Flow : Type 0 where
 -- those that the plan of a consumer has asked for since its subscription was made, newest first: with another one they begin anew
 abbrev pub flows_after : View → (ticket : ℕ) → Act → List Flow → List Flow
 flows_after v t (Does who (OfConsumer (Revive l))) fs = if t == ticket_of who && is_some (v.links.live l) then [] else fs
-flows_after v t (Does (Consumer n u) (Ask l (words.SendFlow m p))) fs =
+flows_after v t (Does (Consumer n u 0) (Ask l (words.SendFlow m p))) fs =
     if t == u then record { place = place_of (answer_at v.now (words.SendFlow m p) (v.links.live l)); permits = p } ∷ fs else fs
 flows_after v t a fs = fs
 
@@ -418,15 +461,28 @@ Licenses v (content.Consumer wanted) l r = ⊥
 Licenses v (content.Nack t name id) l r = ⊥
 Licenses v (content.CloseConsumer t) l r = ⊥
 
--- Each frame that acknowledges is asked for as the first of a call, in the step in which the user makes that call, which asks for just this; and for
--- each call at most one is asked for. So none is asked for that the user did not ask for, and none twice for one call.
+-- Each frame that acknowledges is asked for as the first of a call, in the step in which the user makes that call, which asks for just this; or right as
+-- the copy of a dead letter has its receipt, by the plan of the copies, for that message, on the link of the subscription that is live then. For each
+-- call at most one is asked for, and for each receipt. So none is asked for that nobody asked for, and none twice for one call or one receipt.
 abbrev pub LicensedBy : Options → (ticket link : ℕ) → Words → Entry → List Entry → Type 0
 LicensedBy o t l r e older =
     (asked : Asked) × (e ≡ Then (Comes (call_part o.policies (view o older) asked))) × (t ≡ (view o older).calls.drawn) × Licenses (view o older) asked l r
 
+abbrev pub IsAskedByCall : Options → Who → (link : ℕ) → Words → List Entry → Type 0
+IsAskedByCall o who l r log =
+    (t : ℕ) × (p : Procedure) × (older : List Entry) × (who ≡ Call t) × (log ≡ Then (Starts who p) ∷ older) × InThisStep (LicensedBy o t l r) older
+
+abbrev pub IsAskedByReceipt : Options → Who → (link : ℕ) → Words → List Entry → Type 0
+IsAskedByReceipt o who l r log =
+    (n t key : ℕ) × (reply : Reply) × (older : List Entry) × (who ≡ Consumer n t key)
+    × (log ≡ Then (Told (notice who (outcome.Word (word.Asks l r)))) ∷ Then (Does who (OfConsumer CopySent))
+    ∷ Then (Told (notice who (outcome.Replied reply))) ∷ older)
+    × (is_body 7 reply.content.body ≡ true)
+    × (consumer.ack_for key ((view o (Then (Told (notice who (outcome.Replied reply))) ∷ older)).consumers.rows t) ≡ Some (l, r))
+
 abbrev pub AcksAreLicensed : Type 0
 AcksAreLicensed = (o : Options) (log : List Entry) (who : Who) (l : ℕ) (r : Words) → IsRun o (Then (Does who (Ask l r)) ∷ log) → is_ack r ≡ true →
-    (t : ℕ) × (p : Procedure) × (older : List Entry) × (who ≡ Call t) × (log ≡ Then (Starts who p) ∷ older) × InThisStep (LicensedBy o t l r) older
+    IsAskedByCall o who l r log ⊎ IsAskedByReceipt o who l r log
 
 abbrev pub ack_of : (ticket : ℕ) → Act → ℕ
 ack_of t (Does who (Ask l r)) = if is_same (Call t) who && is_ack r then 1 else 0

@@ -30,10 +30,10 @@ use Rattle.pulsar_calls.specs.declared.act.Act.{Act}
 use Rattle.pulsar_calls.specs.declared.act.Act.TheVariants.{Comes, Starts, Told, Does, Answers, Dials}
 use Rattle.pulsar_calls.specs.declared.act.Action.{Action}
 use Rattle.pulsar_calls.specs.declared.act.Action.TheVariants.{OfTopic, OfMulti, Get, Ask, Number, Hold, Shut, TakeNumber, Tell, TellAll, StopAll, Rest, OfConsumer}
-use Rattle.pulsar_calls.specs.declared.act.ConsumerAsk.TheVariants.{Find as FindConsumer, TakeFlow, Recall as RecallConsumer, Revive, Fail as FailConsumer}
+use Rattle.pulsar_calls.specs.declared.act.ConsumerAsk.TheVariants.{Find as FindConsumer, TakeFlow, Recall as RecallConsumer, Revive, Fail as FailConsumer, TakeCopy, CopySent, CopyFailed}
 use Rattle.pulsar_calls.specs.declared.act.TopicAsk.TheVariants.{TakeTurn, PassTurn, Draw, Recall, Remake, Find, Store, Flush, TakeBatch}
 use Rattle.pulsar_calls.specs.declared.act.Alarm.{Alarm}
-use Rattle.pulsar_calls.specs.declared.act.Alarm.TheVariants.{Retry, Wake, Batch, KeepAlive, CheckIdle}
+use Rattle.pulsar_calls.specs.declared.act.Alarm.TheVariants.{Retry, Wake, Batch, KeepAlive, Redelivery, CheckIdle}
 use Rattle.pulsar_calls.specs.declared.act.Arrival.TheVariants.{Readied}
 use Rattle.pulsar_calls.specs.declared.act.End.{End}
 use Rattle.pulsar_calls.specs.declared.act.End.TheVariants.{Broken, Idles, Lost, Overdue, Stops, Unopened}
@@ -76,9 +76,10 @@ use Rattle.pulsar_consumer.specs.Plans.{in_use, not_found}
 use Rattle.pulsar_incoming.specs.declared.orders.ConsumerOrder.{ConsumerOrder}
 use Rattle.pulsar_consumer.specs.Topic as reader
 use Rattle.pulsar_acts.specs.View.{View, builds, member_on, multi_at, pause_of, setup, setup_of, room_of}
+use Rattle.pulsar_laws.specs.LetterCauses.{IsServedAs, LetterComes, SettledDue}
 use Rattle.pulsar_machine.specs.Options.{Options}
 use Rattle.pulsar_links.specs.Seats.{Base, Seat, answer_at, arrival_at, closing, is_asked, url_at}
-use Rattle.pulsar_calls.specs.Who.{in_turn, is_same, rank, ticket_of, turn_of as taken_as}
+use Rattle.pulsar_calls.specs.Who.{in_turn, is_same, key_of, rank, ticket_of, turn_of as taken_as}
 use Rattle.pulsar_outgoing.specs.declared.multi_topic.Multi.{Multi}
 use Rattle.pulsar_outgoing.specs.declared.multi_topic.MultiAsk.TheVariants as ask
 use Rattle.pulsar_outgoing.specs.declared.multi_topic.MultiSaid.{MultiSaid}
@@ -90,7 +91,7 @@ use Rattle.pulsar_producer.specs.MultiTopic as multi
 use Rattle.pulsar_producer.specs.MultiTopic.{found, is_free, order_for}
 use Rattle.pulsar_producer.specs.Producer as producer
 use Rattle.pulsar_producer_table.specs.Multis.{next_on, topic_numbers, waiting}
-use Rattle.pulsar_producer_table.specs.Takers.{who_of}
+use Rattle.pulsar_producer_table.specs.Takers.{who_at, who_of}
 use Rattle.pulsar_run.specs.Laws as run
 use Rattle.pulsar_session.specs.Link as session
 use Rattle.pulsar_outgoing.specs.declared.news.News.TheVariants as news
@@ -388,8 +389,8 @@ IsUnknown who (OfConsumer RecallConsumer) v = v.consumers.rows (ticket_of who) �
 IsUnknown who _ v = ⊥
 
 -- What it asks of consumers is said at once: the number that it has for a new one, or that this is in use; that the consumer whose link it wants has
--- ended; and of its own consumer the flow that is due next, or that none is; the command by which it is subscribed again; and whether it
--- lives then, or has ended.
+-- ended; and of its own consumer the flow that is due next, or that none is; the command by which it is subscribed again; whether it lives then,
+-- or has ended; the copy that is to be sent next; and what is to be asked for as that has its receipt, or that nothing is.
 abbrev pub SaysSo : Who → Word → Action → View → Type 0
 SaysSo who (word.Numbered n) (TakeNumber wanted) v = consumer.numbering v.consumers wanted ≡ Has n
 SaysSo who word.InUse (TakeNumber wanted) v = consumer.numbering v.consumers wanted ≡ InUse
@@ -400,17 +401,18 @@ SaysSo who (word.Recalled c) (OfConsumer RecallConsumer) v = consumer.recalled (
 SaysSo who word.Lives (OfConsumer (Revive l)) v = consumer.is_ended_at (v.consumers.rows (ticket_of who)) ≡ false
 SaysSo who word.Over (OfConsumer (Revive l)) v = consumer.is_ended_at (v.consumers.rows (ticket_of who)) ≡ true
 SaysSo who word.Over (OfConsumer (FailConsumer f)) v = Unit {0}
+SaysSo who (word.Letter m) (OfConsumer TakeCopy) v = consumer.letter_at (v.consumers.rows (ticket_of who)) ≡ Some m
+SaysSo who word.NoLetter (OfConsumer TakeCopy) v = consumer.letter_at (v.consumers.rows (ticket_of who)) ≡ None
+SaysSo who (word.Asks l request) (OfConsumer CopySent) v = consumer.ack_for (key_of who) (v.consumers.rows (ticket_of who)) ≡ Some (l, request)
+SaysSo who word.NoAsk (OfConsumer CopySent) v = consumer.ack_for (key_of who) (v.consumers.rows (ticket_of who)) ≡ None
+SaysSo who word.NoAsk (OfConsumer CopyFailed) v = Unit {0}
 SaysSo who _ _ v = ⊥
-
--- this one is the plan of a consumer
-abbrev pub IsServedAs : View → Who → (ticket : ℕ) → Member → Type 0
-IsServedAs v who t m = (v.consumers.rows t ≡ Some m) × (who ≡ consumer.who_of t m)
 
 -- its consumer hears a frame that says so, loses its subscription with the link, or is closed where that is asked for
 abbrev pub HearsSo : Options → Who → Word → Entry → List Entry → Type 0
 HearsSo o who w e older =
     (l t : ℕ) × (m : Member) × (e ≡ Then (Comes (ToLink l Reads))) × IsServedAs (view o older) who t m
-    × (consumer.word_of l (arrival_at ((view o older).links.live l)) m ≡ Some w)
+    × (consumer.word_of (view o older).now l (arrival_at ((view o older).links.live l)) m ≡ Some w)
 
 abbrev pub LosesSo : Options → Who → Word → Entry → List Entry → Type 0
 LosesSo o who w e older =
@@ -431,13 +433,13 @@ PolledDue o who e older =
 abbrev pub RevivedDue : Options → Who → Entry → List Entry → Type 0
 RevivedDue o who e older =
     (l : ℕ) × (other : Who) × (m : Member) × (e ≡ Then (Does other (OfConsumer (Revive l)))) × IsServedAs (view o older) who (ticket_of other) m
-    × (reader.is_due (consumer.revived l (url_at ((view o older).links.live l)) m).seen ≡ true)
+    × (reader.is_due (consumer.revived (view o older).now l (url_at ((view o older).links.live l)) m).seen ≡ true)
 
 abbrev pub BuiltDue : Options → Who → Entry → List Entry → Type 0
 BuiltDue o who e older =
     (other : Who) × (j : Joining) × (said : Said) × (e ≡ Then (Answers other (record { makes = makes.Consumer j; said = said })))
-    × (who ≡ Consumer j.number (ticket_of other))
-    × (reader.is_due (member_on (view o older).links.live j.link (setup_of (view o older).consumers.next_key j)).seen ≡ true)
+    × (who ≡ Consumer j.number (ticket_of other) 0)
+    × (reader.is_due (member_on (view o older).links.live (view o older).now j.link (setup_of (view o older).consumers.next_key j)).seen ≡ true)
 
 -- it waits for the link of a consumer, that was subscribed again, or could not be
 abbrev pub SeeksAgain : Options → Who → Entry → List Entry → Type 0
@@ -445,19 +447,20 @@ SeeksAgain o who e older =
     (other : Who) × In who (consumer.seekers_at ((view o older).consumers.rows (ticket_of other)))
     × (((l : ℕ) × (e ≡ Then (Does other (OfConsumer (Revive l))))) ⊎ ((f : Failure) × (e ≡ Then (Does other (OfConsumer (FailConsumer f))))))
 
--- what one is told of a consumer: it is said at once, or its consumer hears, loses or leaves so; a flow is due; or it is to look once more
+-- what one is told of a consumer: it is said at once, or its consumer hears, loses or leaves so; a flow is due; or it is to look once more; or a
+-- copy of a dead letter is due, or messages are to be asked for again
 abbrev pub WordComes : Options → Who → Word → Entry → List Entry → Type 0
 WordComes o who w e older =
     Acts o who (SaysSo who w) e older
     ⊎ (HearsSo o who w e older ⊎ (LosesSo o who w e older ⊎ (ClosesSo o who w e older
-    ⊎ (((w ≡ word.Due) × (PolledDue o who e older ⊎ (RevivedDue o who e older ⊎ BuiltDue o who e older)))
-    ⊎ ((w ≡ word.Again) × SeeksAgain o who e older)))))
+    ⊎ (((w ≡ word.Due) × (PolledDue o who e older ⊎ (RevivedDue o who e older ⊎ (BuiltDue o who e older ⊎ SettledDue o who e older))))
+    ⊎ (((w ≡ word.Again) × SeeksAgain o who e older) ⊎ LetterComes o who w e older)))))
 
 -- another passes the turn of a topic producer on to it, with this version of the schema
 abbrev pub GetsTurn : Options → Who → News → Entry → List Entry → Type 0
 GetsTurn o who n e older =
-    (other : Who) × (number turn : ℕ) × (version : Option (List ℕ)) × (e ≡ Then (Does other (OfTopic number PassTurn))) × (who ≡ in_turn number turn)
-    × (n ≡ news.HasTurn version) × (turn_passed ((view o older).producers.topics number) ≡ Some (taker.Call turn, version))
+    (other : Who) × (number : ℕ) × (t : Taker) × (version : Option (List ℕ)) × (e ≡ Then (Does other (OfTopic number PassTurn))) × (who ≡ who_at number t)
+    × (n ≡ news.HasTurn version) × (turn_passed ((view o older).producers.topics number) ≡ Some (t, version))
 
 -- What it asks of a producer of many topics is said at once: the turn, which nobody has; how the producer of a topic takes a message, by what its policy
 -- says of that, or refuses it; that there is no such producer, and how it is built; the topic producers of one that is removed; or nothing more.
@@ -526,6 +529,7 @@ number_in (procedure.MultiSend ways multi share topic message) = None
 number_in (procedure.MultiClose multi topic) = None
 number_in (procedure.Subscribe ways order) = None
 number_in (procedure.Serve ways number) = None
+number_in (procedure.Copy ways topic) = None
 number_in (procedure.Acknowledge link request) = None
 number_in (procedure.Leave consumer number) = Some (request_number (words.CloseConsumer number))
 number_in (procedure.Refuse r) = None
@@ -573,6 +577,7 @@ ways_in (procedure.MultiSend ways multi share topic message) = Some ways
 ways_in (procedure.MultiClose multi topic) = None
 ways_in (procedure.Subscribe ways order) = Some ways
 ways_in (procedure.Serve ways number) = Some ways
+ways_in (procedure.Copy ways topic) = Some ways
 ways_in (procedure.Acknowledge link request) = None
 ways_in (procedure.Leave consumer number) = None
 ways_in (procedure.Refuse r) = None
@@ -596,6 +601,7 @@ fails_in_producer (procedure.MultiSend ways multi share topic message) = true
 fails_in_producer (procedure.MultiClose multi topic) = true
 fails_in_producer (procedure.Subscribe ways order) = false
 fails_in_producer (procedure.Serve ways number) = false
+fails_in_producer (procedure.Copy ways topic) = false
 fails_in_producer (procedure.Acknowledge link request) = false
 fails_in_producer (procedure.Leave consumer number) = false
 fails_in_producer (procedure.Refuse r) = false
@@ -686,16 +692,18 @@ abbrev pub AlarmsAreTicked : Type 0
 AlarmsAreTicked = (o : Options) (log : List Entry) (a : Alarm) → IsRun o (Then (Comes (Rings a)) ∷ log) → InThisStep (RingsAt o a) log
 
 -- What a tick brings comes in this order: the deadlines of links, by link; the attempts that follow others, by the link of the one before;
--- those who have waited, by their rank; the batches, by producer; the keep-alive pings, by link; then the idle check.
+-- those who have waited, by their rank; the batches, by producer; the keep-alive pings, by link; the checks of what is to be asked for again, by
+-- consumer; then the idle check.
 abbrev pub part_rank : Part → ℕ × ℕ × ℕ
 part_rank (ToLink l x) = (0, 0, l)
 part_rank (Rings (Retry l)) = (1, 0, l)
 part_rank (Rings (Wake who)) = (2, (rank who).0, (rank who).1)
 part_rank (Rings (Batch n)) = (3, 0, n)
 part_rank (Rings (KeepAlive l)) = (4, 0, l)
-part_rank (Rings CheckIdle) = (5, 0, 0)
-part_rank (Calls asked advice) = (6, 0, 0)
-part_rank (Polls ticket) = (6, 0, ticket)
+part_rank (Rings (Redelivery n t)) = (5, n, t)
+part_rank (Rings CheckIdle) = (6, 0, 0)
+part_rank (Calls asked advice) = (7, 0, 0)
+part_rank (Polls ticket) = (7, 0, ticket)
 
 abbrev pub part_below : Part → Part → Bool
 part_below a b = is_before3 (part_rank a) (part_rank b)

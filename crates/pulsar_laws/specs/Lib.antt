@@ -1,3 +1,5 @@
+pub mod LetterCauses
+pub mod LetterLaws
 pub mod Laws
 pub mod AddressLaws
 pub mod ProducerLaws

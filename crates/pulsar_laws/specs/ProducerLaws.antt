@@ -73,6 +73,8 @@ use Rattle.pulsar_producer_table.specs.MultiAsks.{joined_by}
 use Rattle.pulsar_machine.specs.Options.{Options}
 use Rattle.pulsar_links.specs.Seats.{Seat, answer_at}
 use Rattle.pulsar_calls.specs.Who.{is_same, turn_of as taken_as}
+use Rattle.pulsar_plans.specs.declared.copying.CopyState.{CopyState}
+use Rattle.pulsar_plans.specs.declared.copying.CopyState.TheVariants as copy
 use Rattle.pulsar_producer_table.specs.Takers.{who_at}
 use Rattle.pulsar_outgoing.specs.declared.multi_topic.Taker.{Taker}
 use Rattle.pulsar_outgoing.specs.declared.multi_topic.Taker.TheVariants as taker
@@ -89,6 +91,14 @@ pub data Dealing : Type 0 where
   SendsBatches : Errand → Batching → Dealing
   GoesRound : (number : ℕ) → At → Dealing
   DealsWithNone : Dealing
+
+abbrev pub copies_with : CopyState → Dealing
+copies_with copy.Resting = DealsWithNone
+copies_with copy.Taking = DealsWithNone
+copies_with (copy.Handing s) = DealsWithNone
+copies_with (copy.Sending e s) = Sends e s
+copies_with copy.Settling = DealsWithNone
+copies_with copy.Asking = DealsWithNone
 
 abbrev pub dealing : Plan → Dealing
 dealing plan.Building = DealsWithNone
@@ -110,6 +120,7 @@ dealing (plan.MultiSending w m share s) = DealsWithNone
 dealing (plan.MultiClosing m s) = DealsWithNone
 dealing (plan.Subscribing w order b) = DealsWithNone
 dealing (plan.Serving w n s) = DealsWithNone
+dealing (plan.Copying w t s) = copies_with s
 dealing plan.Acknowledging = DealsWithNone
 dealing (plan.Departing consumer n) = DealsWithNone
 dealing plan.Stopping = DealsWithNone

@@ -30,14 +30,17 @@ use Rattle.pulsar_calls.specs.declared.act.Act.TheVariants.{Answers, Comes, Dial
 use Rattle.pulsar_calls.specs.declared.act.Action.TheVariants.{OfTopic, OfMulti, Shut, StopAll, Wait}
 use Rattle.pulsar_calls.specs.declared.act.TopicAsk.TheVariants.{Flush, Store}
 use Rattle.pulsar_calls.specs.declared.act.Alarm.{Alarm}
-use Rattle.pulsar_calls.specs.declared.act.Alarm.TheVariants.{Batch, CheckIdle, KeepAlive, Retry, Wake}
+use Rattle.pulsar_calls.specs.declared.act.Alarm.TheVariants.{Batch, CheckIdle, KeepAlive, Redelivery, Retry, Wake}
 use Rattle.pulsar_calls.specs.declared.act.End.{End}
 use Rattle.pulsar_calls.specs.declared.act.LinkAct.TheVariants.{Ends}
 use Rattle.pulsar_calls.specs.declared.act.Outcome.TheVariants as outcome
 use Rattle.pulsar_calls.specs.declared.act.Part.TheVariants.{Rings, ToLink}
 use Rattle.pulsar_calls.specs.declared.act.Procedure.{Procedure}
 use Rattle.pulsar_calls.specs.declared.act.Procedure.TheVariants as procedure
+use Rattle.pulsar_calls.specs.declared.act.Makes.{Makes}
 use Rattle.pulsar_calls.specs.declared.act.Who.{Who}
+use Rattle.pulsar_calls.specs.declared.act.Who.TheVariants as who
+use Rattle.pulsar_consumer_table.specs.Consumers.{Consumers, Member}
 use Rattle.pulsar_calls.specs.Who.{turn_of as taken_as}
 use Rattle.pulsar_links.specs.Alarms.{is_same_alarm, moment_of, rings}
 use Rattle.pulsar_links.specs.Links.{Change, Remains, Becomes, IsOver}
@@ -49,7 +52,7 @@ use Rattle.pulsar_producer_table.specs.Producers.{is_bare, numbers_at, timeout_a
 use Rattle.pulsar_producer_table.specs.declared.table.Topic.{Topic}
 use Rattle.pulsar_acts.specs.Rules.{notice}
 use Rattle.pulsar_acts.specs.Run.{Entry, Begins, Then, IsRun, Rests, view}
-use Rattle.pulsar_acts.specs.View.{Turned, View, builds, multi_at, turned}
+use Rattle.pulsar_acts.specs.View.{Turned, View, builds, member_made, multi_at, turned}
 use Rattle.pulsar_producer_table.specs.MultiAsks.{removed_by}
 use Rattle.pulsar_machine.specs.Options.{Chosen, Options}
 use Rattle.pulsar_laws.specs.Laws.{Acted, Deed, deeds, started, ways_in}
@@ -83,12 +86,24 @@ abbrev pub set_on : Chosen → Option Turned → Option (Alarm × ℕ)
 set_on o None = None
 set_on o (Some t) = set_by o t.link t.change t.pause
 
-abbrev pub set_again : Chosen → Alarm → Option (Alarm × ℕ)
-set_again o (Retry l) = None
-set_again o (Wake who) = None
-set_again o (Batch n) = None
-set_again o (KeepAlive l) = Some (KeepAlive l, o.connection.keep_alive)
-set_again o CheckIdle = Some (CheckIdle, 60000)
+-- What is to be asked for again of a consumer is looked at each half second from where it was built, unless nothing is; and until it has ended.
+abbrev pub set_checked : (number ticket : ℕ) → Option Member → Option (Alarm × ℕ)
+set_checked n t None = None
+set_checked n t (Some m) = option_map (λ moment. (Redelivery n t, 500)) m.seen.engine.check
+
+abbrev pub set_made : Who → Option Member → Option (Alarm × ℕ)
+set_made w None = None
+set_made (who.Call t) (Some m) = set_checked m.seen.number t (Some m)
+set_made (who.Consumer n t key) (Some m) = None
+set_made (who.Producer n) (Some m) = None
+
+abbrev pub set_again : Chosen → Consumers → Alarm → Option (Alarm × ℕ)
+set_again o cs (Retry l) = None
+set_again o cs (Wake who) = None
+set_again o cs (Batch n) = None
+set_again o cs (KeepAlive l) = Some (KeepAlive l, o.connection.keep_alive)
+set_again o cs (Redelivery n t) = set_checked n t (cs.rows t)
+set_again o cs CheckIdle = Some (CheckIdle, 60000)
 
 -- What is stored waits from its first message on, so long as the options of its producer say. Where nothing is stored nothing waits.
 abbrev pub set_stored : (number : ℕ) → (was_bare is_bare : Bool) → Option ℕ → Option (Alarm × ℕ)
@@ -104,14 +119,19 @@ abbrev pub set_at : View → (number : ℕ) → topic.Act → Option (Alarm × �
 set_at v n act =
     set_stored n (is_bare (v.producers.topics n)) (is_bare (row_with act (v.producers.topics n))) (timeout_at v.producers (v.producers.topics n))
 
--- a plan waits so long as it asks for; and the idle check comes a minute after the first Build that ends Ok, and each minute from then on
+-- a plan waits so long as it asks for; the idle check comes a minute after the first Build that ends Ok, and each minute from then on; and the first
+-- check of a consumer half a second after it was built
+abbrev pub set_by_end : View → Who → Makes → Option (Alarm × ℕ)
+set_by_end v w m =
+    if not v.calls.is_built && builds m false then Some (CheckIdle, 60000) else set_made w (member_made v.links.live v.now v.consumers.next_key m)
+
 abbrev pub sets : View → Act → Option (Alarm × ℕ)
 sets v (Comes (ToLink l x)) = set_on v.chosen (turned v (Comes (ToLink l x)))
-sets v (Comes (Rings a)) = if rings v.now a v.alarms then set_again v.chosen a else None
+sets v (Comes (Rings a)) = if rings v.now a v.alarms then set_again v.chosen v.consumers a else None
 sets v (Does who (Wait delay)) = Some (Wake who, delay)
 sets v (Does who (OfTopic n (Store x))) = set_at v n (topic.Stores (taken_as who) x)
 sets v (Does who (OfTopic n Flush)) = set_at v n (topic.Flushes (taken_as who))
-sets v (Answers who verdict) = if not v.calls.is_built && builds verdict.makes false then Some (CheckIdle, 60000) else None
+sets v (Answers w verdict) = set_by_end v w verdict.makes
 sets v _ = None
 
 -- An act clears the alarm that rings, that for a link that is over, those for what is stored where nothing is any more, and all with the Stop.

@@ -18,7 +18,8 @@ use Rattle.pulsar_calls.specs.Content as content
 use Rattle.pulsar_calls.specs.Content.{Asked, asked, lacks_tickets, shares}
 use Rattle.pulsar_plans.specs.Plan.{fails}
 use Rattle.pulsar_consumer_table.specs.Consumers as consumer
-use Rattle.pulsar_consumer_table.specs.Consumers.{Consumers}
+use Rattle.pulsar_consumer_table.specs.Consumers.{Consumers, forgets_by, member_by}
+use Rattle.pulsar_run.specs.Things.{row_by}
 use Rattle.pulsar_consumer_table.proofs.Asking as asking
 use Rattle.pulsar_producer_table.specs.Producers.{Producers, called_on, opened_on, why_not}
 use Rattle.pulsar_producer_table.proofs.Asking.{called_is}
@@ -61,7 +62,9 @@ module _ (v : View) (advice : List (Option ℕ)) (a : Asked) where
           is_built = v.calls.is_built;
           is_stopped = v.calls.is_stopped;
         };
-        consumers = record (cond b v.consumers (consumer.called_on (may_call v.calls) a v.consumers)) { rows = v.consumers.rows };
+        consumers = record (cond b v.consumers (consumer.called_on (may_call v.calls) a v.consumers)) {
+          rows = λ t. row_by member_by (cond b [] (cond (may_call v.calls) (forgets_by a t (v.consumers.rows t)) [])) (v.consumers.rows t);
+        };
         producers = record (cond b v.producers (called_on (may_call v.calls) a v.producers)) { topics = v.producers.topics };
       }
 
@@ -88,9 +91,9 @@ module _ (v : View) (advice : List (Option ℕ)) (a : Asked) where
   spent_sees h = sym (ap sees h)
 
   pub begun_sees : lacks_tickets v.calls.drawn (shares a) ≡ false →
-      begun (consumer.called_on (may_call v.calls) a v.consumers) (called_on (may_call v.calls) a v.producers) ≡ after (Comes (Calls a advice)) v
+      begun (consumer.asked_on (may_call v.calls) a v.consumers) (called_on (may_call v.calls) a v.producers) ≡ after (Comes (Calls a advice)) v
   begun_sees h =
-      (λ i. begun (asking.called_is (may_call v.calls) a v.consumers i) (called_is (may_call v.calls) a v.producers i)) ∙ sym (ap sees h)
+      (λ i. begun (asking.asked_is (may_call v.calls) a v.consumers i) (called_is (may_call v.calls) a v.producers i)) ∙ sym (ap sees h)
 
 -- A CLIENT THAT IS NOT OPEN
 
@@ -156,12 +159,12 @@ shut_parts v advice (content.MultiSendAll t topic ms) h =
 shut_parts v advice _ h = refl
 
 pub shut_same : (v : View) (a : Asked) → may_call v.calls ≡ false →
-    v ≡ record v { consumers = consumer.called_on (may_call v.calls) a v.consumers; producers = called_on (may_call v.calls) a v.producers }
-shut_same v a h = sym (ap (λ b. record v { consumers = consumer.called_on b a v.consumers; producers = called_on b a v.producers }) h)
+    v ≡ record v { consumers = consumer.asked_on (may_call v.calls) a v.consumers; producers = called_on (may_call v.calls) a v.producers }
+shut_same v a h = sym (ap (λ b. record v { consumers = consumer.asked_on b a v.consumers; producers = called_on b a v.producers }) h)
 
 -- a Build leaves the consumers and the producers as they are
 pub build_same : (v : View) (b : Bool) →
-    v ≡ record v { consumers = consumer.called_on b content.Build v.consumers; producers = called_on b content.Build v.producers }
+    v ≡ record v { consumers = consumer.asked_on b content.Build v.consumers; producers = called_on b content.Build v.producers }
 build_same v true = refl
 build_same v false = refl
 
@@ -171,9 +174,9 @@ pub may_so : (b : Bool) (p : Procedure) → b ≡ true → p ≡ unless_refused 
 may_so b p h = sym (ap (λ b. unless_refused b p) h)
 
 pub open_same : (v : View) (a : Asked) → may_call v.calls ≡ true →
-    record v { consumers = consumer.opened_on a v.consumers; producers = opened_on a v.producers }
-    ≡ record v { consumers = consumer.called_on (may_call v.calls) a v.consumers; producers = called_on (may_call v.calls) a v.producers }
-open_same v a h = sym (ap (λ b. record v { consumers = consumer.called_on b a v.consumers; producers = called_on b a v.producers }) h)
+    record v { consumers = consumer.asked_on true a v.consumers; producers = opened_on a v.producers }
+    ≡ record v { consumers = consumer.asked_on (may_call v.calls) a v.consumers; producers = called_on (may_call v.calls) a v.producers }
+open_same v a h = sym (ap (λ b. record v { consumers = consumer.asked_on b a v.consumers; producers = called_on b a v.producers }) h)
 
 -- WHERE A VERDICT HAS MADE SOMETHING
 

@@ -5,17 +5,19 @@ use Rattle.pulsar_run.specs.Order.{arranged}
 use Rattle.pulsar_run.specs.Things.{row_by}
 use Rattle.pulsar_calls.specs.declared.act.Act.TheVariants.{Comes}
 use Rattle.pulsar_calls.specs.declared.act.Alarm.{Alarm}
-use Rattle.pulsar_calls.specs.declared.act.Alarm.TheVariants.{Retry, Wake, Batch, KeepAlive, CheckIdle}
+use Rattle.pulsar_calls.specs.declared.act.Alarm.TheVariants.{Retry, Wake, Batch, KeepAlive, Redelivery, CheckIdle}
 use Rattle.pulsar_calls.specs.declared.act.Part.TheVariants.{Rings}
 use Rattle.pulsar_links.specs.declared.addresses.Pause.{Pause}
 use Rattle.pulsar_links.specs.Alarms.{rings}
 use Rattle.pulsar_producer_table.specs.Producers.{Producers, topic_after}
 use Rattle.pulsar_producer_table.proofs.Asking.{row_same}
+use Rattle.pulsar_consumer_table.specs.Consumers.{Consumers, member_by}
+use Rattle.pulsar_consumer_table.proofs.Asking as asking
 use Rattle.pulsar_acts.specs.Rules.{rung, woken}
 use Rattle.pulsar_calls.specs.Order.{below, opens}
 use Rattle.pulsar_acts.specs.Run.{goes_on}
 use Rattle.pulsar_agenda.specs.Agenda.{Agenda}
-use Rattle.pulsar_acts.specs.View.{View, after, alarms_rung, pause_rung, topic_rung}
+use Rattle.pulsar_acts.specs.View.{View, after, alarms_rung, member_rung, pause_rung, topic_rung}
 
 -- what is left, and what is seen
 abbrev leaves : Bool → View → Alarm → Agenda → Agenda
@@ -31,7 +33,8 @@ abbrev sees : Bool → View → Alarm → View
 sees b v a =
     record v {
       addresses = record { base = v.addresses.base; pause = λ l. pause_rung b a l (v.addresses.pause l) };
-      alarms = cond b (alarms_rung v.chosen v.now a v.alarms) v.alarms;
+      alarms = cond b (alarms_rung v.chosen v.consumers v.now a v.alarms) v.alarms;
+      consumers = record v.consumers { rows = λ t. row_by member_by (member_rung v.now b a t) (v.consumers.rows t) };
       producers = record v.producers { topics = λ n. row_by topic_after (topic_rung b a n) (v.producers.topics n) };
     }
 
@@ -63,6 +66,7 @@ never_rung (Retry k) l row = refl
 never_rung (Wake who) l row = refl
 never_rung (Batch n) l row = refl
 never_rung (KeepAlive k) l row = refl
+never_rung (Redelivery n t) l row = refl
 never_rung CheckIdle l row = refl
 
 never_cut : (a : Alarm) (ps : Producers) → record ps { topics = λ n. row_by topic_after (topic_rung false a n) (ps.topics n) } ≡ ps
@@ -70,12 +74,22 @@ never_cut (Retry k) ps = refl
 never_cut (Wake who) ps = refl
 never_cut (Batch m) ps = λ i. record ps { topics = λ n. sym (row_same (n == m) (ps.topics n)) i }
 never_cut (KeepAlive k) ps = refl
+never_cut (Redelivery n t) ps = refl
 never_cut CheckIdle ps = refl
+
+never_checked : (now : ℕ) (a : Alarm) (cs : Consumers) → record cs { rows = λ t. row_by member_by (member_rung now false a t) (cs.rows t) } ≡ cs
+never_checked now (Retry k) cs = refl
+never_checked now (Wake who) cs = refl
+never_checked now (Batch m) cs = refl
+never_checked now (KeepAlive k) cs = refl
+never_checked now (Redelivery n u) cs = λ i. record cs { rows = λ t. sym (asking.row_same (t == u) (cs.rows t)) i }
+never_checked now CheckIdle cs = refl
 
 pub rest_sees : (v : View) (a : Alarm) → rings v.now a v.alarms ≡ false → v ≡ after (Comes (Rings a)) v
 rest_sees v a h =
     (λ i. record v {
       addresses = record { base = v.addresses.base; pause = λ l. sym (never_rung a l (v.addresses.pause l)) i };
+      consumers = sym (never_checked v.now a v.consumers) i;
       producers = sym (never_cut a v.producers) i;
     })
     ∙ sym (ap (λ b. sees b v a) h)

@@ -5,7 +5,7 @@ use Rattle.std.specs.Option.{option_map}
 use Rattle.pulsar_addresses.specs.Address.{Place}
 use Rattle.pulsar_calls.specs.declared.act.Act.TheVariants.{Comes}
 use Rattle.pulsar_calls.specs.declared.act.Alarm.{Alarm}
-use Rattle.pulsar_calls.specs.declared.act.Alarm.TheVariants.{Retry, Wake, Batch, KeepAlive, CheckIdle}
+use Rattle.pulsar_calls.specs.declared.act.Alarm.TheVariants.{Retry, Wake, Batch, KeepAlive, Redelivery, CheckIdle}
 use Rattle.pulsar_calls.specs.declared.act.Arrival.{Arrival}
 use Rattle.pulsar_calls.specs.declared.act.LinkAct.{LinkAct}
 use Rattle.pulsar_calls.specs.declared.act.Part.TheVariants.{ToLink}
@@ -90,5 +90,6 @@ pub follows_same : (a b : Addresses) → ((l : ℕ) → a.pause l ≡ b.pause l)
 follows_same a b h key (Retry l) = ap (is_for key) (h l)
 follows_same a b h key (Wake who) = refl
 follows_same a b h key (KeepAlive l) = refl
+follows_same a b h key (Redelivery n t) = refl
 follows_same a b h key (Batch n) = refl
 follows_same a b h key CheckIdle = refl

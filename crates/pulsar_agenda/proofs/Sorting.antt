@@ -48,7 +48,7 @@ lt3 x y =
 notices_lt : (λ (x y : Notice). is_lt (cmp3 (rank x.who) (rank y.who))) ≡ below
 notices_lt = λ i x y. lt3 (rank x.who) (rank y.who) i
 
-pub notices_sorted : (xs ys : List Notice) → IsSortedByKey (λ (n : Notice). rank n.who) cmp3 ys → IsStableByKey (λ (n : Notice). rank n.who) cmp2 xs ys → ys ≡ arranged below xs
+pub notices_sorted : (xs ys : List Notice) → IsSortedByKey (λ (n : Notice). rank n.who) cmp3 ys → IsStableByKey (λ (n : Notice). rank n.who) cmp3 xs ys → ys ≡ arranged below xs
 notices_sorted xs ys s f =
     arranged_from_sort below below_order xs ys (subst (λ lt. IsSortedBy lt ys) notices_lt s) (subst (λ lt. IsStableBy lt xs ys) notices_lt f)
 

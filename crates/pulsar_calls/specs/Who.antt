@@ -21,11 +21,8 @@ key_of (Call ticket) = 0
 key_of (Consumer number ticket key) = key
 key_of (Producer number) = 0
 
-abbrev pub has_kind_of : Who → Who → Bool
-has_kind_of a b = ((rank a).0 == (rank b).0) && (((rank a).2 == (rank b).2) && (key_of a == key_of b))
-
 abbrev pub is_same : Who → Who → Bool
-is_same a b = has_kind_of a b && (((rank a).1 == (rank b).1) && (ticket_of a == ticket_of b))
+is_same a b = ((rank a).0 == (rank b).0) && ((key_of a == key_of b) && (((rank a).1 == (rank b).1) && (ticket_of a == ticket_of b)))
 
 -- kind by kind, then by number, and then by what breaks ties
 abbrev pub is_before3 : ℕ × ℕ × ℕ → ℕ × ℕ × ℕ → Bool

@@ -77,8 +77,8 @@ pub fn is_same(a: Who, b: Who) -> bool
     ensures { result ≡ is_same a b }
 {
     let (x, y) = (rank(a), rank(b));
-    let is_so = x.0 == y.0 && x.1 == y.1 && ticket_of(a) == ticket_of(b);
-    is_so && x.2 == y.2 && key_of(a) == key_of(b)
+    let is_number = x.1 == y.1 && ticket_of(a) == ticket_of(b);
+    x.0 == y.0 && key_of(a) == key_of(b) && is_number
 }
 
 /// One is served before the other.

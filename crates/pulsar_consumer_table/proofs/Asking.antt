@@ -1,13 +1,15 @@
 -- What becomes of the consumers, row by row: what is done to one, and where one joins.
-use Rattle.std.proofs.Common.{◌≡◌, ◌∙◌, ap, ℕ, ◌==◌, [], ◌∷◌, refl, Bool, true, false, cond, Option, Some, None}
+use Rattle.std.proofs.Common.{◌≡◌, ◌∙◌, ap, sym, ℕ, ◌==◌, List, [], ◌∷◌, refl, Bool, true, false, cond, Option, Some, None}
+use Rattle.std.proofs.lemmas.Bool.{eqb-true}
 use Rattle.std.specs.Option.{option_map}
 use Rattle.pulsar_run.specs.Things.{row_after, row_by}
 use Rattle.pulsar_exchange.specs.Request.{named_consumer}
+use Rattle.pulsar_consumer.specs.Redelivery.{Id}
 use Rattle.pulsar_calls.specs.Content as content
 use Rattle.pulsar_calls.specs.Content.{Asked}
 use Rattle.pulsar_consumer_table.specs.declared.numbers.Numbering.{Numbering}
 use Rattle.pulsar_consumer_table.specs.declared.numbers.Numbering.TheVariants.{Has, InUse, Spent}
-use Rattle.pulsar_consumer_table.specs.Consumers.{Consumers, Deed, Member, called_on, changed, done_to, drew, holds, joined, listed, member_by, names_in, next_free, numbered, numbering, opened_on}
+use Rattle.pulsar_consumer_table.specs.Consumers.{Consumers, Deed, Member, asked_on, called_on, changed, done_to, drew, forgets_by, forgotten_on, holds, link_at, only_live, joined, listed, member_by, names_in, next_free, numbered, numbering, opened_on}
 
 -- WHAT IS DONE TO ONE
 
@@ -64,3 +66,21 @@ called_rows false asked cs = refl
 
 pub called_is : (is_open : Bool) (asked : Asked) (cs : Consumers) → called_on is_open asked cs ≡ record (called_on is_open asked cs) { rows = cs.rows }
 called_is is_open asked cs = ap (λ rows. record (called_on is_open asked cs) { rows = rows }) (called_rows is_open asked cs)
+
+-- what a call forgets
+pub asked_is : (is_open : Bool) (asked : Asked) (cs : Consumers) →
+    asked_on is_open asked cs
+    ≡ record (called_on is_open asked cs) { rows = λ t. row_by member_by (cond is_open (forgets_by asked t (cs.rows t)) []) (cs.rows t) }
+asked_is true asked cs =
+    ap (λ rows. record (opened_on asked cs) { rows = λ t. row_by member_by (forgets_by asked t (rows t)) (rows t) }) (opened_rows asked cs)
+asked_is false asked cs = refl
+
+-- one that is asked for again by its user, of the consumer of a ticket
+pub nacked_is : (u : ℕ) (name : List ℕ) (id : Id) (cs : Consumers) →
+    done_to u (only_live (link_at (cs.rows u)) id) cs ≡ forgotten_on (content.Nack u name id) cs
+nacked_is u name id cs i = record cs { rows = λ t. same t (t == u) refl i }
+  where
+    same : (t : ℕ) (b : Bool) → (t == u) ≡ b →
+        row_by member_by (cond b (only_live (link_at (cs.rows u)) id) []) (cs.rows t) ≡ row_by member_by (cond b (only_live (link_at (cs.rows t)) id) []) (cs.rows t)
+    same t true h = ap (λ k. row_by member_by (only_live (link_at (cs.rows k)) id) (cs.rows t)) (sym (eqb-true t u h))
+    same t false h = refl

@@ -14,7 +14,7 @@ use Rattle.pulsar_calls.specs.declared.act.Arrival.{Arrival}
 use Rattle.pulsar_calls.specs.declared.act.Arrival.TheVariants.{Bad, Gives, Nothing, Passes, Readied, Settles}
 use Rattle.pulsar_calls.specs.declared.act.Notice.{Notice}
 use Rattle.pulsar_calls.specs.declared.act.Outcome.TheVariants as outcome
-use Rattle.pulsar_calls.specs.declared.act.Who.TheVariants.{Consumer, Copy}
+use Rattle.pulsar_calls.specs.declared.act.Who.TheVariants.{Consumer}
 use Rattle.pulsar_calls.specs.declared.act.Word.{Word}
 use Rattle.pulsar_calls.specs.declared.act.Word.TheVariants as word
 use Rattle.pulsar_consumer.specs.Frames.{frame_in}
@@ -242,7 +242,7 @@ consumers_are a b rows tickets held named next key i =
 
 abbrev told_as : (ticket number key : ℕ) → Option Word → Bool → List Notice
 told_as t n k w b =
-    option_to_list (option_map (λ x. notice (Consumer n t) (outcome.Word x)) w) ++ cond b (notice (Copy n t k) (outcome.Word word.CopyDue) ∷ []) []
+    option_to_list (option_map (λ x. notice (Consumer n t 0) (outcome.Word x)) w) ++ cond b (notice (Consumer n t k) (outcome.Word word.CopyDue) ∷ []) []
 
 pub told_as_before : (clock l t : ℕ) (r : Reply) (rows : ℕ → Option Member) (old new : Member) (w : Option Word) (b : Bool) → Some old ≡ rows t →
     w ≡ word_of_frame clock l r old → b ≡ copy_of_frame clock l r old → new ≡ hears_frame clock l r old →

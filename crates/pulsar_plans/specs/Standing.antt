@@ -13,7 +13,7 @@ abbrev pub triple_cmp : ℕ × ℕ × ℕ → ℕ × ℕ × ℕ → Ordering
 triple_cmp a b = ordering_then (ordering_then (nat_cmp a.0 b.0) (nat_cmp a.1 b.1)) (nat_cmp a.2 b.2)
 
 abbrev pub is_at_place : ℕ × ℕ × ℕ → ℕ × ℕ × ℕ → Bool
-is_at_place p q = (p.0 == q.0) && ((p.1 == q.1) && (p.2 == q.2))
+is_at_place p q = (p.2 == q.2) && ((p.0 == q.0) && (p.1 == q.1))
 
 abbrev pub stand_of : Plans → Who → Option Plan
 stand_of p (Call ticket) = get nat_cmp p.calls ticket

@@ -32,7 +32,7 @@ returns-in-Bad-clause-notices c =
     rw c.in-Bad.is
     (on_ok_weaker c.put.result
     (λ put. sym (append-nil ns)
-    ∙ ap (λ more. ns ++ more) (sym (over_none (heard_at l (Bad c.in-Bad.cause)) (λ t m. refl) v.consumers.rows v.consumers.tickets)))
+    ∙ ap (λ more. ns ++ more) (sym (over_none (heard_at v.now l (Bad c.in-Bad.cause)) (λ t m. refl) v.consumers.rows v.consumers.tickets)))
     c.put.ensures)
 
 pub returns-in-Bad-clause-sees : goal.returns-in-Bad-clause-sees
@@ -41,7 +41,7 @@ returns-in-Bad-clause-sees c =
     let l = c.args.link in
     rw c.in-Bad.is
     (on_ok_weaker c.put.result
-    (λ put. ap (λ cs. record v { consumers = cs }) (all_same (hears l (Bad c.in-Bad.cause)) (λ m. refl) v.consumers)) c.put.ensures)
+    (λ put. ap (λ cs. record v { consumers = cs }) (all_same (hears v.now l (Bad c.in-Bad.cause)) (λ m. refl) v.consumers)) c.put.ensures)
 
 pub returns-in_ok-hear-in_default-clause-left : goal.returns-in_ok-hear-in_default-clause-left
 returns-in_ok-hear-in_default-clause-left c =

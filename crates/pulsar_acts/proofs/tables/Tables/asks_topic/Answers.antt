@@ -20,10 +20,10 @@ returns-clause-left c =
     let who = c.args.who in
     let n = c.args.number in
     let says =
-    c.in_ok-given.ensures.says ∙ (λ i. (asked_in v.producers n (c.turn_of.ensures i) (c.room_for-room.ensures i) c.args.ask).says)
+    c.in_ok-given.ensures.says ∙ (λ i. (asked_in v.producers n c.args.who (c.room_for-room.ensures i) c.args.ask).says)
     in
     let serves =
-    c.in_ok-given.ensures.serves ∙ (λ i. (asked_in v.producers n (c.turn_of.ensures i) (c.room_for-room.ensures i) c.args.ask).serves)
+    c.in_ok-given.ensures.serves ∙ (λ i. (asked_in v.producers n c.args.who (c.room_for-room.ensures i) c.args.ask).serves)
     in
     on_ok_weaker c.tell_some.result
     (λ told. told
@@ -41,7 +41,7 @@ returns-clause-sees c =
     let n = c.args.number in
     let after =
     c.in_ok-given.ensures.after
-    ∙ (λ i. done_to n (asked_in v.producers n (c.turn_of.ensures i) (c.room_for-room.ensures i) c.args.ask).acts v.producers)
+    ∙ (λ i. done_to n (asked_in v.producers n c.args.who (c.room_for-room.ensures i) c.args.ask).acts v.producers)
     in
     on_ok_weaker c.tell_some.result
     (λ told. c.in_ok-waits_if.ensures.sees

@@ -74,7 +74,7 @@ returns-clause-sees c =
     c.in_ok-procedure.ensures.after
     ∙ (λ i. record v {
       calls = record { drawn = is i; is_built = v.calls.is_built; is_stopped = v.calls.is_stopped };
-      consumers = consumer.called_on (may_call v.calls) c.args.asking v.consumers;
+      consumers = consumer.asked_on (may_call v.calls) c.args.asking v.consumers;
       producers = called_on (may_call v.calls) c.args.asking v.producers;
     })
     ∙ begun_sees v c.args.advice c.args.asking lacks)

@@ -1,9 +1,9 @@
-use Rattle.std.proofs.Common.{◌≡◌, ◌∙◌, [], ap}
+use Rattle.std.proofs.Common.{◌≡◌, ◌∙◌, [], ap, Some}
 use Rattle.pulsar_calls.specs.declared.content.Joining.{Joining}
 use Rattle.pulsar_consumer.specs.Topic.{Setup, fresh}
 use Rattle.pulsar_consumer_table.specs.Consumers.{subscribed_on}
 use Rattle.pulsar_consumer_table.specs.KeptConsumers.{member_in}
-use Rattle.pulsar_acts.specs.View.{member_on, setup_of}
+use Rattle.pulsar_acts.specs.View.{alarms_made, member_on, setup_of}
 use Rattle.pulsar_acts.specs.Tables.{joins_as, view_of}
 use Rattle.pulsar_acts.proofs.tables.Tables.joins.Goals as goal
 
@@ -15,12 +15,12 @@ returns-clause-sees c =
     let setup : Joining → Setup = λ (j : Joining). setup_of key j in
     let new : c.new-consumer.result ≡ fresh (setup made) =
     c.new-consumer.ensures
-    ∙ (λ i. fresh (record (setup made) { key = c.in_ok-key.ensures.drawn i; config = c.in_ok-config.ensures i }))
+    ∙ (λ i. fresh (record (setup made) { key = c.in_ok-key.ensures.drawn i }))
     in
-    let member : member_in c.in_ok-row.row ≡ member_on v.links.live c.args.joined.link (setup c.args.joined) =
+    let member : member_in c.in_ok-row.row ≡ member_on v.links.live v.now c.args.joined.link (setup c.args.joined) =
     c.in_ok-row.ensures
-    ∙ (λ i. subscribed_on made.link (c.in_ok-url.ensures i) (record { seen = new i; seekers = [] }))
-    ∙ ap (λ (j : Joining). member_on v.links.live j.link (setup j)) c.into_inner-topic.ensures
+    ∙ (λ i. subscribed_on v.now made.link (c.in_ok-url.ensures i) (record { seen = new i; seekers = [] }))
+    ∙ ap (λ (j : Joining). member_on v.links.live v.now j.link (setup j)) c.into_inner-topic.ensures
     in
     c.in_ok-joins_as.ensures.sees
-    ∙ (λ i. record v { consumers = joins_as c.args.who (member i) (c.in_ok-key.ensures.after i) })
+    ∙ (λ i. record v { alarms = alarms_made c.args.who (Some (member i)) v.alarms; consumers = joins_as c.args.who (member i) (c.in_ok-key.ensures.after i) })

@@ -21,4 +21,4 @@ returns-then-is_build-clause-after c =
     λ i. record v { consumers = either may v.consumers i; producers = either may v.producers i }
     in
     MatchResult-weaker c.builds_if.result c.builds_if.ensures
-    (λ p built. same ∙ ap (λ a. record v { consumers = consumer.called_on may a v.consumers; producers = called_on may a v.producers }) (sym is)) (λ e u. u)
+    (λ p built. same ∙ ap (λ a. record v { consumers = consumer.asked_on may a v.consumers; producers = called_on may a v.producers }) (sym is)) (λ e u. u)

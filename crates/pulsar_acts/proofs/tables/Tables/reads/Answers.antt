@@ -42,7 +42,7 @@ returns-clause-left c =
     ∙ welcomed_is v.chosen v.addresses v.now l row
     in
     let heard =
-    ap (λ (x : View). over_rows (heard_at l came) x.consumers) c.in_ok-welcomes.ensures.sees ∙ ap (λ a. over_rows (heard_at l a) v.consumers) is
+    ap (λ (x : View). over_rows (heard_at x.now l came) x.consumers) c.in_ok-welcomes.ensures.sees ∙ ap (λ a. over_rows (heard_at v.now l a) v.consumers) is
     in
     let before =
     c.in_ok-welcomes.ensures.notices
@@ -79,11 +79,11 @@ returns-clause-sees c =
     let arrives = c.in_ok-arrives.ensures in
     on_ok_weaker c.open.result
     (λ left. arrives.sees
-    ∙ ap (λ (x : View). record x { consumers = all_changed (hears l came) x.consumers }) welcomes
+    ∙ ap (λ (x : View). record x { consumers = all_changed (hears x.now l came) x.consumers }) welcomes
     ∙ (λ i. record v {
       links = links i;
       addresses = record { base = λ key. base_on (turns i) key (v.addresses.base key); pause = λ k. pause_on (turns i) k (v.addresses.pause k) };
       alarms = alarms_on v.chosen v.now (turns i) v.alarms;
-      consumers = all_changed (hears l (is i)) v.consumers;
+      consumers = all_changed (hears v.now l (is i)) v.consumers;
     }))
     c.open.ensures

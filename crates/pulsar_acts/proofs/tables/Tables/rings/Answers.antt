@@ -1,11 +1,13 @@
 use Rattle.std.proofs.Common.{◌≡◌, ◌∙◌, ap, refl, sym, true}
 use Rattle.std.proofs.lemmas.Result.{on_ok_weaker}
-use Rattle.pulsar_calls.specs.declared.act.Alarm.TheVariants.{Retry, Wake, Batch, KeepAlive, CheckIdle}
+use Rattle.pulsar_calls.specs.declared.act.Alarm.TheVariants.{Retry, Wake, Batch, KeepAlive, Redelivery, CheckIdle}
 use Rattle.pulsar_links.specs.Alarms.{rings}
 use Rattle.pulsar_agenda.specs.Agenda.{agenda_of}
 use Rattle.pulsar_acts.specs.Tables.{rung_view, view_of}
 use Rattle.pulsar_producer.specs.Topic.{Cuts}
 use Rattle.pulsar_producer_table.proofs.Asking.{changed_is}
+use Rattle.pulsar_consumer_table.specs.Consumers.{IsChecked}
+use Rattle.pulsar_consumer_table.proofs.Asking as asking
 use Rattle.pulsar_acts.proofs.Rings.{rest_left, rest_sees, ring_acts, ring_sees, ring_tells}
 use Rattle.pulsar_acts.proofs.tables.Tables.rings.Goals as goal
 
@@ -67,6 +69,23 @@ returns-in-KeepAlive-clause-sees c =
     let v = view_of c.args.self.now in
     let h : rings v.now (KeepAlive c.in-KeepAlive.link) v.alarms ≡ true = ap (λ a. rings v.now a v.alarms) (sym c.in-KeepAlive.is) ∙ sym c.rings.ensures ∙ c.if-not-rings.false in
     rw c.in-KeepAlive.is (on_ok_weaker c.keeps_alive.result (λ sees. sees ∙ ring_sees v (KeepAlive c.in-KeepAlive.link) h) c.keeps_alive.ensures.sees)
+
+pub returns-in-Redelivery-clause-left : goal.returns-in-Redelivery-clause-left
+returns-in-Redelivery-clause-left c =
+    let v = view_of c.args.self.now in
+    let a = Redelivery c.in-Redelivery.number c.in-Redelivery.ticket in
+    let h : rings v.now a v.alarms ≡ true = ap (λ a. rings v.now a v.alarms) (sym c.in-Redelivery.is) ∙ sym c.rings.ensures ∙ c.if-not-rings.false in
+    rw c.in-Redelivery.is (on_ok_weaker c.redelivers.result (λ left. left ∙ ring_tells v a (agenda_of c.args.tasks.now) h refl) c.redelivers.ensures.left)
+
+pub returns-in-Redelivery-clause-sees : goal.returns-in-Redelivery-clause-sees
+returns-in-Redelivery-clause-sees c =
+    let v = view_of c.args.self.now in
+    let a = Redelivery c.in-Redelivery.number c.in-Redelivery.ticket in
+    let h : rings v.now a v.alarms ≡ true = ap (λ a. rings v.now a v.alarms) (sym c.in-Redelivery.is) ∙ sym c.rings.ensures ∙ c.if-not-rings.false in
+    rw c.in-Redelivery.is
+    (on_ok_weaker c.redelivers.result
+    (λ sees. sees ∙ (λ i. record (rung_view a v) { consumers = asking.changed_is c.in-Redelivery.ticket (IsChecked v.now) v.consumers i }) ∙ ring_sees v a h)
+    c.redelivers.ensures.sees)
 
 pub returns-in-CheckIdle-clause-left : goal.returns-in-CheckIdle-clause-left
 returns-in-CheckIdle-clause-left c =

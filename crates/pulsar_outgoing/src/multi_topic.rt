@@ -25,7 +25,11 @@ pub enum Taker {
     Call(u64),
     /// The copy of a dead letter, for the topic consumer of this number, which the call of this ticket built. The key tells it from others that
     /// have had both.
-    Copy { consumer: u64, ticket: u64, key: u64 },
+    Copy {
+        consumer: u64,
+        ticket: u64,
+        key: u64,
+    },
 }
 
 /// A message as its user gave it, in a box.

@@ -6,7 +6,6 @@ pub mod Several
 pub mod Listed
 pub mod Asking
 pub mod Drawing
-pub mod Retaining
 pub mod Living
 pub mod Dropped
 pub mod Placed

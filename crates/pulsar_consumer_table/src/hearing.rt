@@ -581,12 +581,45 @@ fn stop_waiting(seekers: &[Who], notices: &mut Vec<Notice>) -> Result<(), NoMemo
 }
 
 /// The client is stopped: each consumer ends.
-pub fn stop_all(rows: &mut BTreeMap<u64, ConsumerRow>) -> Result<(), NoMemory>
+pub fn stop_all(alloc: Global, rows: &mut BTreeMap<u64, ConsumerRow>) -> Result<(), NoMemory>
     ensures rows { OnOk result ((t : ℕ) → rows_in rows.new t ≡ option_map meaning.stopped (rows_in rows.old t)) }
     ensures tickets { OnOk result (keys rows.new ≡ keys rows.old) }
 {
-    for (_, row) in rows.iter_mut() {
-        row.stop()?;
+    let tickets = all_tickets(alloc, rows)?;
+    stop_these(rows, &tickets)?;
+    Ok(())
+}
+
+/// The tickets of all, in order.
+fn all_tickets(alloc: Global, rows: &BTreeMap<u64, ConsumerRow>) -> Result<Vec<u64>, NoMemory>
+    ensures tickets { IfOk result (λ ts. ts.items ≡ keys rows.now) }
+    ensures sorted { IfOk result (λ ts. IsStrictlySortedBy nat_cmp ts.items) }
+{
+    let mut tickets = Vec::new(alloc);
+    for (ticket, _) in rows {
+        tickets.push(*ticket)?;
+    }
+    Ok(tickets)
+}
+
+/// Each of these ends.
+fn stop_these(rows: &mut BTreeMap<u64, ConsumerRow>, tickets: &[u64]) -> Result<(), NoMemory>
+    requires { IsStrictlySortedBy nat_cmp tickets.now }
+    ensures rows { OnOk result ((t : ℕ) → rows_in rows.new t ≡ some_changed tickets.now meaning.stopped (rows_in rows.old) t) }
+    ensures tickets { OnOk result (keys rows.new ≡ keys rows.old) }
+{
+    for ticket in tickets {
+        stop_at(rows, *ticket)?;
     }
     Ok(())
+}
+
+fn stop_at(rows: &mut BTreeMap<u64, ConsumerRow>, ticket: u64) -> Result<(), NoMemory>
+    ensures rows { OnOk result ((t : ℕ) → rows_in rows.new t ≡ one_changed ticket meaning.stopped (rows_in rows.old) t) }
+    ensures tickets { OnOk result (keys rows.new ≡ keys rows.old) }
+{
+    match rows.get_mut(&ticket) {
+        Some(row) => row.stop(),
+        None => Ok(()),
+    }
 }

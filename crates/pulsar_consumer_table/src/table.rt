@@ -377,7 +377,7 @@ impl Consumers {
         }
         self.failed = true;
         stop_seekers(&self.rows, notices)?;
-        stop_all(&mut self.rows)?;
+        stop_all(self.alloc, &mut self.rows)?;
         self.listing = BTreeMap::new(self.alloc);
         self.heard = BTreeMap::new(self.alloc);
         self.failed = false;

@@ -129,7 +129,7 @@ module _ (clock n l : ℕ) (r : Reply) where
       by true false h = ap Some (sym (unheard clock l r m h))
       by false b h = refl
 
-  told_if : (b : Bool) (t : ℕ) (m : Member) → List Notice
+  abbrev told_if : (b : Bool) (t : ℕ) (m : Member) → List Notice
   told_if b t m = word_to t m (cond b (word_of_frame clock l r m) None) ++ copy_if (b && copy_of_frame clock l r m) t m
 
   pub none_told : (t : ℕ) (m : Member) → lives_with n l (Some m) ≡ false → heard_at clock l (Gives n r) t m ≡ []

@@ -10,7 +10,7 @@ use Rattle.pulsar_consumer.specs.Topic.{Asks, Checks, Engine, FailsCopy, Forgets
 use Rattle.pulsar_consumer.proofs.Histories.{counted_same}
 use Rattle.pulsar_consumer_table.specs.declared.row.LinkAnswer.{LinkAnswer}
 use Rattle.pulsar_consumer_table.specs.declared.row.LinkAnswer.TheVariants.{Found, Gone, Later}
-use Rattle.pulsar_consumer_table.specs.Consumers.{lives_at, member_after, revived, seeks, sought, waits_so}
+use Rattle.pulsar_consumer_table.specs.Consumers.{Member, lives_at, member_after, revived, seeks, sought, waits_so}
 use Rattle.pulsar_consumer_table.specs.KeptConsumers.{is_known}
 use Rattle.pulsar_consumer_table.proofs.Living.{advancing_link, giving_link, link_in, same_link}
 use Rattle.pulsar_consumer_table.proofs.Numbered.{same_number, there}

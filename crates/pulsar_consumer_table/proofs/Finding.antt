@@ -31,13 +31,13 @@ pub all_keyed : (f : Member → Member) (rows : BTreeMap ℕ ConsumerRow) (ts : 
     some_changed ts f (rows_in rows) t ≡ option_map f (rows_in rows t)
 all_keyed f rows ts is t = ap (λ us. some_changed us f (rows_in rows) t) is ∙ by (rows_in rows t) refl
   where
-    by : (row : Option Member) → rows_in rows t ≡ row → some_changed (keys rows) f (rows_in rows) t ≡ option_map f (rows_in rows t)
-    by None none = changed_none (is_listed t (keys rows)) (rows_in rows t) none
-    by (Some m) some = ap (λ b. cond b (option_map f (rows_in rows t)) (rows_in rows t)) (keyed rows t (ap is_some some))
-
     changed_none : (b : Bool) (row : Option Member) → row ≡ None → cond b (option_map f row) row ≡ option_map f row
     changed_none true row h = refl
     changed_none false row h = h ∙ sym (ap (option_map f) h)
+
+    by : (row : Option Member) → rows_in rows t ≡ row → some_changed (keys rows) f (rows_in rows) t ≡ option_map f (rows_in rows t)
+    by None none = changed_none (is_listed t (keys rows)) (rows_in rows t) none
+    by (Some m) some = ap (λ b. cond b (option_map f (rows_in rows t)) (rows_in rows t)) (keyed rows t (ap is_some some))
 
 listed_same : {A : Type 0} (g f : ℕ → List A) (ts : List ℕ) → ((t : ℕ) → is_listed t ts ≡ true → g t ≡ f t) → flat_map g ts ≡ flat_map f ts
 listed_same g f [] same = refl

@@ -13,7 +13,7 @@ use Rattle.pulsar_calls.specs.declared.act.Act.TheVariants.{Comes, Starts, Told,
 use Rattle.pulsar_calls.specs.declared.act.Action.{Action}
 use Rattle.pulsar_calls.specs.declared.act.Action.TheVariants.{OfTopic, OfMulti, OfConsumer, Get, Wait, StopAll, Rest}
 use Rattle.pulsar_calls.specs.declared.act.Alarm.{Alarm}
-use Rattle.pulsar_calls.specs.declared.act.Alarm.TheVariants.{Retry, Wake, Batch, KeepAlive, CheckIdle}
+use Rattle.pulsar_calls.specs.declared.act.Alarm.TheVariants.{Retry, Wake, Batch, KeepAlive, Redelivery, CheckIdle}
 use Rattle.pulsar_calls.specs.declared.act.Arrival.{Arrival}
 use Rattle.pulsar_calls.specs.declared.act.Arrival.TheVariants.{Bad}
 use Rattle.pulsar_calls.specs.declared.act.End.TheVariants.{Broken, Idles, Stops}
@@ -29,7 +29,9 @@ use Rattle.pulsar_links.specs.declared.addresses.Series.{Series}
 use Rattle.pulsar_links.specs.declared.addresses.Series.TheVariants.{Nobody, Runs, Pauses, Serves}
 use Rattle.pulsar_plans.specs.declared.plan.Plan.{Plan}
 use Rattle.pulsar_links.specs.Alarms.{rings}
-use Rattle.pulsar_acts.specs.Reading.{serves_by, tells}
+use Rattle.std.specs.Option.{option_to_list}
+use Rattle.pulsar_incoming.specs.Content.{DeadLetterValues}
+use Rattle.pulsar_acts.specs.Reading.{copies, copies_by, serves_by, tells}
 use Rattle.pulsar_calls.specs.Content.{Asked, shares}
 use Rattle.pulsar_plans.specs.Plan.{begins}
 use Rattle.pulsar_acts.specs.Rules.{at_once, batches_by, batches_for, batches_from, batches_joined, breaks_at, called, does, follows, follows_some, gets_from, idle_act, is_idle, keeps_alive, left_with, performs, rung, tries_again, says_to}
@@ -61,7 +63,7 @@ pub data Kind : Type 0 where
 abbrev pub kind : Act → Kind
 kind (Starts (Call t) p) = OfStart
 kind (Starts (Producer n) p) = OfBatches
-kind (Starts (Consumer n t) p) = OfService
+kind (Starts (Consumer n t key) p) = OfService
 kind (Does who action) = OfDeed
 kind (Answers who verdict) = OfVerdict
 kind (Told n) = OfNotice
@@ -191,6 +193,7 @@ rung_raised v (Retry l) = tries_raised l (v.addresses.pause l)
 rung_raised v (Wake who) = tt
 rung_raised v (Batch n) = tt
 rung_raised v (KeepAlive l) = keeps_raised l (v.links.live l)
+rung_raised v (Redelivery n t) = tt
 rung_raised v CheckIdle = over_each (IsRaised (Comes (Rings CheckIdle))) (idle_act v) v.links (idle_raised v)
 
 -- WHAT A VERDICT LEAVES BEHIND
@@ -199,10 +202,20 @@ served_raised : (who : Who) (verdict : Verdict) (ways : Option Ways) (j : Joinin
 served_raised who verdict None j = tt
 served_raised who verdict (Some ways) j = (refl, tt)
 
-left_raised : (who : Who) (verdict : Verdict) (ways : Option Ways) (m : Makes) → Each (IsRaised (Answers who verdict)) (left_with ways who m)
-left_raised who verdict ways (makes.Consumer j) = served_raised who verdict ways j
-left_raised who verdict ways (makes.Producer b) = for_each (Answers who verdict) refl ways b.settings b.parts
-left_raised who verdict ways _ = tt
+letters_raised : (who : Who) (verdict : Verdict) (key : ℕ) (j : Joining) (ways : Ways) (p : Option DeadLetterValues) →
+    Each (IsRaised (Answers who verdict)) (map (copies key who j ways) (option_to_list p))
+letters_raised who verdict key j ways None = tt
+letters_raised who verdict key j ways (Some p) = (refl, tt)
+
+copied_raised : (who : Who) (verdict : Verdict) (ways : Option Ways) (key : ℕ) (j : Joining) → Each (IsRaised (Answers who verdict)) (copies_by ways key who j)
+copied_raised who verdict None key j = tt
+copied_raised who verdict (Some ways) key j = letters_raised who verdict key j ways j.config.dead_letter_policy
+
+left_raised : (who : Who) (verdict : Verdict) (ways : Option Ways) (key : ℕ) (m : Makes) → Each (IsRaised (Answers who verdict)) (left_with ways key who m)
+left_raised who verdict ways key (makes.Consumer j) =
+    each_append (IsRaised (Answers who verdict)) (serves_by ways who j) (copies_by ways key who j) (served_raised who verdict ways j) (copied_raised who verdict ways key j)
+left_raised who verdict ways key (makes.Producer b) = for_each (Answers who verdict) refl ways b.settings b.parts
+left_raised who verdict ways key _ = tt
 
 -- ALL
 
@@ -213,5 +226,5 @@ raises v (Comes (Rings a)) = each_either (IsRaised (Comes (Rings a))) (rings v.n
 raises v (Starts who p) = follows_raised (Starts who p) who (begins p) refl refl
 raises v (Told n) = some_raised (Told n) n.who (told_some (v.stand n.who) n.outcome) refl refl
 raises v (Does who action) = performs_raised v who action
-raises v (Answers who verdict) = left_raised who verdict (ways_of v.chosen) verdict.makes
+raises v (Answers who verdict) = left_raised who verdict (ways_of v.chosen) v.consumers.next_key verdict.makes
 raises v _ = tt

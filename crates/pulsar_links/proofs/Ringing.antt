@@ -19,25 +19,34 @@ use Rattle.std.specs.declared.cmp.Ordering.TheVariants.{Less, Equal, Greater}
 use Rattle.pulsar_requests.specs.Soonest.{has_come}
 use Rattle.pulsar_calls.specs.contracts.act.AlarmOrd.TheImpl.Laws.{total-law}
 use Rattle.pulsar_calls.specs.declared.act.Alarm.{Alarm}
-use Rattle.pulsar_calls.specs.declared.act.Alarm.TheVariants.{Retry, Wake, Batch, KeepAlive, CheckIdle}
+use Rattle.pulsar_calls.specs.declared.act.Alarm.TheVariants.{Retry, Wake, Batch, KeepAlive, Redelivery, CheckIdle}
 use Rattle.pulsar_calls.specs.declared.act.Who.TheVariants.{Call, Consumer, Producer}
 use Rattle.pulsar_links.specs.Alarms.{alarm_cmp, is_same_alarm, moment_of, ringing}
 use Rattle.pulsar_links.specs.Due.{is_moment}
 use Rattle.pulsar_calls.proofs.Lists.{any_end}
 
--- consumers are told apart by their numbers, and by their tickets
-exact_consumer : (m s n t : ℕ) (o : Ordering) → nat_cmp m n ≡ o → ordering_then o (nat_cmp s t) ≡ Equal → Wake (Consumer m s) ≡ Wake (Consumer n t)
-exact_consumer m s n t Less e h = absurd cc
-exact_consumer m s n t Equal e h = λ i. Wake (Consumer (exact_unsigned m n e i) (exact_unsigned s t h i))
-exact_consumer m s n t Greater e h = absurd cc
+-- consumers are told apart by their numbers, by their tickets, and by their keys; their checks by the first two
+exact_consumer : (m s a n t b : ℕ) (o p : Ordering) → nat_cmp m n ≡ o → nat_cmp s t ≡ p → ordering_then o (ordering_then p (nat_cmp a b)) ≡ Equal →
+    Wake (Consumer m s a) ≡ Wake (Consumer n t b)
+exact_consumer m s a n t b Less p e f h = absurd cc
+exact_consumer m s a n t b Equal Less e f h = absurd cc
+exact_consumer m s a n t b Equal Equal e f h = λ i. Wake (Consumer (exact_unsigned m n e i) (exact_unsigned s t f i) (exact_unsigned a b h i))
+exact_consumer m s a n t b Equal Greater e f h = absurd cc
+exact_consumer m s a n t b Greater p e f h = absurd cc
+
+exact_check : (m s n t : ℕ) (o : Ordering) → nat_cmp m n ≡ o → ordering_then o (nat_cmp s t) ≡ Equal → Redelivery m s ≡ Redelivery n t
+exact_check m s n t Less e h = absurd cc
+exact_check m s n t Equal e h = λ i. Redelivery (exact_unsigned m n e i) (exact_unsigned s t h i)
+exact_check m s n t Greater e h = absurd cc
 
 pub exact_alarm : CmpEqualImpliesEq alarm_cmp
 exact_alarm (Retry l) (Retry k) h = ap Retry (exact_unsigned l k h)
 exact_alarm (Wake (Call s)) (Wake (Call t)) h = ap (λ x. Wake (Call x)) (exact_unsigned s t h)
-exact_alarm (Wake (Consumer m s)) (Wake (Consumer n t)) h = exact_consumer m s n t (nat_cmp m n) refl h
+exact_alarm (Wake (Consumer m s a)) (Wake (Consumer n t b)) h = exact_consumer m s a n t b (nat_cmp m n) (nat_cmp s t) refl refl h
 exact_alarm (Wake (Producer m)) (Wake (Producer n)) h = ap (λ x. Wake (Producer x)) (exact_unsigned m n h)
 exact_alarm (Batch m) (Batch n) h = ap Batch (exact_unsigned m n h)
 exact_alarm (KeepAlive l) (KeepAlive k) h = ap KeepAlive (exact_unsigned l k h)
+exact_alarm (Redelivery m s) (Redelivery n t) h = exact_check m s n t (nat_cmp m n) refl h
 exact_alarm CheckIdle CheckIdle h = refl
 exact_alarm _ _ h = absurd cc
 

@@ -462,7 +462,6 @@ multi_closing : (m : Multi) (s : MultiClose) (u : Outcome) (x : multi.Closes) â†
     ToldTo (MultiClosing m s) u (multi_closes m x)
 multi_closing m s u (Stays q (Asks ask)) k = multi_closes_on ask k
 multi_closing m s u (Stays q (Does d)) k = absurd k
-multi_closing m s u (Stays q (Does d)) k = absurd k
 multi_closing m s u (Gives (Ok [])) k = ends _ refl
 multi_closing m s u (Gives (Ok (n âˆ· left))) k = multi_visits k
 multi_closing m s u (Gives (Err f)) k = ends _ refl

@@ -650,7 +650,9 @@ drawn_begins o log e k =
     let s = begun_same (λ v. v.stand) e (view o log) refl in
     record {
       below = λ n w h. subst (λ x. n < x.next) (sym p) (k.below n w h);
-      plans = λ w q h. k.plans w q (sym (ap (λ f. f w) s) ∙ h);
+      plans = λ w q h.
+          sound_map (Owned o log w) (Owned o (Begins e ∷ log) w) q (λ n x. (x.0, ap (λ y. y.topics n) p ∙ x.1))
+          (k.plans w q (sym (ap (λ f. f w) s) ∙ h));
       topics = λ n row h. k.topics n row (sym (ap (λ x. x.topics n) p) ∙ h);
     }
 

@@ -26,7 +26,7 @@ module _ (o : Options) (who : Who) (version : Option (List ℕ)) where
 
   abbrev Tells : Entry → List Entry → Type 0
   Tells e older =
-      (n link : ℕ) × (given : Given) × (made_last n older ≡ Some (link, given)) × (given.version ≡ version)
+      (n link : ℕ) × (given : Given) × (made_last o n older ≡ Some (link, given)) × (given.version ≡ version)
       × ((e ≡ Then (Does who (OfTopic n TakeTurn))) ⊎ ((other : Who) × (e ≡ Then (Does other (OfTopic n PassTurn)))))
 
   -- it is had at once

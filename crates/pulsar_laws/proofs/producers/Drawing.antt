@@ -52,7 +52,7 @@ use Rattle.pulsar_laws.proofs.calls.Same.{same_self}
 use Rattle.pulsar_laws.proofs.plans.Servers.{server_gives, server_stands, serve_goes_on}
 use Rattle.pulsar_run.specs.Things.{along, Keeps, row_after, row_by}
 use Rattle.pulsar_run.proofs.Things.{came, WasIn, IsNewIn}
-use Rattle.pulsar_acts.specs.View.{topic_born, topic_joined, topic_of, building_of, multi_at}
+use Rattle.pulsar_acts.specs.View.{topic_born, topic_joined, topic_of, building_of, multi_at, with_numbers}
 use Rattle.pulsar_laws.specs.ProducerLaws.{topic_acts}
 use Rattle.pulsar_acts.specs.Things.{topics}
 
@@ -234,11 +234,16 @@ next_more ps =
     let e : ps.next ≤ next_free ps = free_more ps.named ps.next in
     elim (is_spent (next_free ps)) as (λ b. ps.next ≤ cond b (next_free ps) (next_free ps + 1)) [ true ↦ e | false ↦ omega (arith, e) ]
 
+numbers_next : (t : ℕ) (r : Option Joining) (ps : Producers) → (with_numbers t r ps).next ≡ ps.next
+numbers_next t None ps = refl
+numbers_next t (Some j) ps = refl
+
 pub next_after : (v : View) (a : Act) → v.producers.next ≤ (seen.after a v).producers.next
 next_after v (Comes (Calls asked advice)) = let e = called_kept v asked advice in rw e (omega arith)
 next_after v (Does who Number) = next_more v.producers
 next_after v (Answers who verdict) =
     let e = left_next who (producers_listed v.chosen who verdict.makes v.producers) ∙ made_next v who verdict.makes in rw e (omega arith)
+next_after v (Does who (OfMulti m ask)) = let e = numbers_next (ticket_of who) (joined_by ask (multi_at v m)) v.producers in rw e (omega arith)
 next_after v _ = omega arith
 
 -- ALONG A LOG

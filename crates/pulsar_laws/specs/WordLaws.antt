@@ -104,10 +104,18 @@ abbrev pub batch_said : (is_raw : Bool) → ConfigValues → Option ℕ
 batch_said true c = None
 batch_said false c = Some (unwrap_or c.batch_size 1000)
 
--- A consumer has the topic, the number and the configuration with which its call has joined; and a raw one the words of its request. Its queue and its batch
--- size are those that are said there.
+-- A consumer has the topic, the number and the configuration with which its call has joined, but for dead letters and redelivery, which no consumer has yet;
+-- and a raw one the words of its request. Its queue and its batch size are those that are said there.
 pub record ConsumersAreMadeSo : Type 0 where
-  pub built : (j : Joining) → setup_of j ≡ record { topic = j.topic; number = j.number; config = j.config; is_raw = false }
+  pub built : (key : ℕ) (j : Joining) →
+      setup_of key j
+      ≡ record {
+        key = key;
+        topic = j.topic;
+        number = j.number;
+        config = record j.config { unacked_message_redelivery_delay = None; dead_letter_policy = None };
+        is_raw = false;
+      }
   pub raw : (s : Subscribed) →
       ((of_raw s).topic ≡ s.topic) × ((of_raw s).number ≡ s.consumer) × ((of_raw s).is_raw ≡ true) × ((of_raw s).config.subscription ≡ s.subscription)
       × ((of_raw s).config.sub_type ≡ s.sub_type) × ((of_raw s).config.consumer_name ≡ s.name) × ((of_raw s).config.options ≡ s.options)

@@ -9,7 +9,7 @@ returns-in-Some c =
     let written = c.get_mut.follows.holds c.join.new.self in
     on_ok_weaker c.join.result
     (λ after. written.0 ∙ changed_is c.args.ticket (Joins c.args.topic c.args.producer) c.join.new.self c.in-Some.one.now _ (sym c.in-Some.ensures.value)
-        after) c.join.ensures
+    after) c.join.ensures
 
 pub returns-in-None : goal.returns-in-None
 returns-in-None c =

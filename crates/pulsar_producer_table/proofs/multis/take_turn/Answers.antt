@@ -13,7 +13,7 @@ returns-in_ok-take_turn-in-Some-clause-after c =
     let written = c.get_mut.follows.holds c.take_turn.new.self in
     written.0
     ∙ changed_is c.args.ticket (Takes c.args.taker) c.take_turn.new.self c.in-Some.one.now _ (sym c.in-Some.ensures.value)
-        c.in_ok-take_turn-in-Some.ensures.after
+    c.in_ok-take_turn-in-Some.ensures.after
 
 pub returns-in-None-clause-has : goal.returns-in-None-clause-has
 returns-in-None-clause-has c = ap (option_map is_free) (c.in-None.ensures.value ∙ made_is c.args.ticket _)

@@ -78,7 +78,6 @@ fn copied_properties(
     Ok(properties)
 }
 
-#[tactic(auto, using(crate::proofs::Copying::put_next))]
 fn put_all(properties: &mut BTreeMap<String, String>, given: Vec<KeyValue>) -> Result<(), NoMemory>
     ensures { OnOk result (map property properties.new.entries
         ≡ meaning.with_properties (map key_value_values given.items) (map property properties.old.entries)) }
@@ -89,7 +88,6 @@ fn put_all(properties: &mut BTreeMap<String, String>, given: Vec<KeyValue>) -> R
     Ok(())
 }
 
-#[tactic(auto, using(crate::proofs::Copying::put_one))]
 fn put(properties: &mut BTreeMap<String, String>, pair: &KeyValue) -> Result<(), NoMemory>
     ensures { OnOk result (map property properties.new.entries
         ≡ meaning.with_property (string_bytes pair.now.key) (string_bytes pair.now.value) (map property properties.old.entries)) }

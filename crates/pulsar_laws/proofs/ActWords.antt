@@ -5,7 +5,7 @@ pub use Rattle.pulsar_calls.specs.Who.{is_same, ticket_of, turn_of}
 pub use Rattle.pulsar_calls.specs.declared.act.Act.{Act}
 pub use Rattle.pulsar_calls.specs.declared.act.Act.TheVariants.{Answers, Comes, Dials, Does, Starts, Told}
 pub use Rattle.pulsar_calls.specs.declared.act.Action.{Action}
-pub use Rattle.pulsar_calls.specs.declared.act.Action.TheVariants.{Ask, Get, Hold, Number, OfConsumer, OfTopic, Rest, Shut, StopAll, TakeNumber, Tell, TellAll, Wait}
+pub use Rattle.pulsar_calls.specs.declared.act.Action.TheVariants.{Ask, Get, Hold, Number, OfConsumer, OfMulti, OfTopic, Rest, Shut, StopAll, TakeNumber, Tell, TellAll, Wait}
 pub use Rattle.pulsar_calls.specs.declared.act.Alarm.{Alarm}
 pub use Rattle.pulsar_calls.specs.declared.act.Alarm.TheVariants.{Batch, CheckIdle, KeepAlive, Retry, Wake}
 pub use Rattle.pulsar_calls.specs.declared.act.Arrival.{Arrival}

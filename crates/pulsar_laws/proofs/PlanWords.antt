@@ -7,7 +7,7 @@ pub use Rattle.pulsar_outgoing.specs.declared.orders.Errand.{Errand}
 pub use Rattle.pulsar_outgoing.specs.declared.orders.ProducerOrder.{ProducerOrder}
 pub use Rattle.pulsar_plans.specs.Plan.{action_of, batches_on, begins, closed_notice, fails, is_answer, news_in, news_of, overrides, told, told_to, verdict}
 pub use Rattle.pulsar_plans.specs.Transitions.{PlanTransition}
-pub use Rattle.pulsar_plans.specs.declared.plan.Plan.TheVariants.{Asking, Awaiting, Batching, Leaving, Producing, Reporting, Serving, Stored, Storing, Subscribing, Visiting}
+pub use Rattle.pulsar_plans.specs.declared.plan.Plan.TheVariants.{Asking, Awaiting, Batching, Leaving, MultiClosing, MultiSending, Producing, Reporting, Serving, Stored, Storing, Subscribing, Visiting}
 pub use Rattle.pulsar_plans.specs.declared.plan.Plan.{Plan}
 pub use Rattle.pulsar_producer.specs.News.{News}
 pub use Rattle.pulsar_producer.specs.declared.batching.Batching.{Batching as Batches}

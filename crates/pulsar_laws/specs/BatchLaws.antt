@@ -241,6 +241,7 @@ is_granted outcome.TimedOut = false
 is_granted outcome.Disconnected = false
 is_granted outcome.Woken = false
 is_granted (outcome.Granted n) = true
+is_granted (outcome.OfMulti x) = false
 is_granted (outcome.Parted ticket f) = false
 is_granted (outcome.Settled f) = false
 is_granted (outcome.Word w) = false

@@ -1,5 +1,5 @@
 -- Why one is told an outcome, in plain words.
-use Rattle.std.specs.Prelude.{◌≡◌, ◌⊎◌, ℕ, Bool, true, false, List, ◌∷◌, Option, Some, None, Ok, Err}
+use Rattle.std.specs.Prelude.{◌≡◌, ◌⊎◌, ℕ, ◌||◌, Bool, true, false, List, ◌∷◌, Option, Some, None, Ok, Err}
 use Rattle.pulsar_run.specs.Laws.{In, InThisStep}
 use Rattle.pulsar_wire.specs.declared.error.ConnectionError.{ConnectionError}
 use Rattle.pulsar_wire.specs.Failures.{fault}

@@ -14,3 +14,4 @@ pub mod AgainLaws
 pub mod AlarmLaws
 pub mod WordLaws
 pub mod ToldLaws
+pub mod MultiLaws

@@ -74,13 +74,13 @@ made_last m (Then (Answers who verdict) ∷ log) = last_made (made_for m who ver
 made_last m (_ ∷ log) = made_last m log
 
 -- all that was done to it since, newest first
-abbrev pub behind : Option MadeAs → List Act → List Act
-behind None acts = acts
-behind (Some m) acts = []
+abbrev pub anew : {A : Type 0} → Option MadeAs → List A → List A
+anew None before = before
+anew (Some m) before = []
 
 abbrev pub done_to : Options → Multi → List Entry → List Act
 done_to o m [] = []
-done_to o m (Then (Answers who verdict) ∷ log) = behind (made_for m who verdict.makes) (done_to o m log)
+done_to o m (Then (Answers who verdict) ∷ log) = anew (made_for m who verdict.makes) (done_to o m log)
 done_to o m (Then (Does who (OfMulti k ask)) ∷ log) =
     (if is_same_multi m k then (multi_asked_of (view o log) who k ask).acts else []) ++ done_to o m log
 done_to o m (_ ∷ log) = done_to o m log
@@ -93,43 +93,32 @@ MultisAlone = (o : Options) (log : List Entry) (m : Multi) (s : Seen) → multi_
 
 -- FIRST COME, FIRST SERVED
 
--- those who wanted its turn, in the order in which they came
+-- those who wanted its turn since it was made, in the order in which they came
 abbrev pub wanted : Multi → List Entry → List Taker
 wanted m [] = []
+wanted m (Then (Answers who verdict) ∷ log) = anew (made_for m who verdict.makes) (wanted m log)
 wanted m (Then (Does who (OfMulti k TakeTurn)) ∷ log) = wanted m log ++ (if is_same_multi m k then option_to_list (taker_of who) else [])
 wanted m (_ ∷ log) = wanted m log
 
--- those who have had it: one had it at once, where nobody had it, or it was passed on to it
+-- and those who have had it: one had it at once, where nobody had it, or it was passed on to it
 abbrev pub at_once_if : Option Seen → Option Taker → List Taker
 at_once_if None t = []
 at_once_if (Some s) t = if is_free s then option_to_list t else []
 
 abbrev pub served : Options → Multi → List Entry → List Taker
 served o m [] = []
+served o m (Then (Answers who verdict) ∷ log) = anew (made_for m who verdict.makes) (served o m log)
 served o m (Then (Does who (OfMulti k TakeTurn)) ∷ log) =
     served o m log ++ (if is_same_multi m k then at_once_if (multi_at (view o log) m) (taker_of who) else [])
 served o m (Then (Does who (OfMulti k PassTurn)) ∷ log) =
     served o m log ++ (if is_same_multi m k then option_to_list (next_on (multi_at (view o log) m)) else [])
 served o m (_ ∷ log) = served o m log
 
-abbrev pub in_line : Option Seen → List Taker
-in_line None = []
-in_line (Some s) = s.waiting
-
--- A send through the client's own producer of many topics is served first, come first: those who have had their turn, and behind them those who wait
--- for it, are those who wanted it, in the order in which they came.
-abbrev pub OwnFirstComeFirstServed : Type 0
-OwnFirstComeFirstServed = (o : Options) (log : List Entry) → served o Own log ++ in_line (multi_at (view o log) Own) ≡ wanted Own log
-
--- And so through one that was made, once it is.
-abbrev pub since_made : Multi → List Entry → List Entry
-since_made m [] = []
-since_made m (Then (Answers who verdict) ∷ log) = if_made (made_for m who verdict.makes) (Then (Answers who verdict)) (since_made m log)
-since_made m (e ∷ log) = e ∷ since_made m log
-
-abbrev pub if_made : Option MadeAs → Entry → List Entry → List Entry
-if_made None e log = e ∷ log
-if_made (Some m) e log = []
+-- A send through a producer of many topics is served first come, first served: those who have had its turn, and behind them those who wait for it, are
+-- those who wanted it since it was made, in the order in which they came.
+abbrev pub FirstComeFirstServed : Type 0
+FirstComeFirstServed = (o : Options) (log : List Entry) (m : Multi) (s : Seen) → multi_at (view o log) m ≡ Some s →
+    served o m log ++ s.waiting ≡ wanted m log
 
 -- BUILT AT THE FIRST SEND
 

@@ -54,7 +54,7 @@ module _ {Z : Type 0} where
   put_is k v (e ∷ es) =
       put_by k v (slice_cmp nat_cmp (string_bytes k) (string_bytes e.0)) e es _
       ∙ ap (λ more. match_ordering (slice_cmp nat_cmp (string_bytes k) (string_bytes e.0)) ((string_bytes k, v) ∷ named e ∷ map named es)
-          ((string_bytes e.0, v) ∷ map named es) (named e ∷ more)) (put_is k v es)
+      ((string_bytes e.0, v) ∷ map named es) (named e ∷ more)) (put_is k v es)
 
   -- the producer that is found has routed a message
   pub routed_is : (t : List ℕ) (m : ProducerMessageValues) (w p : producer.Seen) (es : Kept Z) → lookup (at_text t) es ≡ Some p → w ≡ producer.after m p

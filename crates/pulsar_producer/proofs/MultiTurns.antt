@@ -59,7 +59,7 @@ first_come_first_served name o (Takes t ∷ h) =
 first_come_first_served name o (Passes ∷ h) =
     let v = seen name o h in
     goes_on (served name o h) (option_to_list (first_of v.waiting)) v.waiting (rest_of v.waiting) (takers h) (line_passes v.waiting)
-        (first_come_first_served name o h)
+    (first_come_first_served name o h)
 first_come_first_served name o (Hands topic m ∷ h) =
     let v = seen name o h in goes_on (served name o h) [] v.waiting v.waiting (takers h) refl (first_come_first_served name o h)
 first_come_first_served name o (Joins topic p ∷ h) =

@@ -120,10 +120,15 @@ fn removes(alloc: Global) -> Result<bool, Fail> {
     };
     let step = closing::told(alloc, closing, MultiNews::Said(MultiSaid::HasTurn))?;
     match step {
-        Transition::Stays(_, MultiDeed::Asks(MultiAsk::Remove(topic))) => {
-            Ok(topic.as_str() == "t")
-        }
-        _ => Ok(false),
+        Transition::Stays(_, deed) => Ok(is_removal(deed)),
+        Transition::Gives(_) => Ok(false),
+    }
+}
+
+fn is_removal(deed: MultiDeed) -> bool {
+    match deed {
+        MultiDeed::Asks(MultiAsk::Remove(topic)) => topic.as_str() == "t",
+        _ => false,
     }
 }
 

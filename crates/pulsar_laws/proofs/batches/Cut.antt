@@ -8,6 +8,7 @@ use Rattle.pulsar_messages.specs.Content.{ProducerMessageValues}
 use Rattle.pulsar_messages.specs.Claims.{is_spent}
 use Rattle.pulsar_outgoing.specs.Batch.{entry_of, entry_with}
 use Rattle.pulsar_outgoing.specs.Storage.{Flush, Item, SingleMessage, bytes_of, ends_in_flush, entry_size, is_nothing, is_ready, pushed, reaches}
+use Rattle.pulsar_outgoing.specs.declared.multi_topic.Taker.{Taker}
 use Rattle.pulsar_outgoing.specs.declared.storage.Limits.{Limits}
 use Rattle.pulsar_producer.proofs.Cutting.{batches_in_order, cut_in_time, items_in_order}
 use Rattle.pulsar_producer.proofs.Storages.{limits_stay}
@@ -91,7 +92,7 @@ stores_none x v k = cond_so NoneWaits (is_ready (pushed x v.storage)) _ _ (λ h.
 after_none : (d : topic.Act) (v : topic.Seen) → NoneWaits v → NoneWaits (topic.after d v)
 after_none (topic.Takes t) v k = by v.holder
   where
-    by : (r : Option ℕ) → NoneWaits (takes_in r t v)
+    by : (r : Option Taker) → NoneWaits (takes_in r t v)
     by None = k
     by (Some other) = k
 after_none topic.Draws v k = cond_so NoneWaits (is_spent v.next) _ _ k k

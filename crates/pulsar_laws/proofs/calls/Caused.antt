@@ -456,6 +456,7 @@ module _ (o : Options) (who : Who) (u : Outcome) (older : List Entry) where
   built_caused w verdict makes.Client e h = absurd h
   built_caused w verdict (makes.RawConsumer l made) e h = absurd h
   built_caused w verdict (makes.Producer b) e h = absurd h
+  built_caused w verdict (makes.MultiProducer name settings) e h = absurd h
 
   heard_caused : (l : ℕ) → In it (heard_on v l) → Cause o who u (Then (Comes (ToLink l Reads))) older
   heard_caused l h =

@@ -188,6 +188,7 @@ module _ (o : Options) (log : List Entry) (k : IsTicketed o log) where
   from_makes t makes.Nothing m is_due e = absurd cc
   from_makes t makes.Client m is_due e = absurd cc
   from_makes t (makes.Producer made) m is_due e = absurd cc
+  from_makes t (makes.MultiProducer name settings) m is_due e = absurd cc
 
   next_consumers : (a : Act) → IsDue drawn a → (t : ℕ) (m : Member) → (consumers_after (view o log) a).rows t ≡ Some m → Has (drawn_after a drawn) (Call t)
   next_consumers a is_due t m h =

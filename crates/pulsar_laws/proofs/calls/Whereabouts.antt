@@ -287,6 +287,7 @@ module _ (me : Who) where
   joins_seeks live key makes.Nothing m e = absurd cc
   joins_seeks live key makes.Client m e = absurd cc
   joins_seeks live key (makes.Producer b) m e = absurd cc
+  joins_seeks live key (makes.MultiProducer name settings) m e = absurd cc
 
   deed_seeks : (v : View) (a : Act) (u : ℕ) (d : Deed) → CameFrom v u a d → NoFind a → (m : Member) → Away m.seekers → Away (member_by d m).seekers
   deed_seeks v a u (Arrives l x) c idle m h = hears_seeks l x m h

@@ -206,6 +206,7 @@ module _ (o : Options) (log : List Entry) (t : ℕ) where
       by makes.Nothing made e = old e
       by makes.Client made e = old e
       by (makes.Producer b) made e = old e
+      by (makes.MultiProducer name settings) made e = old e
 
 -- WHATEVER IS DONE
 

@@ -111,6 +111,7 @@ module _ (t : ℕ) where
   made_has who makes.Nothing cs h = h
   made_has who makes.Client cs h = h
   made_has who (makes.Producer b) cs h = h
+  made_has who (makes.MultiProducer name settings) cs h = h
 
   after_has : (v : View) (a : Act) → Has' v.consumers → Has' (consumers_after v a)
   after_has v (Comes (Calls asked advice)) h =
@@ -144,6 +145,7 @@ module _ (t : ℕ) where
   made_new live who makes.Nothing n cs h = inl h
   made_new live who makes.Client n cs h = inl h
   made_new live who (makes.Producer b) n cs h = inl h
+  made_new live who (makes.MultiProducer name settings) n cs h = inl h
 
   other_has : (v : View) (a : Act) → ((who : Who) (verdict : Verdict) → a ≡ Answers who verdict → is_same (Call t) who ≡ false) →
       ((m : Member) → v.consumers.rows t ≡ Some m → Has' v.consumers) → (n : Member) → (consumers_after v a).rows t ≡ Some n → Has' (consumers_after v a)
@@ -428,6 +430,7 @@ made_due_so v t who verdict n none is h =
     by makes.Nothing made e = old e
     by makes.Client made e = old e
     by (makes.Producer b) made e = old e
+    by (makes.MultiProducer name settings) made e = old e
 
 pub built_due : (v : View) (t : ℕ) (verdict : Verdict) (j : Joining) (n : Member) → verdict.makes ≡ makes.Consumer j →
     (consumers_after v (Answers (Call t) verdict)).rows t ≡ Some n → is_due n.seen ≡ true →

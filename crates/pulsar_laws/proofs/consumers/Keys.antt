@@ -37,6 +37,7 @@ built_key who (makes.RawConsumer l made) cs = same_least (listed_key who cs)
 built_key who makes.Nothing cs = same_least refl
 built_key who makes.Client cs = same_least refl
 built_key who (makes.Producer b) cs = same_least refl
+built_key who (makes.MultiProducer name settings) cs = same_least refl
 
 -- it never falls
 key_on : (v : View) (a : Act) → next v ≤ (consumers_after v a).next_key
@@ -77,6 +78,7 @@ made_new key (makes.RawConsumer l m) s e = let k = some_is e in inl (sym (ap (λ
 made_new key makes.Nothing s e = absurd (none_some e)
 made_new key makes.Client s e = absurd (none_some e)
 made_new key (makes.Producer b) s e = absurd (none_some e)
+made_new key (makes.MultiProducer name settings) s e = absurd (none_some e)
 
 module _ (o : Options) where
   begun_next : (e : Heard) (log : List Entry) → next (view o (Begins e ∷ log)) ≡ next (view o log)

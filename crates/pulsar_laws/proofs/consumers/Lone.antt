@@ -238,6 +238,7 @@ module _ (o : Options) (log : List Entry) (t : ℕ) where
       made_by makes.Nothing f = IsNone none (rows_are makes.Nothing f ∙ none)
       made_by makes.Client f = IsNone none (rows_are makes.Client f ∙ none)
       made_by (makes.Producer b) f = IsNone none (rows_are (makes.Producer b) f ∙ none)
+      made_by (makes.MultiProducer name settings) f = IsNone none (rows_are (makes.MultiProducer name settings) f ∙ none)
 
   with_other : (a : Act) → IsOther t a → made_with o t (Then a ∷ log) ≡ made_with o t log
   with_other (Answers who verdict) other = ap (λ b. cond b (made_as v.consumers.next_key verdict.makes) (made_with o t log)) (other who verdict refl)
@@ -272,6 +273,7 @@ made_plain o t (Then (Answers who verdict) ∷ log) s how = by (is_same (Call t)
     made key (makes.Consumer j) e = sym (ap (λ (x : Setup). x.config.dead_letter_policy) (some_is e))
     made key (makes.RawConsumer l m) e = sym (ap (λ (x : Setup). x.config.dead_letter_policy) (some_is e))
     made key (makes.Producer b) e = absurd (none_some e)
+    made key (makes.MultiProducer name settings) e = absurd (none_some e)
 
     by : (b : Bool) → (made_with o t log ≡ Some s → s.config.dead_letter_policy ≡ None) →
         cond b (made_as (view o log).consumers.next_key verdict.makes) (made_with o t log) ≡ Some s → s.config.dead_letter_policy ≡ None

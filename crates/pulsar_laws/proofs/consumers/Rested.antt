@@ -11,16 +11,14 @@ use Rattle.pulsar_calls.specs.declared.act.Word.TheVariants as word
 use Rattle.pulsar_calls.specs.declared.content.Joining.{Joining}
 use Rattle.pulsar_client.proofs.Raising.{IsRaised, raises}
 use Rattle.pulsar_consumer_table.specs.Consumers.{is_ended_at}
-use Rattle.pulsar_outgoing.specs.Storage.{is_batching}
 use Rattle.pulsar_plans.specs.declared.service.Service.TheVariants as service
 use Rattle.pulsar_consumer_table.specs.Asks.{revived_said}
 use Rattle.pulsar_acts.specs.Reading.{serves}
-use Rattle.pulsar_acts.specs.Rules.{batches_from}
 use Rattle.pulsar_laws.proofs.Cases.{none_some, some_is}
 use Rattle.pulsar_laws.proofs.calls.Same.{same_self}
 use Rattle.pulsar_plans.proofs.Arcs.{Arc, lives_rests, no_flow_rests, recalled_revives, resumed_revives, serving_rests, told_arc}
 use Rattle.pulsar_laws.proofs.plans.Batchers.{batcher_stands}
-use Rattle.pulsar_laws.proofs.plans.Left.{from_each}
+use Rattle.pulsar_laws.proofs.plans.Left.{for_each}
 use Rattle.pulsar_laws.proofs.plans.Owned.{batcher_told, batches_begun, starts_own}
 use Rattle.pulsar_laws.proofs.plans.Servers.{server_gives, server_stands, serve_goes_on}
 use Rattle.pulsar_laws.proofs.plans.Standing.{moves, run_older, stands_so}
@@ -168,8 +166,8 @@ OneService xs = Each NoService xs ⊎ ((x : Act) × (xs ≡ x ∷ []))
 left_one : (ways : Option Ways) (maker : Who) (m : Makes) → OneService (left_with ways maker m)
 left_one None maker (makes.Consumer j) = inl tt
 left_one (Some w) maker (makes.Consumer j) = inr (serves maker j w, refl)
-left_one ways maker (makes.Producer b) =
-    inl (each_either NoService (is_batching b.settings) (batches_from ways b) [] (from_each NoService ways b (λ w e k. refl)) tt)
+left_one ways maker (makes.Producer b) = inl (for_each NoService ways b.settings b.parts (λ w e k. refl))
+left_one ways maker (makes.MultiProducer name settings) = inl tt
 left_one ways maker makes.Nothing = inl tt
 left_one ways maker makes.Client = inl tt
 left_one ways maker (makes.RawConsumer l made) = inl tt
@@ -262,10 +260,10 @@ left_is : (ways : Option Ways) (maker : Who) (m : Makes) (n t : ℕ) (p : Proced
 left_is None maker (makes.Consumer j) n t p e = absurd cc
 left_is (Some w) maker (makes.Consumer j) n t p e = (j, refl, (let f : j.number ≡ n = cc in f), (let g : ticket_of maker ≡ t = cc in g))
 left_is ways maker (makes.Producer b) n t p e =
-    let none : Each NoService (left_with ways maker (makes.Producer b)) =
-    each_either NoService (is_batching b.settings) (batches_from ways b) [] (from_each NoService ways b (λ w x k. refl)) tt in
+    let none : Each NoService (left_with ways maker (makes.Producer b)) = for_each NoService ways b.settings b.parts (λ w x k. refl) in
     let f : true ≡ false = (subst (Each NoService) e none).0 in
     absurd cc
+left_is ways maker (makes.MultiProducer name settings) n t p e = absurd cc
 left_is ways maker makes.Nothing n t p e = absurd cc
 left_is ways maker makes.Client n t p e = absurd cc
 left_is ways maker (makes.RawConsumer l made) n t p e = absurd cc

@@ -309,6 +309,7 @@ made_link live key (makes.RawConsumer k made) s l how did raw alive =
 made_link live key makes.Nothing s l how did raw alive = absurd (none_some how)
 made_link live key makes.Client s l how did raw alive = absurd (none_some how)
 made_link live key (makes.Producer b) s l how did raw alive = absurd (none_some how)
+made_link live key (makes.MultiProducer name settings) s l how did raw alive = absurd (none_some how)
 
 module _ (o : Options) (log : List Entry) (t : ℕ) where
   -- only the verdict of its call makes it

@@ -7,20 +7,32 @@ use Rattle.pulsar_outgoing.specs.Storage.{is_batching}
 use Rattle.pulsar_calls.specs.declared.act.Makes.TheVariants.{Consumer, Producer}
 use Rattle.pulsar_calls.specs.declared.act.Procedure.TheVariants as procedure
 use Rattle.pulsar_calls.specs.declared.act.Who.TheVariants as who
-use Rattle.pulsar_calls.specs.declared.content.BuiltProducer.{BuiltProducer}
+use Rattle.pulsar_messages.specs.Content.{ProducerOptionsValues}
+use Rattle.pulsar_outgoing.specs.declared.multi_topic.Joining.{Joining as MultiJoining}
 use Rattle.pulsar_calls.specs.declared.content.Joining.{Joining}
 use Rattle.pulsar_acts.specs.Reading.{serves_by}
-use Rattle.pulsar_acts.specs.Rules.{batches_by, batches_from}
+use Rattle.pulsar_acts.specs.Rules.{batches_by, batches_for, batches_from, batches_joined}
 
 parts_each : (P : Act → Type 0) (w : Ways) (block : Bool) (bs : List Built) →
     ((e : Errand) → P (Starts (who.Producer e.producer) (procedure.Batch w e))) → Each P (map (batches_by w block) bs)
 parts_each P w block [] h = tt
 parts_each P w block (b ∷ bs) h = (h (record { producer = b.number; block = block }), parts_each P w block bs h)
 
-pub from_each : (P : Act → Type 0) (ways : Option Ways) (b : BuiltProducer) →
-    ((w : Ways) (e : Errand) → ways ≡ Some w → P (Starts (who.Producer e.producer) (procedure.Batch w e))) → Each P (batches_from ways b)
-from_each P None b h = tt
-from_each P (Some w) b h = parts_each P w b.settings.block_queue_if_full b.parts (λ e. h w e refl)
+from_each : (P : Act → Type 0) (ways : Option Ways) (block : Bool) (bs : List Built) →
+    ((w : Ways) (e : Errand) → ways ≡ Some w → P (Starts (who.Producer e.producer) (procedure.Batch w e))) → Each P (batches_from ways block bs)
+from_each P None block bs h = tt
+from_each P (Some w) block bs h = parts_each P w block bs (λ e. h w e refl)
+
+pub for_each : (P : Act → Type 0) (ways : Option Ways) (settings : ProducerOptionsValues) (bs : List Built) →
+    ((w : Ways) (e : Errand) → ways ≡ Some w → P (Starts (who.Producer e.producer) (procedure.Batch w e))) → Each P (batches_for ways settings bs)
+for_each P ways settings bs h =
+    each_either P (is_batching settings) (batches_from ways settings.block_queue_if_full bs) [] (from_each P ways settings.block_queue_if_full bs h) tt
+
+-- and so of those that join for a producer of many topics
+pub joined_each : (P : Act → Type 0) (ways : Option Ways) (j : Option MultiJoining) →
+    ((w : Ways) (e : Errand) → ways ≡ Some w → P (Starts (who.Producer e.producer) (procedure.Batch w e))) → Each P (batches_joined ways j)
+joined_each P ways None h = tt
+joined_each P ways (Some j) h = for_each P ways j.settings j.parts h
 
 served_each : (P : Act → Type 0) (ways : Option Ways) (maker : Who) (j : Joining) →
     ((w : Ways) (n t : ℕ) → ways ≡ Some w → P (Starts (who.Consumer n t) (procedure.Serve w n))) → Each P (serves_by ways maker j)
@@ -31,6 +43,6 @@ served_each P (Some w) maker j h = (h w j.number (ticket_of maker) refl, tt)
 pub left_each : (P : Act → Type 0) (ways : Option Ways) (maker : Who) (makes : Makes) →
     ((w : Ways) (e : Errand) → ways ≡ Some w → P (Starts (who.Producer e.producer) (procedure.Batch w e))) →
     ((w : Ways) (n t : ℕ) → ways ≡ Some w → P (Starts (who.Consumer n t) (procedure.Serve w n))) → Each P (left_with ways maker makes)
-left_each P ways maker (Producer b) h k = each_either P (is_batching b.settings) (batches_from ways b) [] (from_each P ways b h) tt
+left_each P ways maker (Producer b) h k = for_each P ways b.settings b.parts h
 left_each P ways maker (Consumer j) h k = served_each P ways maker j k
 left_each P ways maker _ h k = tt

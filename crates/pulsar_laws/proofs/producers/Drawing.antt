@@ -1,10 +1,10 @@
--- Each number of a topic producer was drawn by the call that built it, and by no other; and that call has ended.
+-- Each number of a topic producer was drawn by the call that built it, and by no other; and as it joined there was none of that number.
 use Rattle.std.proofs.Common.{◌≡◌, ◌⊎◌, inl, inr, ◌∙◌, sym, ap, subst, ℕ, ◌+◌, ◌-◌, ◌^◌, ◌<◌, ◌≤◌, ◌==◌, arith, List, [], ◌∷◌, ◌++◌, refl, map, Bool, true, false, ◌&&◌, nat_lt, cond, Option, Some, None}
 use Rattle.std.proofs.lemmas.Bool.{cases_Bool, eqb-true}
 use Rattle.std.proofs.lemmas.Bool.Decides.{nat_tests}
 use Rattle.std.specs.Option.{is_some}
-use Rattle.pulsar_laws.proofs.ActWords.{Act, Action, Answers, Asked, Call, Calls, Comes, Does, Heard, Makes, Nothing, Notice, Number, Outcome, Procedure, Starts, Told, Verdict, Who, is_same, lacks_tickets, shares}
-use Rattle.pulsar_laws.proofs.PlanWords.{Asking, Awaiting, begins, Built, fails, Gives, Plan, PlanTransition, Producing, Stays, told}
+use Rattle.pulsar_laws.proofs.ActWords.{Act, Action, Answers, Asked, Call, Calls, Comes, Does, Heard, Makes, Nothing, Notice, Number, OfMulti, Outcome, Procedure, Starts, ticket_of, Told, Verdict, Who, is_same, lacks_tickets, shares}
+use Rattle.pulsar_laws.proofs.PlanWords.{action_of, Asking, Awaiting, begins, Built, Deed as Doing, fails, Gives, MultiSending, Plan, PlanTransition, Producing, Stays, told, Ways}
 use Rattle.pulsar_laws.proofs.RunWords.{Answered, Begins, begun_same, counted, each_map, Entry, In, IsRun, may_call, notice, Options, producers_listed, started, stays, stays_some, Then, told_some, view, View, rules}
 use Rattle.pulsar_laws.proofs.LinkWords.{Exhausted}
 use Rattle.pulsar_messages.specs.Content.{ProducerMessageValues}
@@ -20,27 +20,39 @@ use Rattle.pulsar_acts.specs.View.{producers_left}
 use Rattle.pulsar_calls.specs.declared.act.Outcome.TheVariants as outcome
 use Rattle.pulsar_calls.specs.declared.act.Who.TheVariants as one
 use Rattle.pulsar_calls.specs.declared.content.BuiltProducer.{BuiltProducer}
+use Rattle.pulsar_producer_table.specs.declared.table.Owner.{Owner}
 use Rattle.pulsar_producer_table.specs.declared.table.Topic.{Topic}
+use Rattle.pulsar_producer_table.specs.MultiAsks.{joined_by}
+use Rattle.pulsar_producer.specs.MultiTopic as multi
+use Rattle.pulsar_producer.specs.declared.deed.Deed.TheVariants as deed
+use Rattle.pulsar_producer.specs.declared.multi_topic.deed.MultiDeed.{MultiDeed}
+use Rattle.pulsar_producer.specs.declared.multi_topic.deed.MultiNews.{MultiNews}
+use Rattle.pulsar_producer.specs.declared.multi_topic.sending.MultiSending.{MultiSending as MultiSend}
+use Rattle.pulsar_searches.specs.declared.turn.Action.TheVariants as wish
+use Rattle.pulsar_outgoing.specs.declared.multi_topic.Joining.{Joining}
+use Rattle.pulsar_outgoing.specs.declared.multi_topic.Multi.{Multi}
+use Rattle.pulsar_outgoing.specs.declared.multi_topic.MultiAsk.{MultiAsk}
+use Rattle.pulsar_outgoing.specs.declared.multi_topic.MultiAsk.TheVariants.{Join}
+use Rattle.pulsar_plans.specs.Plan.{multi_action_of}
+use Rattle.pulsar_plans.proofs.Arcs.{Arc, Begun, batches_go, begins_multi_send, begun_arc, builds_on, multi_closes_on, multi_goes, part_sends, sends, told_arc}
+use Rattle.pulsar_plans.proofs.MultiArcs.{MultiSendArc, absent_builds, multi_builds, multi_rests}
+use Rattle.pulsar_laws.proofs.Cases.{none_some, some_is}
 use Rattle.pulsar_calls.specs.Content as content
 pub use Rattle.pulsar_laws.proofs.plans.Standing.{began_on}
-use Rattle.pulsar_laws.specs.Laws.{end_of}
-use Rattle.pulsar_producer_table.specs.Producers.{Producers, all_routed, called_on, free_from, made_of, names_in, next_free, number_drawn, numbered, opened_on, routed, sent_on, topic_after, why_not, with_built, topic_in, last_of, fresh_topic}
+use Rattle.pulsar_producer_table.specs.Producers.{Producers, all_routed, called_on, free_from, made_of, names_in, next_free, number_drawn, numbered, of_call, of_multi, opened_on, routed, sent_on, topic_after, why_not, with_built, topic_in, last_of, fresh_topic}
 use Rattle.pulsar_acts.specs.View as seen
 use Rattle.pulsar_calls.specs.Who.{rank}
 use Rattle.pulsar_laws.proofs.plans.Batchers.{batcher_stands}
 use Rattle.pulsar_laws.proofs.plans.Follow.{same_is}
-use Rattle.pulsar_laws.proofs.plans.Granted.{GivenBy, granted_by, grants_given, in_each, is_grant}
+use Rattle.pulsar_laws.proofs.plans.Granted.{BeginsSo, GivenBy, IsLedSo, does_from, granted_by, grants_given, in_each, is_grant}
 use Rattle.pulsar_laws.proofs.plans.Led.{deeds_follow_lem}
-use Rattle.pulsar_laws.proofs.producers.Numbering.{IsSound, MakesSound, TurnSound, begins_sound, drawn_in, number_of, told_sound}
-use Rattle.pulsar_laws.proofs.calls.Once.{ends_once_lem}
+use Rattle.pulsar_laws.proofs.producers.Numbering.{IsSound, JoinSound, MakesSound, TurnSound, begins_sound, drawn_in, multi_drawn, number_of, told_sound}
 use Rattle.pulsar_laws.proofs.plans.Owned.{batcher_told, batches_begun, starts_own}
-use Rattle.pulsar_laws.proofs.calls.Ticketed.{Began}
-use Rattle.pulsar_laws.proofs.calls.Begun.{has_begun}
 use Rattle.pulsar_laws.proofs.calls.Same.{same_self}
 use Rattle.pulsar_laws.proofs.plans.Servers.{server_gives, server_stands, serve_goes_on}
-use Rattle.pulsar_run.specs.Things.{along, Keeps}
+use Rattle.pulsar_run.specs.Things.{along, Keeps, row_after, row_by}
 use Rattle.pulsar_run.proofs.Things.{came, WasIn, IsNewIn}
-use Rattle.pulsar_acts.specs.View.{topic_born, topic_of, building_of}
+use Rattle.pulsar_acts.specs.View.{topic_born, topic_joined, topic_of, building_of, multi_at, with_numbers}
 use Rattle.pulsar_laws.specs.ProducerLaws.{topic_acts}
 use Rattle.pulsar_acts.specs.Things.{topics}
 
@@ -85,14 +97,14 @@ called_kept v asked advice =
     (either_kept (may_call v.calls) v.producers.next (opened_on asked v.producers) v.producers (opened_kept asked v.producers) refl)
 
 -- several topic producers join: one that is there is new, or was there
-pub record IsNew (owner first_number : ℕ) (limits : Limits) (n : ℕ) (bs : List Built) (t : Topic) : Type 0 where
+pub record IsNew (owner : Owner) (first_number : ℕ) (limits : Limits) (n : ℕ) (bs : List Built) (t : Topic) : Type 0 where
   pub built : Built
   pub is_in : In built bs
   pub listed : In n (map number_of bs)
   pub number : built.number ≡ n
   pub is_it : record { owner = owner; seen = fresh (record { built = built; first_number = first_number; limits = limits }) } ≡ t
 
-new_row : (owner f : ℕ) (limits : Limits) (n : ℕ) (bs : List Built) (t : Topic) → topic_in owner f limits bs n ≡ Some t → IsNew owner f limits n bs t
+new_row : (owner : Owner) (f : ℕ) (limits : Limits) (n : ℕ) (bs : List Built) (t : Topic) → topic_in owner f limits bs n ≡ Some t → IsNew owner f limits n bs t
 new_row owner f limits n [] t h = absurd cc
 new_row owner f limits n (b ∷ bs) t h = by (topic_in owner f limits bs n) refl (λ e. new_row owner f limits n bs t e) h
   where
@@ -122,19 +134,29 @@ same_owner : (es : List Deed) (t : Topic) → (along topic_after es t).owner ≡
 same_owner [] t = refl
 same_owner (e ∷ es) t = same_owner es t
 
--- it joins with a verdict
+-- it joins with a verdict, or for a producer of many topics
+pub data JoinsBy (a : Act) (who : Who) : Owner → Limits → List Built → Type 0 where
+  ByVerdict : (verdict : Verdict) (building : BuiltProducer) → a ≡ Answers who verdict → verdict.makes ≡ Producer building →
+      JoinsBy a who (of_call (rank who).1) (limits_of building.settings) building.parts
+  BySend : (m : Multi) (j : Joining) → a ≡ Does who (OfMulti m (Join j)) → JoinsBy a who (of_multi (ticket_of who) m) (limits_of j.settings) j.parts
+
 pub record Joins (v : View) (a : Act) (n : ℕ) (t : Topic) : Type 0 where
   pub who : Who
-  pub verdict : Verdict
-  pub building : BuiltProducer
-  pub is_act : a ≡ Answers who verdict
-  pub makes : verdict.makes ≡ Producer building
-  pub is_new : IsNew (rank who).1 v.chosen.first_number (limits_of building.settings) n building.parts t
+  pub owner : Owner
+  pub limits : Limits
+  pub parts : List Built
+  pub by : JoinsBy a who owner limits parts
+  pub is_new : IsNew owner v.chosen.first_number limits n parts t
 
 building_made : (m : Makes) (b : BuiltProducer) → building_of m ≡ Some b → m ≡ Producer b
 building_made (Producer x) b h = let e : x ≡ b = cc in ap (λ y. Producer y) e
 building_made Nothing b h = absurd cc
 building_made _ b h = absurd cc
+
+joined_of : (ask : MultiAsk) (row : Option multi.Seen) (j : Joining) → joined_by ask row ≡ Some j → ask ≡ Join j
+joined_of (Join x) (Some s) j h = let e : x ≡ j = cc in ap Join e
+joined_of (Join x) None j h = absurd cc
+joined_of _ row j h = absurd cc
 
 pub born_joins : (v : View) (a : Act) (n : ℕ) (t : Topic) → topic_born v n a ≡ Some t → Joins v a n t
 born_joins v (Answers who verdict) n t h = by (building_of verdict.makes) refl h
@@ -142,11 +164,23 @@ born_joins v (Answers who verdict) n t h = by (building_of verdict.makes) refl h
     by : (r : Option BuiltProducer) → building_of verdict.makes ≡ r → topic_of r who v.chosen n ≡ Some t → Joins v (Answers who verdict) n t
     by (Some b) e k = record {
       who = who;
-      verdict = verdict;
-      building = b;
-      is_act = refl;
-      makes = building_made verdict.makes b e;
-      is_new = new_row (rank who).1 v.chosen.first_number (limits_of b.settings) n b.parts t k;
+      owner = of_call (rank who).1;
+      limits = limits_of b.settings;
+      parts = b.parts;
+      by = ByVerdict verdict b refl (building_made verdict.makes b e);
+      is_new = new_row (of_call (rank who).1) v.chosen.first_number (limits_of b.settings) n b.parts t k;
+    }
+    by None e k = absurd cc
+born_joins v (Does who (OfMulti m ask)) n t h = by (joined_by ask (multi_at v m)) refl h
+  where
+    by : (r : Option Joining) → joined_by ask (multi_at v m) ≡ r → topic_joined r who m v.chosen n ≡ Some t → Joins v (Does who (OfMulti m ask)) n t
+    by (Some j) e k = record {
+      who = who;
+      owner = of_multi (ticket_of who) m;
+      limits = limits_of j.settings;
+      parts = j.parts;
+      by = BySend m j (ap (λ x. Does who (OfMulti m x)) (joined_of ask (multi_at v m) j e));
+      is_new = new_row (of_multi (ticket_of who) m) v.chosen.first_number (limits_of j.settings) n j.parts t k;
     }
     by None e k = absurd cc
 born_joins v a n t h = absurd cc
@@ -200,29 +234,38 @@ next_more ps =
     let e : ps.next ≤ next_free ps = free_more ps.named ps.next in
     elim (is_spent (next_free ps)) as (λ b. ps.next ≤ cond b (next_free ps) (next_free ps + 1)) [ true ↦ e | false ↦ omega (arith, e) ]
 
+numbers_next : (t : ℕ) (r : Option Joining) (ps : Producers) → (with_numbers t r ps).next ≡ ps.next
+numbers_next t None ps = refl
+numbers_next t (Some j) ps = refl
+
 pub next_after : (v : View) (a : Act) → v.producers.next ≤ (seen.after a v).producers.next
 next_after v (Comes (Calls asked advice)) = let e = called_kept v asked advice in rw e (omega arith)
 next_after v (Does who Number) = next_more v.producers
 next_after v (Answers who verdict) =
     let e = left_next who (producers_listed v.chosen who verdict.makes v.producers) ∙ made_next v who verdict.makes in rw e (omega arith)
+next_after v (Does who (OfMulti m ask)) = let e = numbers_next (ticket_of who) (joined_by ask (multi_at v m)) v.producers in rw e (omega arith)
 next_after v _ = omega arith
 
 -- ALONG A LOG
 
+-- no topic producer has it
+abbrev pub IsFree : Options → List Entry → ℕ → Type 0
+IsFree o log n = (view o log).producers.topics n ≡ None
+
 pub record Drawn (o : Options) (log : List Entry) : Type 0 where
   pub below : (n : ℕ) (w : Who) → drew o n log ≡ Some w → n < (view o log).producers.next
-  pub plans : (w : Who) (p : Plan) → (view o log).stand w ≡ Some p → IsSound (λ n. drew o n log ≡ Some w) p
-  pub topics : (n : ℕ) (row : Topic) → (view o log).producers.topics n ≡ Some row →
-      (drew o n log ≡ Some (Call row.owner)) × (1 ≤ counted (end_of row.owner) log)
+  pub plans : (w : Who) (p : Plan) → (view o log).stand w ≡ Some p → IsSound (λ n. (drew o n log ≡ Some w) × IsFree o log n) p
+  pub topics : (n : ℕ) (row : Topic) → (view o log).producers.topics n ≡ Some row → (w : Who) × (drew o n log ≡ Some w)
 
 sound_map : (Q R : ℕ → Type 0) (p : Plan) → ((n : ℕ) → Q n → R n) → IsSound Q p → IsSound R p
 sound_map Q R (Producing w o b) f k = each_map Q R (drawn_in b) f k
+sound_map Q R (MultiSending w m share s) f k = each_map Q R (multi_drawn s) f k
 sound_map Q R (Asking w) f k = k
 sound_map Q R (Awaiting w) f k = k
 sound_map Q R _ f k = tt
 
 stays_sound : (Q : ℕ → Type 0) (t : PlanTransition) (p : Plan) → TurnSound Q t → stays t ≡ Some p → IsSound Q p
-stays_sound Q (Stays q action) p k h = subst (IsSound Q) (let e : q ≡ p = cc in e) k
+stays_sound Q (Stays q action) p k h = subst (IsSound Q) (let e : q ≡ p = cc in e) k.0
 stays_sound Q (Gives verdict) p k h = absurd cc
 
 -- where one is told a number, it has just drawn it
@@ -244,13 +287,53 @@ told_number o log n m run e =
     subst (λ l. drew o m l ≡ Some n.who) (sym k.is_there)
     (subst (λ (x : Action). drew o m (Then (Does n.who x) ∷ k.older) ≡ Some n.who) (sym a.0) (drew_self o k.older n.who m a.1))
 
-module _ (o : Options) (log : List Entry) (k : Drawn o log) where
+above_next : (ps : Producers) (m : ℕ) → number_drawn ps ≡ Some m → ps.next ≤ m
+above_next ps m e = elim (cases_Bool (is_spent (next_free ps))) [
+  | inl s ↦ (let f : None ≡ Some m = rw s at e in absurd cc)
+  | inr s ↦
+      (let f : Some (next_free ps) ≡ Some m = rw s at e in
+      let same : next_free ps ≡ m = cc in
+      let lt : ps.next ≤ next_free ps = free_more ps.named ps.next in
+      omega (arith, lt, same))
+]
+
+-- the next number is that of no topic producer
+free_number : (o : Options) (log : List Entry) → Drawn o log → (m : ℕ) → number_drawn (view o log).producers ≡ Some m → IsFree o log m
+free_number o log k m e = by ((view o log).producers.topics m) refl
+  where
+    by : (r : Option Topic) → (view o log).producers.topics m ≡ r → r ≡ None
+    by None h = refl
+    by (Some row) h =
+        let own = k.topics m row h in
+        let a : m < (view o log).producers.next = k.below m own.0 own.1 in
+        let b : (view o log).producers.next ≤ m = above_next (view o log).producers m e in
+        absurd (omega (arith, a, b))
+
+-- one that is told a number has drawn it, and no topic producer has it
+told_free : (o : Options) (log : List Entry) (n : Notice) (m : ℕ) → Every (Drawn o) log → IsRun o (Then (Told n) ∷ log) →
+    n.outcome ≡ outcome.Granted (news.Numbered m) → (drew o m log ≡ Some n.who) × IsFree o log m
+told_free o log n m d run e =
+    let k = granted_by o log n (ap is_grant e) run in
+    let g : GivenBy (view o k.older) k.action (news.Numbered m) = grants_given o log n k (news.Numbered m) e in
+    let a = number_by (view o k.older) k.action m g in
+    let past : Every (Drawn o) (Then (Does n.who k.action) ∷ k.older) = subst (Every (Drawn o)) k.is_there d in
+    subst (λ l. (drew o m l ≡ Some n.who) × IsFree o l m) (sym k.is_there)
+    (subst (λ (x : Action). (drew o m (Then (Does n.who x) ∷ k.older) ≡ Some n.who) × IsFree o (Then (Does n.who x) ∷ k.older) m) (sym a.0)
+    (drew_self o k.older n.who m a.1, free_number o k.older (here (Drawn o) k.older past.1) m a.1))
+
+module _ (o : Options) (log : List Entry) (d : Every (Drawn o) log) where
+  k : Drawn o log
+  k = here (Drawn o) log d
+
   abbrev Owns : Who → ℕ → Type 0
   Owns w n = drew o n log ≡ Some w
 
+  abbrev Holds : Who → ℕ → Type 0
+  Holds w n = Owns w n × IsFree o log n
+
   -- what one is told
-  pub told_drawn : (n : Notice) → IsRun o (Then (Told n) ∷ log) → (p : Plan) → (view o log).stand n.who ≡ Some p → TurnSound (Owns n.who) (told p n.outcome)
-  told_drawn n run p h = told_sound (Owns n.who) p n.outcome (k.plans n.who p h) (λ m e. told_number o log n m run e)
+  pub told_drawn : (n : Notice) → IsRun o (Then (Told n) ∷ log) → (p : Plan) → (view o log).stand n.who ≡ Some p → TurnSound (Holds n.who) (told p n.outcome)
+  told_drawn n run p h = told_sound (Holds n.who) p n.outcome (k.plans n.who p h) (λ m e. told_free o log n m d run e)
 
   -- a number that was drawn stays so
   drew_more : (a : Act) (n : ℕ) (w : Who) → Owns w n → drew o n (Then a ∷ log) ≡ Some w
@@ -259,20 +342,10 @@ module _ (o : Options) (log : List Entry) (k : Drawn o log) where
       ps : Producers
       ps = (view o log).producers
 
-      above : (m : ℕ) → number_drawn ps ≡ Some m → ps.next ≤ m
-      above m e = elim (cases_Bool (is_spent (next_free ps))) [
-        | inl s ↦ (let f : None ≡ Some m = rw s at e in absurd cc)
-        | inr s ↦
-            (let f : Some (next_free ps) ≡ Some m = rw s at e in
-            let same : next_free ps ≡ m = cc in
-            let lt : ps.next ≤ next_free ps = free_more ps.named ps.next in
-            omega (arith, lt, same))
-      ]
-
       more : (r : Option ℕ) → number_drawn ps ≡ r → drew_by r who n (drew o n log) ≡ Some w
       more None e = h
       more (Some m) e =
-          let a : ps.next ≤ m = above m e in
+          let a : ps.next ≤ m = above_next ps m e in
           let b : n < ps.next = k.below n w h in
           let d : (n == m) ≡ false = grind (arith, nat_tests) in
           ap (λ x. cond x (Some who) (drew o n log)) d ∙ h
@@ -305,15 +378,15 @@ module _ (o : Options) (log : List Entry) (k : Drawn o log) where
 
   -- the plans
   told_stays : (n : Notice) → IsRun o (Then (Told n) ∷ log) → (w : Who) → n.who ≡ w → (row : Option Plan) → (view o log).stand w ≡ row → (p : Plan) →
-      stays_some (told_some row n.outcome) ≡ Some p → IsSound (Owns w) p
+      stays_some (told_some row n.outcome) ≡ Some p → IsSound (Holds w) p
   told_stays n run w same None e p h = absurd cc
   told_stays n run w same (Some q) e p h =
-      stays_sound (Owns w) (told q n.outcome) p
-      (subst (λ x. TurnSound (Owns x) (told q n.outcome)) same (told_drawn n run q (ap (view o log).stand same ∙ e))) h
+      stays_sound (Holds w) (told q n.outcome) p
+      (subst (λ x. TurnSound (Holds x) (told q n.outcome)) same (told_drawn n run q (ap (view o log).stand same ∙ e))) h
 
-  plans_on : (a : Act) → IsRun o (Then a ∷ log) → (w : Who) (p : Plan) → (view o (Then a ∷ log)).stand w ≡ Some p → IsSound (Owns w) p
+  plans_on : (a : Act) → IsRun o (Then a ∷ log) → (w : Who) (p : Plan) → (view o (Then a ∷ log)).stand w ≡ Some p → IsSound (Holds w) p
   plans_on (Starts who q) run w p h = elim (cases_Bool (is_same w who)) [
-    | inl e ↦ stays_sound (Owns w) (begins q) p (begins_sound (Owns w) q) (rw e at h)
+    | inl e ↦ stays_sound (Holds w) (begins q) p (begins_sound (Holds w) q) (rw e at h)
     | inr e ↦ k.plans w p (rw e at h)
   ]
   plans_on (Told n) run w p h = elim (cases_Bool (is_same w n.who)) [
@@ -349,29 +422,55 @@ answers_from o log w verdict run =
       ]
     ]
 
--- what it joins was drawn by it, and by no other
-joins_own : (o : Options) (log : List Entry) → Every (Drawn o) log → (w : Who) (verdict : Verdict) → IsRun o (Then (Answers w verdict) ∷ log) →
-    MakesSound (λ n. drew o n log ≡ Some w) verdict.makes
-joins_own o log k w verdict run = elim (answers_from o log w verdict run) [
-  | inl t ↦
-      (let e : Every (Drawn o) (Then (Told (notice w t.outcome)) ∷ t.older) = subst (Every (Drawn o)) t.is_there k in
-      let r : IsRun o (Then (Told (notice w t.outcome)) ∷ t.older) = subst (IsRun o) t.is_there run.0 in
-      let s : TurnSound (λ n. drew o n t.older ≡ Some w) (told t.before t.outcome) =
-      told_drawn o t.older (here (Drawn o) t.older e.1) (notice w t.outcome) r t.before t.stood in
-      subst (λ l. MakesSound (λ n. drew o n l ≡ Some w) verdict.makes) (sym t.is_there)
-      (subst (TurnSound (λ n. drew o n t.older ≡ Some w)) t.leads s))
-  | inr m ↦ elim m [
-    | inl b ↦
-        subst (TurnSound (λ n. drew o n log ≡ Some w)) b.leads (begins_sound (λ n. drew o n log ≡ Some w) b.procedure)
-    | inr e ↦ subst (λ x. MakesSound (λ n. drew o n log ≡ Some w) x.makes) (sym e) tt
+-- What it joins was drawn by it, and by no other, and no topic producer has such a number.
+abbrev Owned : Options → List Entry → Who → ℕ → Type 0
+Owned o log w n = (drew o n log ≡ Some w) × IsFree o log n
+
+module _ (o : Options) (log : List Entry) (k : Every (Drawn o) log) (w : Who) where
+  -- as it was told this, it holds so
+  told_owned : (u : Outcome) (older : List Entry) (p : Plan) → IsRun o log → log ≡ Then (Told (notice w u)) ∷ older → (view o older).stand w ≡ Some p →
+      TurnSound (Owned o log w) (told p u)
+  told_owned u older p run there stood =
+      let e : Every (Drawn o) (Then (Told (notice w u)) ∷ older) = subst (Every (Drawn o)) there k in
+      let r : IsRun o (Then (Told (notice w u)) ∷ older) = subst (IsRun o) there run in
+      subst (λ l. TurnSound (Owned o l w) (told p u)) (sym there) (told_drawn o older e.1 (notice w u) r p stood)
+
+  joins_own : (verdict : Verdict) → IsRun o (Then (Answers w verdict) ∷ log) → MakesSound (Owned o log w) verdict.makes
+  joins_own verdict run = elim (answers_from o log w verdict run) [
+    | inl t ↦ subst (TurnSound (Owned o log w)) t.leads (told_owned t.outcome t.older t.before run.0 t.is_there t.stood)
+    | inr m ↦ elim m [
+      | inl b ↦ subst (TurnSound (Owned o log w)) b.leads (begins_sound (Owned o log w) b.procedure)
+      | inr e ↦ subst (λ x. MakesSound (Owned o log w) x.makes) (sym e) tt
+    ]
   ]
-]
+
+  sends_own : (a : Action) → IsRun o (Then (Does w a) ∷ log) → JoinSound (Owned o log w) a
+  sends_own a run = elim (does_from o log w a run) [ inl x ↦ begun x | inr x ↦ led x ]
+    where
+      begun : BeginsSo o log w a → JoinSound (Owned o log w) a
+      begun x = (subst (TurnSound (Owned o log w)) x.leads (begins_sound (Owned o log w) x.procedure)).1
+
+      led : IsLedSo o log w a → JoinSound (Owned o log w) a
+      led x = (subst (TurnSound (Owned o log w)) x.leads (told_owned x.outcome x.older x.before run.0 x.is_there x.stood)).1
 
 owned_in : (Q : ℕ → Type 0) (n : ℕ) (m : Makes) (b : BuiltProducer) → m ≡ Producer b → MakesSound Q m → In n (map number_of b.parts) → Q n
 owned_in Q n m b e k i = let s : MakesSound Q (Producer b) = subst (MakesSound Q) e k in in_each Q n (map number_of b.parts) s i
 
-self_same : (t : ℕ) → is_same (Call t) (Call t) ≡ true
-self_same t = same_self (Call t)
+-- A topic producer that joins has a number that no other has, and that it has drawn.
+pub born_owned : (o : Options) (log : List Entry) → Every (Drawn o) log → (a : Act) (n : ℕ) (t : Topic) → IsRun o (Then a ∷ log) →
+    (j : Joins (view o log) a n t) → Owned o log j.who n
+born_owned o log k a n t run j = by j.owner j.limits j.parts j.by j.is_new.listed
+  where
+    by : (owner : Owner) (limits : Limits) (parts : List Built) → JoinsBy a j.who owner limits parts → In n (map number_of parts) → Owned o log j.who n
+    by owner limits parts (ByVerdict verdict b is makes) i =
+        owned_in (Owned o log j.who) n verdict.makes b makes (joins_own o log k j.who verdict (subst (λ (x : Act). IsRun o (Then x ∷ log)) is run)) i
+    by owner limits parts (BySend m x is) i =
+        in_each (Owned o log j.who) n (map number_of x.parts)
+        (sends_own o log k j.who (OfMulti m (Join x)) (subst (λ (y : Act). IsRun o (Then y ∷ log)) is run)) i
+
+pub joins_new : (o : Options) (log : List Entry) → Every (Drawn o) log → (a : Act) (n : ℕ) (t row : Topic) → IsRun o (Then a ∷ log) →
+    Joins (view o log) a n t → (view o log).producers.topics n ≡ Some row → ⊥
+joins_new o log k a n t row run j h = none_some (sym (born_owned o log k a n t run j).1 ∙ h)
 
 -- a topic producer makes no producer
 no_producer : (o : Options) (log : List Entry) (m : ℕ) (verdict : Verdict) (b : BuiltProducer) → verdict.makes ≡ Producer b →
@@ -411,67 +510,144 @@ who_call o log (Call t) verdict b makes run = refl
 who_call o log (one.Consumer n t) verdict b makes run = absurd (no_consumer o log n t verdict b makes run)
 who_call o log (one.Producer m) verdict b makes run = absurd (no_producer o log m verdict b makes run)
 
-end_self : (w : Who) (verdict : Verdict) (t : ℕ) → w ≡ Call t → end_of t (Answers w verdict) ≡ 1
-end_self w verdict t e = ap (λ x. end_of t (Answers x verdict)) e ∙ ap (λ b. cond b 1 0) (self_same t)
+topics_on : (o : Options) (log : List Entry) → Every (Drawn o) log → (a : Act) → IsRun o (Then a ∷ log) → (n : ℕ) (row : Topic) →
+    (view o (Then a ∷ log)).producers.topics n ≡ Some row → (w : Who) × (drew o n (Then a ∷ log) ≡ Some w)
+topics_on o log k a run n row h = elim (row_from (view o log) a n row h) [
+  | inl w ↦ (let was = (here (Drawn o) log k).topics n w.row w.was in (was.0, drew_more o log k a n was.0 was.1))
+  | inr j ↦ (j.who, drew_more o log k a n j.who (born_owned o log k a n row run j).0)
+]
 
-unspent : (t : ℕ) → Began (Call t) → is_spent t ≡ false
-unspent t k = k
+-- NO OTHER JOINS BY A NUMBER THAT A PLAN HOLDS
 
-ends_began : (o : Options) (log : List Entry) (t : ℕ) (verdict : Verdict) (b : BuiltProducer) → verdict.makes ≡ Producer b →
-    IsRun o (Then (Answers (Call t) verdict) ∷ log) → is_spent t ≡ false
-ends_began o log t verdict b makes run = elim (answers_from o log (Call t) verdict run) [
-  | inl k ↦
-      (let r : IsRun o (Then (Told (notice (Call t) k.outcome)) ∷ k.older) = subst (IsRun o) k.is_there run.0 in
-      let s = began_on o k.older (Call t) k.before k.stood in
-      unspent t (has_begun o k.older (Call t) s.0 r.0 s.1))
+-- one that makes a producer has ended
+ended_stand : (o : Options) (log : List Entry) (w : Who) (verdict : Verdict) (b : BuiltProducer) → verdict.makes ≡ Producer b →
+    IsRun o (Then (Answers w verdict) ∷ log) → (view o log).stand w ≡ None
+ended_stand o log w verdict b makes run = elim (answers_from o log w verdict run) [
+  | inl t ↦
+      subst (λ l. (view o l).stand w ≡ None) (sym t.is_there)
+      (ap (λ x. cond x (stays_some (told_some ((view o t.older).stand w) t.outcome)) ((view o t.older).stand w)) (same_self w)
+      ∙ ap (λ r. stays_some (told_some r t.outcome)) t.stood
+      ∙ ap stays t.leads)
   | inr m ↦ elim m [
-    | inl k ↦
-        (let r : IsRun o (Then (Starts (Call t) k.procedure) ∷ k.older) = subst (IsRun o) k.is_there run.0 in
-        unspent t (has_begun o (Then (Starts (Call t) k.procedure) ∷ k.older) (Call t) k.procedure r
-        (ap (λ x. cond x (Some k.procedure) (started (Call t) k.older)) (self_same t))))
-    | inr e ↦ (let f : (fails Exhausted).makes ≡ Producer b = sym (ap (λ x. x.makes) e) ∙ makes in absurd cc)
+    | inl x ↦
+        subst (λ l. (view o l).stand w ≡ None) (sym x.is_there)
+        (ap (λ y. cond y (stays (begins x.procedure)) ((view o x.older).stand w)) (same_self w) ∙ ap stays x.leads)
+    | inr e ↦ (let f : (fails Exhausted).makes ≡ Producer b = sym (ap (λ y. y.makes) e) ∙ makes in absurd cc)
   ]
 ]
 
--- A topic producer that joins has a number that no other has.
-pub joins_new : (o : Options) (log : List Entry) → Every (Drawn o) log → (who : Who) (verdict : Verdict) (b : BuiltProducer) (n : ℕ) (row : Topic) →
-    verdict.makes ≡ Producer b →
-    IsRun o (Then (Answers who verdict) ∷ log) → In n (map number_of b.parts) → (view o log).producers.topics n ≡ Some row → ⊥
-joins_new o log k (Call t) verdict b n row makes run i h =
-    let own : drew o n log ≡ Some (Call t) = owned_in (λ m. drew o m log ≡ Some (Call t)) n verdict.makes b makes (joins_own o log k (Call t) verdict run) i in
-    let was = (here (Drawn o) log k).topics n row h in
-    let same : Some (Call t) ≡ Some (Call row.owner) = sym own ∙ was.0 in
-    let w : t ≡ row.owner = cc in
-    let once : counted (end_of t) (Then (Answers (Call t) verdict) ∷ log) ≤ 1 = (ends_once_lem o (Then (Answers (Call t) verdict) ∷ log) t run).1
-    (ends_began o log t verdict b makes run) in
-    let one : end_of t (Answers (Call t) verdict) ≡ 1 = end_self (Call t) verdict t refl in
-    let before : 1 ≤ counted (end_of t) log = subst (λ u. 1 ≤ counted (end_of u) log) (sym w) was.1 in
-    let total : counted (end_of t) log + end_of t (Answers (Call t) verdict) ≤ 1 = once in
-    omega (arith, one, before, total)
-joins_new o log k (one.Consumer m t) verdict b n row makes run i h = absurd (no_consumer o log m t verdict b makes run)
-joins_new o log k (one.Producer m) verdict b n row makes run i h = absurd (no_producer o log m verdict b makes run)
+-- one that joins holds none any more
+deed_not : (m : Multi) (j : Joining) (d : Doing) → action_of d ≡ OfMulti m (Join j) → ⊥
+deed_not m j (deed.Does (wish.Get p)) h = cc
+deed_not m j (deed.Does (wish.Ask l r)) h = cc
+deed_not m j (deed.Does (wish.Wait delay)) h = cc
+deed_not m j deed.Rests h = cc
+deed_not m j _ h = cc
 
-topics_on : (o : Options) (log : List Entry) → Every (Drawn o) log → (a : Act) → IsRun o (Then a ∷ log) → (n : ℕ) (row : Topic) →
-    (view o (Then a ∷ log)).producers.topics n ≡ Some row →
-    (drew o n (Then a ∷ log) ≡ Some (Call row.owner)) × (1 ≤ counted (end_of row.owner) (Then a ∷ log))
-topics_on o log k a run n row h = elim (row_from (view o log) a n row h) [
-  | inl w ↦
-      (let was = (here (Drawn o) log k).topics n w.row w.was in
-      let c : 1 ≤ counted (end_of row.owner) log = subst (λ u. 1 ≤ counted (end_of u) log) w.owner was.1 in (
-        drew_more o log (here (Drawn o) log k) a n (Call row.owner) (was.0 ∙ ap (λ u. Some (Call u)) w.owner),
-        omega (arith, c),
-      ))
-  | inr j ↦ (let is_call : j.who ≡ Call (rank j.who).1 =
-      who_call o log j.who j.verdict j.building j.makes (subst (λ (x : Act). IsRun o (Then x ∷ log)) j.is_act run) in (
-        subst (λ (x : Act). drew o n (Then x ∷ log) ≡ Some (Call row.owner)) (sym j.is_act)
-            (owned_in (λ m. drew o m log ≡ Some j.who) n j.verdict.makes j.building j.makes
-            (joins_own o log k j.who j.verdict (subst (λ (x : Act). IsRun o (Then x ∷ log)) j.is_act run)) j.is_new.listed
-            ∙ ap Some is_call
-            ∙ ap (λ x. Some (Call x.owner)) j.is_new.is_it),
-        (let one : end_of row.owner (Answers j.who j.verdict) ≡ 1 = end_self j.who j.verdict row.owner (is_call ∙ ap (λ x. Call x.owner) j.is_new.is_it) in
-            subst (λ (x : Act). 1 ≤ counted (end_of row.owner) (Then x ∷ log)) (sym j.is_act) (omega (arith, one))),
-      ))
-]
+send_holds : {w : Ways} {s q : MultiSend} {y : MultiNews} {d : MultiDeed} → MultiSendArc w s y q d → (m k : Multi) (j : Joining) →
+    multi_action_of m d ≡ OfMulti k (Join j) → (Q : ℕ → Type 0) → Each Q (multi_drawn q)
+send_holds (absent_builds {d} b) m k j e Q = absurd (deed_not k j d e)
+send_holds (multi_builds {d} b) m k j e Q = absurd (deed_not k j d e)
+send_holds multi_rests m k j e Q = absurd cc
+send_holds _ m k j e Q = tt
+
+arc_holds : {p q : Plan} {u : Outcome} {a : Action} → Arc p u q a → (m : Multi) (j : Joining) → a ≡ OfMulti m (Join j) → (Q : ℕ → Type 0) → IsSound Q q
+arc_holds (multi_goes {m} d b) k j e Q = send_holds b m k j e Q
+arc_holds (multi_closes_on ask b) k j e Q = tt
+arc_holds (builds_on d b) k j e Q = absurd (deed_not k j d e)
+arc_holds (sends d b) k j e Q = absurd (deed_not k j d e)
+arc_holds (part_sends d b i) k j e Q = absurd (deed_not k j d e)
+arc_holds (batches_go d b) k j e Q = absurd (deed_not k j d e)
+arc_holds _ k j e Q = absurd cc
+
+begins_not : {p : Procedure} {r : Plan} {a : Action} → Begun p r a → (m : Multi) (j : Joining) → a ≡ OfMulti m (Join j) → ⊥
+begins_not begins_multi_send m j e = cc
+begins_not _ m j e = cc
+
+joined_stand : (o : Options) (log : List Entry) (w : Who) (m : Multi) (j : Joining) → IsRun o (Then (Does w (OfMulti m (Join j))) ∷ log) → (p : Plan) →
+    (view o log).stand w ≡ Some p → (Q : ℕ → Type 0) → IsSound Q p
+joined_stand o log w m j run p h Q = elim (does_from o log w (OfMulti m (Join j)) run) [ inl x ↦ begun x | inr x ↦ led x ]
+  where
+    begun : BeginsSo o log w (OfMulti m (Join j)) → IsSound Q p
+    begun x = absurd (begins_not (begun_arc x.leads) m j refl)
+
+    led : IsLedSo o log w (OfMulti m (Join j)) → IsSound Q p
+    led x =
+        let now : (view o log).stand w ≡ Some x.plan =
+        subst (λ l. (view o l).stand w ≡ Some x.plan) (sym x.is_there)
+        (ap (λ y. cond y (stays_some (told_some ((view o x.older).stand w) x.outcome)) ((view o x.older).stand w)) (same_self w)
+        ∙ ap (λ r. stays_some (told_some r x.outcome)) x.stood
+        ∙ ap stays x.leads) in
+        subst (IsSound Q) (some_is (sym now ∙ h)) (arc_holds (told_arc x.leads) m j refl Q)
+
+row_none : (es : List Deed) → row_by topic_after es None ≡ None
+row_none [] = refl
+row_none (e ∷ es) = refl
+
+still_free : (o : Options) (log : List Entry) (a : Act) (n : ℕ) → IsFree o log n → ((t : Topic) → topic_born (view o log) n a ≡ Some t → ⊥) →
+    IsFree o (Then a ∷ log) n
+still_free o log a n free none = by (topic_born (view o log) n a) refl
+  where
+    by : (r : Option Topic) → topic_born (view o log) n a ≡ r → row_after topic_after r false (topic_acts (view o log) n a) ((view o log).producers.topics n) ≡ None
+    by (Some t) e = absurd (none t e)
+    by None e = ap (row_by topic_after (topic_acts (view o log) n a)) free ∙ row_none (topic_acts (view o log) n a)
+
+abbrev is_join : Act → Bool
+is_join (Does who (OfMulti m (Join j))) = true
+is_join _ = false
+
+module _ (o : Options) (log : List Entry) (k : Every (Drawn o) log) (a : Act) (run : IsRun o (Then a ∷ log)) (w : Who) (p : Plan)
+    (h : (view o (Then a ∷ log)).stand w ≡ Some p) (sound : IsSound (Owned o log w) p) where
+  abbrev Goal : Type 0
+  Goal = IsSound (Owned o (Then a ∷ log) w) p
+
+  -- where what joins is of another
+  others : ((n : ℕ) (t : Topic) (j : Joins (view o log) a n t) → w ≡ j.who → ⊥) → Goal
+  others f =
+      sound_map (Owned o log w) (Owned o (Then a ∷ log) w) p (λ n q. (
+        drew_more o log k a n w q.0,
+        still_free o log a n q.1 (λ t e.
+            (let j = born_joins (view o log) a n t e in f n t j (some_is (sym q.0 ∙ (born_owned o log k a n t run j).0)))),
+      )) sound
+
+  -- one that a verdict makes is of one that has ended
+  ended : (who : Who) (verdict : Verdict) (b : BuiltProducer) → a ≡ Answers who verdict → verdict.makes ≡ Producer b → w ≡ who → ⊥
+  ended who verdict b is makes e =
+      let now : (view o log).stand w ≡ Some p = subst (λ (y : Act). (view o (Then y ∷ log)).stand w ≡ Some p) is h in
+      let none : (view o log).stand who ≡ None =
+      ended_stand o log who verdict b makes (subst (λ (y : Act). IsRun o (Then y ∷ log)) is run) in
+      none_some (sym none ∙ ap (view o log).stand (sym e) ∙ now)
+
+  not_joined : is_join a ≡ false → Goal
+  not_joined no = others (λ n t j q. by j.who j.owner j.limits j.parts j.by q)
+    where
+      by : (who : Who) (owner : Owner) (limits : Limits) (parts : List Built) → JoinsBy a who owner limits parts → w ≡ who → ⊥
+      by who owner limits parts (ByVerdict verdict b is makes) q = ended who verdict b is makes q
+      by who owner limits parts (BySend m x is) q = (let f : is_join a ≡ true = ap is_join is in cc)
+
+  is_joined : (who : Who) (m : Multi) (x : Joining) → a ≡ Does who (OfMulti m (Join x)) → Goal
+  is_joined who m x is = elim (cases_Bool (is_same w who)) [
+    | inl e ↦
+        (let now : (view o log).stand w ≡ Some p = subst (λ (y : Act). (view o (Then y ∷ log)).stand w ≡ Some p) is h in
+        joined_stand o log who m x (subst (λ (y : Act). IsRun o (Then y ∷ log)) is run) p (ap (view o log).stand (sym (same_is w who e)) ∙ now)
+        (Owned o (Then a ∷ log) w))
+    | inr e ↦ others (λ n t j q. by e j.who j.owner j.limits j.parts j.by q)
+  ]
+    where
+      by : is_same w who ≡ false → (other : Who) (owner : Owner) (limits : Limits) (parts : List Built) → JoinsBy a other owner limits parts → w ≡ other → ⊥
+      by e other owner limits parts (ByVerdict verdict b there makes) q = ended other verdict b there makes q
+      by e other owner limits parts (BySend k y there) q =
+          let f : Does who (OfMulti m (Join x)) ≡ Does other (OfMulti k (Join y)) = sym is ∙ there in
+          let g : who ≡ other = cc in
+          let t : is_same w who ≡ true = ap (is_same w) (g ∙ sym q) ∙ same_self w in
+          cc
+
+  pub plans_free : Goal
+  plans_free = by a refl
+    where
+      by : (x : Act) → a ≡ x → Goal
+      by (Does who (OfMulti m (Join x))) is = is_joined who m x is
+      by _ is = not_joined (ap is_join is)
 
 drawn_begins : (o : Options) (log : List Entry) (e : Heard) → Drawn o log → Drawn o (Begins e ∷ log)
 drawn_begins o log e k =
@@ -479,16 +655,16 @@ drawn_begins o log e k =
     let s = begun_same (λ v. v.stand) e (view o log) refl in
     record {
       below = λ n w h. subst (λ x. n < x.next) (sym p) (k.below n w h);
-      plans = λ w q h. k.plans w q (sym (ap (λ f. f w) s) ∙ h);
+      plans = λ w q h.
+          sound_map (Owned o log w) (Owned o (Begins e ∷ log) w) q (λ n x. (x.0, ap (λ y. y.topics n) p ∙ x.1))
+          (k.plans w q (sym (ap (λ f. f w) s) ∙ h));
       topics = λ n row h. k.topics n row (sym (ap (λ x. x.topics n) p) ∙ h);
     }
 
 drawn_then : (o : Options) (log : List Entry) (a : Act) → IsRun o (Then a ∷ log) → Every (Drawn o) log → Drawn o (Then a ∷ log)
 drawn_then o log a run k = record {
-  below = below_on o log (here (Drawn o) log k) a;
-  plans = λ w p h.
-      sound_map (λ n. drew o n log ≡ Some w) (λ n. drew o n (Then a ∷ log) ≡ Some w) p (λ n e. drew_more o log (here (Drawn o) log k) a n w e)
-      (plans_on o log (here (Drawn o) log k) a run w p h);
+  below = below_on o log k a;
+  plans = λ w p h. plans_free o log k a run w p h (plans_on o log k a run w p h);
   topics = topics_on o log k a run;
 }
 

@@ -6,7 +6,7 @@ use Rattle.std.specs.BTreeSet.{insert_key}
 use Rattle.std.specs.List.{list_any}
 use Rattle.std.specs.Option.{is_some}
 use Rattle.std.specs.Ordering.{nat_cmp}
-use Rattle.pulsar_laws.proofs.ActWords.{Act, Answers, Asked, Calls, Comes, Does, Makes, Number, Told, Who, lacks_tickets, shares}
+use Rattle.pulsar_laws.proofs.ActWords.{Act, Answers, Asked, Calls, Comes, Does, Makes, Number, OfMulti, ticket_of, Told, Who, lacks_tickets, shares}
 use Rattle.pulsar_laws.proofs.RunWords.{Begins, begun_same, Entry, In, IsRun, may_call, notice, Options, producers_listed, Then, View, view}
 use Rattle.pulsar_messages.specs.Content.{ProducerMessageValues}
 use Rattle.pulsar_messages.specs.Claims.{is_spent}
@@ -15,7 +15,9 @@ use Rattle.pulsar_producer.specs.Producer as producer
 use Rattle.pulsar_outgoing.specs.declared.news.News.TheVariants as news
 use Rattle.pulsar_calls.specs.declared.act.Makes.TheVariants.{Producer}
 use Rattle.pulsar_calls.specs.declared.act.Who.TheVariants as by
-use Rattle.pulsar_acts.specs.View.{producers_left}
+use Rattle.pulsar_acts.specs.View.{multi_at, producers_left, with_numbers}
+use Rattle.pulsar_outgoing.specs.declared.multi_topic.Joining.{Joining}
+use Rattle.pulsar_producer_table.specs.MultiAsks.{joined_by}
 use Rattle.pulsar_calls.specs.declared.act.Outcome.TheVariants as outcome
 use Rattle.pulsar_calls.specs.Content as content
 use Rattle.pulsar_producer_table.specs.Producers.{Producers, all_routed, called_on, free_from, made_of, names_in, next_free, numbered, opened_on, routed, sent_on, why_not, with_built}
@@ -164,12 +166,19 @@ numbered_low ps h = (
     low : next_free ps < 2 ^ 64
     low = free_low ps.named ps.next h.1
 
+joined_kept : (t : ℕ) (r : Option Joining) (ps : Producers) → Kept ps (with_numbers t r ps)
+joined_kept t None ps = (refl, refl)
+joined_kept t (Some j) ps = (refl, refl)
+
 after_low : (v : View) (a : Act) → IsLow v.producers → IsLow (seen.after a v).producers
 after_low v (Comes (Calls asked advice)) h =
     cond_so IsLow (lacks_tickets v.calls.drawn (shares asked)) v.producers (called_on (may_call v.calls) asked v.producers) h
     (cond_so IsLow (may_call v.calls) (opened_on asked v.producers) v.producers (opened_low asked v.producers h) h)
 after_low v (Does who Number) h = numbered_low v.producers h
 after_low v (Answers who verdict) h = left_low who (producers_listed v.chosen who verdict.makes v.producers) (made_low v who verdict.makes h)
+after_low v (Does who (OfMulti m ask)) h =
+    let r : Option Joining = joined_by ask (multi_at v m) in
+    kept_low v.producers (with_numbers (ticket_of who) r v.producers) (joined_kept (ticket_of who) r v.producers) h
 after_low v _ h = h
 
 pub low_run : (o : Options) (log : List Entry) → o.chosen.first_number < 2 ^ 64 → IsLow (view o log).producers
@@ -211,7 +220,7 @@ numbers_are_free_lem o log n run h =
                 subst (λ m. list_any (λ k. k == m) ps.named ≡ false) same (is_free ps.named ps.next low.1 low.0 s)),
             no_row (ps.topics n) (λ row e.
                 let k = here (Drawn o) log (drawn_run o log run) in
-                let b : n < ps.next = k.below n _ (k.topics n row e).0 in
+                let b : n < ps.next = k.below n (k.topics n row e).0 (k.topics n row e).1 in
                 omega (arith, b, same, at_least)),
             λ who m i. (let b : m < ps.next = told_low o log run who m i in omega (arith, b, same, at_least)),
           ))

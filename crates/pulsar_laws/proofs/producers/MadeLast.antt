@@ -1,24 +1,28 @@
 -- The link of a topic producer, and what its broker says of it, are those with which it was made last.
 use Rattle.std.proofs.Common.{◌≡◌, ◌∙◌, sym, ap, ℕ, ◌==◌, List, [], ◌∷◌, refl, Bool, true, false, cond, Option, Some, None}
-use Rattle.pulsar_laws.proofs.ActWords.{Act, Answers, Does, Makes, Nothing, OfTopic, Remake, Who}
+use Rattle.pulsar_laws.proofs.ActWords.{Act, Answers, Does, Makes, Nothing, OfMulti, OfTopic, Remake, Who}
 use Rattle.pulsar_laws.proofs.PlanWords.{Built}
 use Rattle.pulsar_laws.proofs.RunWords.{Begins, begun_same, Each, Entry, Options, Then, view, View}
 use Rattle.pulsar_outgoing.specs.declared.replies.Given.{Given}
 use Rattle.pulsar_outgoing.specs.declared.storage.Limits.{Limits}
 use Rattle.pulsar_outgoing.specs.Storage.{Flush, is_nothing, is_ready, Item, pushed}
 use Rattle.pulsar_messages.specs.Claims.{is_spent}
+use Rattle.pulsar_outgoing.specs.declared.multi_topic.Joining.{Joining}
+use Rattle.pulsar_outgoing.specs.declared.multi_topic.Multi.{Multi}
 use Rattle.pulsar_outgoing.specs.declared.multi_topic.Taker.{Taker}
 use Rattle.pulsar_producer.specs.Topic as topic
 use Rattle.pulsar_producer.specs.Topic.{Act as Deed, Cuts, Draws, Flushes, Remakes, Seen, Stores, Takes, TakesBatch, is_settled, left_of, stores, takes_in}
 use Rattle.pulsar_calls.specs.declared.act.Makes.TheVariants as makes
 use Rattle.pulsar_producer_table.specs.Producers.{fresh_topic, last_of, topic_after, topic_in}
+use Rattle.pulsar_producer_table.specs.MultiAsks.{joined_by}
+use Rattle.pulsar_producer_table.specs.declared.table.Owner.{Owner}
 use Rattle.pulsar_producer_table.specs.declared.table.Topic.{Topic}
-use Rattle.pulsar_acts.specs.View.{building_of, topic_born, topic_of}
+use Rattle.pulsar_acts.specs.View.{building_of, multi_at, topic_born, topic_joined, topic_of}
 use Rattle.pulsar_run.specs.Things.{along}
 use Rattle.pulsar_run.proofs.Things.{IsNewIn, WasIn, came}
 use Rattle.pulsar_laws.proofs.Cases.{cond_so, none_some}
 use Rattle.pulsar_laws.proofs.producers.Topics.{CameFrom, acts_each}
-use Rattle.pulsar_laws.specs.ProducerLaws.{AsMadeLast, built_by, built_in, made_last, topic_acts}
+use Rattle.pulsar_laws.specs.ProducerLaws.{AsMadeLast, built_by, built_for, built_in, made_last, topic_acts}
 
 abbrev place : Seen → ℕ × Given
 place v = (v.link, v.given)
@@ -32,7 +36,7 @@ abbrev place_or : Option Topic → Option (ℕ × Given) → Option (ℕ × Give
 place_or None before = before
 place_or (Some t) before = Some (place_of t)
 
-built_last : (owner first : ℕ) (limits : Limits) (n : ℕ) (bs : List Built) (before : Option (ℕ × Given)) →
+built_last : (owner : Owner) (first : ℕ) (limits : Limits) (n : ℕ) (bs : List Built) (before : Option (ℕ × Given)) →
     built_in n bs before ≡ place_or (topic_in owner first limits bs n) before
 built_last owner first limits n [] before = refl
 built_last owner first limits n (b ∷ bs) before =
@@ -47,10 +51,16 @@ built_last owner first limits n (b ∷ bs) before =
 born_last : (v : View) (who : Who) (n : ℕ) (m : Makes) (before : Option (ℕ × Given)) →
     built_by n m before ≡ place_or (topic_of (building_of m) who v.chosen n) before
 born_last v who n (makes.Producer b) before = built_last _ _ _ n b.parts before
+born_last v who n (makes.MultiProducer name settings) before = refl
 born_last v who n Nothing before = refl
 born_last v who n makes.Client before = refl
 born_last v who n (makes.Consumer j) before = refl
 born_last v who n (makes.RawConsumer l made) before = refl
+
+joined_last : (v : View) (who : Who) (m : Multi) (n : ℕ) (r : Option Joining) (before : Option (ℕ × Given)) →
+    built_for n r before ≡ place_or (topic_joined r who m v.chosen n) before
+joined_last v who m n None before = refl
+joined_last v who m n (Some j) before = built_last _ _ _ n j.parts before
 
 -- ACTS that make none again leave both
 
@@ -101,26 +111,33 @@ plain_acts v n a h = acts_each Plain v n a (plain_from n a h)
 
 module _ (o : Options) (n : ℕ) where
   -- one that was there
-  last_then : (a : Act) (log : List Entry) (t before : Topic) → topic_born (view o log) n a ≡ None → made_last n log ≡ Some (place_of before) →
-      t ≡ along topic_after (topic_acts (view o log) n a) before → made_last n (Then a ∷ log) ≡ Some (place_of t)
+  last_then : (a : Act) (log : List Entry) (t before : Topic) → topic_born (view o log) n a ≡ None → made_last o n log ≡ Some (place_of before) →
+      t ≡ along topic_after (topic_acts (view o log) n a) before → made_last o n (Then a ∷ log) ≡ Some (place_of t)
   last_then (Answers who verdict) log t before none k is =
-      born_last (view o log) who n verdict.makes (made_last n log) ∙ ap (λ r. place_or r (made_last n log)) none ∙ k
+      born_last (view o log) who n verdict.makes (made_last o n log) ∙ ap (λ r. place_or r (made_last o n log)) none ∙ k
       ∙ ap (λ x. Some (place_of x)) (sym is)
   last_then (Does who (OfTopic m (Remake r))) log t before none k is = by (n == m) ∙ ap (λ x. Some (place_of x)) (sym is)
     where
       by : (c : Bool) →
-          cond c (Some (r.link, r.given)) (made_last n log) ≡ Some (place_of (along topic_after (cond c (Remakes r.link r.given ∷ []) []) before))
+          cond c (Some (r.link, r.given)) (made_last o n log) ≡ Some (place_of (along topic_after (cond c (Remakes r.link r.given ∷ []) []) before))
       by true = refl
       by false = k
+  last_then (Does who (OfMulti m ask)) log t before none k is =
+      joined_last (view o log) who m n (joined_by ask (multi_at (view o log) m)) (made_last o n log)
+      ∙ ap (λ r. place_or r (made_last o n log)) none ∙ k
+      ∙ ap (λ x. Some x) (sym (along_same (topic_acts (view o log) n (Does who (OfMulti m ask))) before (plain_acts (view o log) n (Does who (OfMulti m ask)) refl)))
+      ∙ ap (λ x. Some (place_of x)) (sym is)
   last_then a log t before none k is =
       k ∙ ap (λ x. Some x) (sym (along_same (topic_acts (view o log) n a) before (plain_acts (view o log) n a refl))) ∙ ap (λ x. Some (place_of x)) (sym is)
 
-  last_born : (a : Act) (log : List Entry) (t : Topic) → topic_born (view o log) n a ≡ Some t → made_last n (Then a ∷ log) ≡ Some (place_of t)
+  last_born : (a : Act) (log : List Entry) (t : Topic) → topic_born (view o log) n a ≡ Some t → made_last o n (Then a ∷ log) ≡ Some (place_of t)
   last_born (Answers who verdict) log t h =
-      born_last (view o log) who n verdict.makes (made_last n log) ∙ ap (λ r. place_or r (made_last n log)) h
+      born_last (view o log) who n verdict.makes (made_last o n log) ∙ ap (λ r. place_or r (made_last o n log)) h
+  last_born (Does who (OfMulti m ask)) log t h =
+      joined_last (view o log) who m n (joined_by ask (multi_at (view o log) m)) (made_last o n log) ∙ ap (λ r. place_or r (made_last o n log)) h
   last_born a log t h = absurd cc
 
-  last_run : (log : List Entry) (t : Topic) → (view o log).producers.topics n ≡ Some t → made_last n log ≡ Some (place_of t)
+  last_run : (log : List Entry) (t : Topic) → (view o log).producers.topics n ≡ Some t → made_last o n log ≡ Some (place_of t)
   last_run [] t h = absurd (none_some h)
   last_run (Begins e ∷ log) t h = last_run log t (sym (begun_same (λ v. v.producers.topics n) e (view o log) refl) ∙ h)
   last_run (Then a ∷ log) t h =

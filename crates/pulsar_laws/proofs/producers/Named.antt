@@ -1,7 +1,7 @@
 -- The name of a topic producer is a text, since a reply of its broker said it.
 use Rattle.std.proofs.Common.{◌≡◌, inl, inr, ◌∙◌, sym, subst, ℕ, ◌+◌, ◌&&◌, not, List, [], ◌∷◌, ◌++◌, refl, map, length, Bool, true, false, cond, Option, Some, None, Result, Ok, Err}
-use Rattle.pulsar_laws.proofs.ActWords.{Act, Action, Answers, Does, Makes, Nothing, Notice, Outcome, Procedure, Remake, Share, Tell, TellAll, Told, Verdict, Who, OfTopic}
-use Rattle.pulsar_laws.proofs.PlanWords.{action_of, Asking, Awaiting, Batches, Batching, begins, BuildingProducer as Build, Built, Command, Deed, Errand, Gives, Heard, is_answer, Making, Member, Naming, News, news_of, overrides, Plan, PlanTransition, ProducerOrder, Producing, SearchTransition, Sending as Send, Served, Stays, told, Ways}
+use Rattle.pulsar_laws.proofs.ActWords.{Act, Action, Answers, Does, Makes, Nothing, Notice, Outcome, Procedure, Remake, Share, Tell, TellAll, Told, Verdict, Who, OfMulti, OfTopic}
+use Rattle.pulsar_laws.proofs.PlanWords.{action_of, Asking, Awaiting, Batches, Batching, begins, BuildingProducer as Build, Built, Command, Deed, Errand, Gives, Heard, is_answer, Making, Member, MultiSending, Naming, News, news_of, overrides, Plan, PlanTransition, ProducerOrder, Producing, SearchTransition, Sending as Send, Served, Stays, told, Ways}
 use Rattle.pulsar_laws.proofs.RunWords.{Begins, begun_same, Cause, Each, each_append, Entry, IsRun, notice, Options, Then, view}
 use Rattle.pulsar_laws.proofs.LinkWords.{Failure, Fault, Named, Place, Reply}
 use Rattle.pulsar_exchange.specs.Request.{subscribed}
@@ -21,7 +21,22 @@ use Rattle.pulsar_wire.specs.declared.error.Reason.{Reason}
 use Rattle.pulsar_outgoing.specs.Batch.{batch_of, entries_in, member_of}
 use Rattle.pulsar_outgoing.specs.Storage.{Item, Flush as FlushItem, SingleMessage, is_nothing, is_ready, pushed}
 use Rattle.pulsar_outgoing.specs.declared.news.News.TheVariants as news
+use Rattle.pulsar_outgoing.specs.declared.multi_topic.Dispatch.TheVariants as dispatch
+use Rattle.pulsar_outgoing.specs.declared.multi_topic.Multi.{Multi}
+use Rattle.pulsar_outgoing.specs.declared.multi_topic.MultiAsk.{MultiAsk}
+use Rattle.pulsar_outgoing.specs.declared.multi_topic.MultiAsk.TheVariants.{TakeTurn, PassTurn, Hand, Join, Remove}
+use Rattle.pulsar_outgoing.specs.declared.multi_topic.MultiSaid.TheVariants as said
 use Rattle.pulsar_outgoing.specs.declared.multi_topic.Taker.{Taker}
+use Rattle.pulsar_producer.specs.MultiPlans.{Dispatches, multi_send_told, send_builds}
+use Rattle.pulsar_producer.specs.declared.multi_topic.closing.MultiClosing.{MultiClosing as MultiClose}
+use Rattle.pulsar_producer.specs.declared.multi_topic.deed.MultiDeed.TheVariants as many_deed
+use Rattle.pulsar_producer.specs.declared.multi_topic.deed.MultiNews.{MultiNews}
+use Rattle.pulsar_producer.specs.declared.multi_topic.deed.MultiNews.TheVariants.{Said, Told as IsTold}
+use Rattle.pulsar_producer.specs.declared.multi_topic.sending.MultiSending.{MultiSending as MultiSend}
+use Rattle.pulsar_producer.specs.declared.multi_topic.sending.MultiSending.TheVariants as many
+use Rattle.pulsar_outgoing.specs.declared.storage.Limits.{Limits}
+use Rattle.pulsar_producer_table.specs.declared.table.Owner.{Owner}
+use Rattle.pulsar_plans.proofs.MultiArcs.{MultiCloseArc, removed_passes, removing_passes, turned_removes}
 use Rattle.pulsar_producer.specs.Batching as batches
 use Rattle.pulsar_producer.specs.Plans as produce
 use Rattle.pulsar_producer.specs.Plans.{Builds, Sent}
@@ -35,9 +50,9 @@ use Rattle.pulsar_producer.specs.declared.sending.Sending.TheVariants as send
 use Rattle.pulsar_producer_table.specs.declared.table.Topic.{Topic}
 use Rattle.pulsar_calls.specs.declared.act.Makes.TheVariants as makes
 use Rattle.pulsar_calls.specs.declared.act.Outcome.TheVariants as outcome
-use Rattle.pulsar_plans.specs.Plan.{builds, goes_on_sending, halted, leaves, makes_of}
+use Rattle.pulsar_plans.specs.Plan.{builds, goes_on_sending, halted, leaves, makes_of, multi_news_of, multi_sends}
 use Rattle.pulsar_plans.specs.declared.plan.Plan.TheVariants.{Sending}
-use Rattle.pulsar_plans.proofs.Arcs.{Arc, Begun, BegunEnd, End, answers, batches_go, begins_asking, begins_none, builds_on, by_arcs, by_begun, departs_asks, got_asks, part_sends, produced, queued_waits, sends, stands_on}
+use Rattle.pulsar_plans.proofs.Arcs.{Arc, Begun, BegunEnd, End, answers, batches_go, begins_asking, begins_none, builds_on, by_arcs, by_begun, departs_asks, got_asks, multi_closes_on, multi_goes, part_sends, produced, queued_waits, sends, stands_on}
 use Rattle.pulsar_laws.proofs.Cases.{cond_so, none_some, some_is}
 use Rattle.pulsar_laws.proofs.Lists.{in_each}
 use Rattle.pulsar_laws.proofs.calls.Caused.{outcomes_are_caused_lem}
@@ -45,7 +60,7 @@ use Rattle.pulsar_laws.proofs.calls.Sources.{step_runs, step_some}
 use Rattle.pulsar_laws.proofs.plans.Fitting.{is_settling}
 use Rattle.pulsar_laws.proofs.plans.Granted.{does_from, tell_said, tell_settling}
 use Rattle.pulsar_laws.proofs.plans.Standing.{run_older, stands_so}
-use Rattle.pulsar_laws.proofs.producers.Drawing.{answers_from, drawn_run, row_from}
+use Rattle.pulsar_laws.proofs.producers.Drawing.{ByVerdict, BySend, JoinsBy, answers_from, drawn_run, row_from}
 use Rattle.pulsar_laws.proofs.producers.TextReplies.{NamesSo, given_text, reply_names}
 use Rattle.pulsar_laws.proofs.producers.Texts.{IsText}
 use Rattle.pulsar_laws.proofs.producers.Topics.{all_after, row_as, topic_all, CameFrom, acts_each}
@@ -189,6 +204,46 @@ send_good w e (send.Remaking m) news.Done g = tt
 send_good w e (send.Remaking m) _ g = tt
 send_good w e (send.Ending f) y g = tt
 
+-- A SEND BY A PRODUCER OF MANY TOPICS
+
+abbrev MultiGood : MultiSend → Type 0
+MultiGood (many.Building o m b) = BuildGood b
+MultiGood _ = Unit {0}
+
+abbrev AskGood : MultiAsk → Type 0
+AskGood (Join j) = AreNamed j.parts
+AskGood _ = Unit {0}
+
+abbrev MultiTurn : Dispatches → Type 0
+MultiTurn (transition.Stays s (many_deed.Asks ask)) = MultiGood s × AskGood ask
+MultiTurn (transition.Stays s (many_deed.Does d)) = MultiGood s × DeedGood d
+MultiTurn (transition.Gives given) = Unit {0}
+
+abbrev GoodMultiNews : MultiNews → Type 0
+GoodMultiNews (IsTold y) = GoodNews y
+GoodMultiNews (Said x) = Unit {0}
+
+multi_builds : (o : ProducerOrder) (m : ProducerMessageValues) (t : Builds) → BuildTurn t → MultiTurn (send_builds o m t)
+multi_builds o m (transition.Stays b d) k = k
+multi_builds o m (transition.Gives (Ok parts)) k = (tt, k)
+multi_builds o m (transition.Gives (Err f)) k = (tt, tt)
+
+multi_good : (w : Ways) (s : MultiSend) (y : MultiNews) → MultiGood s → GoodMultiNews y → MultiTurn (multi_send_told w s y)
+multi_good w (many.Waiting t m) (Said said.HasTurn) k g = (tt, tt)
+multi_good w (many.Waiting t m) (Said _) k g = tt
+multi_good w (many.Waiting t m) (IsTold y) k g = tt
+multi_good w many.Handing (Said (said.Absent x)) k g =
+    multi_builds x.order x.message (produce.build_begins w x.order) (names_good (search.names_begins w x.order.topic))
+multi_good w many.Handing (Said (said.Handed given)) k g = (tt, tt)
+multi_good w many.Handing (Said _) k g = (tt, tt)
+multi_good w many.Handing (IsTold y) k g = (tt, tt)
+multi_good w (many.Building o m b) (IsTold y) k g = multi_builds o m (produce.build_told w o b y) (build_good w o b y k g)
+multi_good w (many.Building o m b) (Said x) k g = (k, tt)
+multi_good w (many.Joining t m) (Said said.Done) k g = (tt, tt)
+multi_good w (many.Joining t m) (Said _) k g = (tt, tt)
+multi_good w (many.Joining t m) (IsTold y) k g = (tt, tt)
+multi_good w (many.Passing given) y k g = tt
+
 -- PLANS
 
 abbrev MakesGood : Makes → Type 0
@@ -197,12 +252,14 @@ MakesGood _ = Unit {0}
 
 abbrev PlanGood : Plan → Type 0
 PlanGood (Producing w o b) = BuildGood b
+PlanGood (MultiSending w m share s) = MultiGood s
 PlanGood (Asking x) = MakesGood x.makes
 PlanGood (Awaiting x) = MakesGood x.makes
 PlanGood _ = Unit {0}
 
 abbrev ActGood : Action → Type 0
 ActGood (OfTopic n (Remake r)) = IsText r.given.name
+ActGood (OfMulti m (Join j)) = AreNamed j.parts
 ActGood _ = Unit {0}
 
 abbrev TurnGood : PlanTransition → Type 0
@@ -234,6 +291,20 @@ sent_good w e None (transition.Stays s d) k = (tt, deed_good d k)
 sent_good w e (Some h) (transition.Stays s d) k = cond_so TurnGood (batches.is_sent_send s) _ _ (tt, tt) (tt, deed_good d k)
 sent_good w e share (transition.Gives (Ok r)) k = tt
 sent_good w e share (transition.Gives (Err f)) k = leaves_good share f
+
+multi_ask_good : (m : Multi) (ask : MultiAsk) → AskGood ask → ActGood (OfMulti m ask)
+multi_ask_good m (Join j) k = k
+multi_ask_good m TakeTurn k = tt
+multi_ask_good m PassTurn k = tt
+multi_ask_good m (Hand h) k = tt
+multi_ask_good m (Remove t) k = tt
+
+multi_sent : (w : Ways) (m : Multi) (share : Option Share) (t : Dispatches) → MultiTurn t → TurnGood (multi_sends w m share t)
+multi_sent w m share (transition.Stays s (many_deed.Asks ask)) k = (k.0, multi_ask_good m ask k.1)
+multi_sent w m share (transition.Stays s (many_deed.Does d)) k = (k.0, deed_good d k.1)
+multi_sent w m share (transition.Gives (Ok (dispatch.Send e x))) k = sent_good w e share (produce.send_begins e x) tt
+multi_sent w m share (transition.Gives (Ok (dispatch.Store n x))) k = (tt, tt)
+multi_sent w m share (transition.Gives (Err f)) k = leaves_good share f
 
 -- the batches of a topic producer
 batch_sent : (ms : List Member) (n : ℕ) (t : Sent) → SendTurn t → DeedGood (batches.sends ms n t).deed
@@ -276,6 +347,14 @@ news_good outcome.Queued g = tt
 news_good outcome.InLine g = tt
 news_good _ g = tt
 
+multi_news_good : (u : Outcome) → GoodOutcome u → GoodMultiNews (multi_news_of u)
+multi_news_good (outcome.OfMulti x) g = tt
+multi_news_good (outcome.Replied r) g = g
+multi_news_good (outcome.Granted n) g = g
+multi_news_good outcome.Queued g = tt
+multi_news_good outcome.InLine g = tt
+multi_news_good _ g = tt
+
 -- other plans make no producer
 abbrev makes_none : Makes → Bool
 makes_none (makes.Producer b) = false
@@ -293,13 +372,21 @@ abbrev is_special : Plan → Bool
 is_special (Producing w o b) = true
 is_special (Sending w e share s) = true
 is_special (Batching w e b) = true
+is_special (MultiSending w m share s) = true
 is_special _ = false
+
+close_good : {m : Multi} {s q : MultiClose} {y : MultiNews} {ask : MultiAsk} → MultiCloseArc s y q ask → ActGood (OfMulti m ask)
+close_good turned_removes = tt
+close_good removed_passes = tt
+close_good (removing_passes f) = tt
 
 arc_good : {p q : Plan} {u : Outcome} {a : Action} → Arc p u q a → is_special p ≡ false → PlanGood p → PlanGood q × ActGood a
 arc_good (builds_on d b) n k = absurd cc
 arc_good (sends d b) n k = absurd cc
 arc_good (part_sends d b s) n k = absurd cc
 arc_good (batches_go d b) n k = absurd cc
+arc_good (multi_goes d b) n k = absurd cc
+arc_good (multi_closes_on ask b) n k = (tt, close_good b)
 arc_good (got_asks {request} {s} {l}) n k = (asked_none l (subscribed request), tt)
 arc_good queued_waits n k = (k, tt)
 arc_good stands_on n k = (k, tt)
@@ -320,6 +407,9 @@ told_good (Sending w e share s) u k g =
 told_good (Batching w e b) u k g =
     cond_so TurnGood (overrides u) _ _ (tt, deed_good (batches.halted b).deed (halts_good b))
     (tt, deed_good (batches.told w e b (news_of u)).deed (batch_good w e b (news_of u) (news_good u g)))
+told_good (MultiSending w m share s) u k g =
+    cond_so TurnGood (overrides u) _ _ (halted_good share u)
+    (multi_sent w m share (multi_send_told w s (multi_news_of u)) (multi_good w s (multi_news_of u) k (multi_news_good u g)))
 told_good p u k g = by_arcs TurnGood p u (λ q a x. arc_good x refl k) (λ v x. end_good x refl k)
 
 begun_good : {p : Procedure} {q : Plan} {a : Action} → Begun p q a → PlanGood q × ActGood a
@@ -440,6 +530,11 @@ names_are_texts o (Begins e ∷ log) n t run h =
     names_are_texts o log n t run.0 (sym (begun_same (λ v. v.producers.topics n) e (view o log) refl) ∙ h)
 names_are_texts o (Then a ∷ log) n t run h = from ((view o log).producers.topics n) refl (λ u e. names_are_texts o log n u run.0 e)
   where
+    joined : (who : Who) (owner : Owner) (limits : Limits) (parts : List Built) → JoinsBy a who owner limits parts → AreNamed parts
+    joined who owner limits parts (ByVerdict verdict b is makes) =
+        subst MakesGood makes (answer_good o log who verdict (subst (λ (x : Act). IsRun o (Then x ∷ log)) is run))
+    joined who owner limits parts (BySend m j is) = remade_good o log who (OfMulti m (Join j)) (subst (λ (x : Act). IsRun o (Then x ∷ log)) is run)
+
     from : (row : Option Topic) → (view o log).producers.topics n ≡ row → ((u : Topic) → (view o log).producers.topics n ≡ Some u → RowNamed u) → RowNamed t
     from (Some u) e more =
         let is : Some t ≡ Some (topic_all (topic_acts (view o log) n a) u) = sym h ∙ row_as o log (drawn_run o log run.0) n u e a run in
@@ -447,7 +542,6 @@ names_are_texts o (Then a ∷ log) n t run h = from ((view o log).producers.topi
     from None e more = elim (row_from (view o log) a n t h) [
       | inl was ↦ absurd (none_some (sym e ∙ was.was))
       | inr j ↦
-          (let r : IsRun o (Then (Answers j.who j.verdict) ∷ log) = subst (λ (x : Act). IsRun o (Then x ∷ log)) j.is_act run in
-          let g : AreNamed j.building.parts = subst MakesGood j.makes (answer_good o log j.who j.verdict r) in
-          subst RowNamed j.is_new.is_it (in_each (λ (b : Built). IsText b.given.name) j.is_new.built j.building.parts j.is_new.is_in g))
+          subst RowNamed j.is_new.is_it
+          (in_each (λ (b : Built). IsText b.given.name) j.is_new.built j.parts j.is_new.is_in (joined j.who j.owner j.limits j.parts j.by))
     ]

@@ -6,7 +6,9 @@ use Rattle.pulsar_laws.proofs.RunWords.{Cause, Entry, IsRun, notice, Options, Th
 use Rattle.pulsar_calls.specs.declared.act.Outcome.TheVariants as outcome
 use Rattle.pulsar_outgoing.specs.declared.news.News.TheVariants as news
 use Rattle.pulsar_outgoing.specs.declared.replies.Given.{Given}
-use Rattle.pulsar_producer.specs.Topic.{first_of}
+use Rattle.pulsar_outgoing.specs.declared.multi_topic.Taker.{Taker}
+use Rattle.pulsar_outgoing.specs.declared.multi_topic.Taker.TheVariants as taker
+use Rattle.pulsar_producer.specs.Topic.{next_holder}
 use Rattle.pulsar_producer_table.specs.Producers.{turn_passed, turn_taken}
 use Rattle.pulsar_producer_table.specs.declared.table.Topic.{Topic}
 use Rattle.pulsar_laws.specs.ProducerLaws.{TurnsTellTheNewest, made_last}
@@ -26,7 +28,7 @@ module _ (o : Options) (who : Who) (version : Option (List ℕ)) where
 
   abbrev Tells : Entry → List Entry → Type 0
   Tells e older =
-      (n link : ℕ) × (given : Given) × (made_last n older ≡ Some (link, given)) × (given.version ≡ version)
+      (n link : ℕ) × (given : Given) × (made_last o n older ≡ Some (link, given)) × (given.version ≡ version)
       × ((e ≡ Then (Does who (OfTopic n TakeTurn))) ⊎ ((other : Who) × (e ≡ Then (Does other (OfTopic n PassTurn)))))
 
   -- it is had at once
@@ -40,16 +42,16 @@ module _ (o : Options) (who : Who) (version : Option (List ℕ)) where
       by false e = absurd (none_some e)
 
   -- or passed on
-  passed : (older : List Entry) (other : Who) (n turn : ℕ) (new : Option (List ℕ)) (row : Option Topic) → (view o older).producers.topics n ≡ row →
+  passed : (older : List Entry) (other : Who) (n : ℕ) (turn : Taker) (new : Option (List ℕ)) (row : Option Topic) → (view o older).producers.topics n ≡ row →
       turn_passed row ≡ Some (turn, new) → new ≡ version → Tells (Then (Does other (OfTopic n PassTurn))) older
   passed older other n turn new None h g same = absurd (none_some g)
   passed older other n turn new (Some t) h g same =
-      (n, t.seen.link, t.seen.given, as_made_last_lem o older n t h, by (first_of t.seen.waiting) g ∙ same, inr (other, refl))
+      (n, t.seen.link, t.seen.given, as_made_last_lem o older n t h, by (next_holder t.seen) g ∙ same, inr (other, refl))
     where
-      by : (next : Option ℕ) → option_map {U = ℕ × Option (List ℕ)} (λ ticket. (ticket, t.seen.given.version)) next ≡ Some (turn, new) →
+      by : (next : Option Taker) → option_map {U = Taker × Option (List ℕ)} (λ taker. (taker, t.seen.given.version)) next ≡ Some (turn, new) →
           t.seen.given.version ≡ new
       by None e = absurd (none_some e)
-      by (Some ticket) e = ap (λ (x : ℕ × Option (List ℕ)). x.1) (some_is e)
+      by (Some taker) e = ap (λ (x : Taker × Option (List ℕ)). x.1) (some_is e)
 
   told_by : (e : Entry) (older : List Entry) → IsRun o (e ∷ older) → Cause o who u e older → Tells e older
   told_by e older r (inl (OfTopic n TakeTurn, is, g)) =
@@ -57,7 +59,7 @@ module _ (o : Options) (who : Who) (version : Option (List ℕ)) where
   told_by e older r (inl (action, is, never)) = absurd never
   told_by e older r (inr (inl (other, number, turn, new, is, same, granted, next))) =
       subst (λ x. Tells x older) (sym is)
-      (passed older other number turn new ((view o older).producers.topics number) refl next (let f : version ≡ new = cc in sym f))
+      (passed older other number (taker.Call turn) new ((view o older).producers.topics number) refl next (let f : version ≡ new = cc in sym f))
   told_by e older r (inr (inr (inl (number, act, same, ready, woken, cuts)))) = absurd cc
   told_by e older r (inr (inr (inr (other, inl is)))) =
       absurd (let f : false ≡ true = tell_said o older other it (subst (λ x. IsRun o (x ∷ older)) is r) in cc)

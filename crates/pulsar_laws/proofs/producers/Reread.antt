@@ -166,7 +166,7 @@ frames_are_read_again_lem o log id l n s name m block place row behind low early
     let whole : MessageValues = message_of id now request in
     let size : FitsFrame whole = fits_frame (message_of f.0 now request) f.1 in
     let drawn_so = here (Drawn o) log (drawn_run o log run) in
-    let below : n < (view o log).producers.next = drawn_so.below n _ (drawn_so.topics n row is).0 in
+    let below : n < (view o log).producers.next = drawn_so.below n (drawn_so.topics n row is).0 (drawn_so.topics n row is).1 in
     let most : (view o log).producers.next < 2 ^ 64 = (low_run o log low).1 in
     let alone = topics_alone_lem o log n row run is in
     let all : row.seen.next < 2 ^ 64 =

@@ -1,11 +1,10 @@
 -- A topic producer is what the acts on it made of it since it was built.
-use Rattle.std.proofs.Common.{◌≡◌, ◌∙◌, sym, ap, ℕ, ◌==◌, List, [], ◌∷◌, ◌++◌, refl, false, Option, Some, None, subst}
+use Rattle.std.proofs.Common.{◌≡◌, ◌⊎◌, inl, inr, ◌∙◌, sym, ap, ℕ, ◌==◌, List, [], ◌∷◌, ◌++◌, refl, false, Option, Some, None, subst}
 use Rattle.std.proofs.lemmas.Bool.{eqb-true}
-use Rattle.pulsar_laws.proofs.ActWords.{Act, Batch, Comes, Does, Draw, Flush, OfTopic, PassTurn, Remake, Rings, Shut, StopAll, Store, TakeBatch, TakeTurn, Who, turn_of, TopicAsk}
+use Rattle.pulsar_laws.proofs.ActWords.{Act, Batch, Comes, Does, Draw, Flush, OfMulti, OfTopic, PassTurn, Remake, Rings, Shut, StopAll, Store, TakeBatch, TakeTurn, Who, turn_of, TopicAsk}
 use Rattle.pulsar_laws.proofs.RunWords.{chosen_same, Entry, IsRun, Options, room_of, Then, view, View, In, rules, Each, each_append, each_either, each_map, each_when}
 use Rattle.pulsar_laws.proofs.LinkWords.{rings}
 use Rattle.pulsar_producer.specs.Topic as topic
-use Rattle.pulsar_outgoing.specs.Storage.{limits_of}
 use Rattle.pulsar_producer.specs.Topic.{Act as Deed, Closes, Halts, Seen, Setup, Passes, Draws, Remakes, Stores, Cuts, TakesBatch, Takes, Flushes}
 use Rattle.pulsar_outgoing.specs.declared.multi_topic.Taker.TheVariants as taker
 use Rattle.pulsar_calls.specs.declared.content.Remaking.{Remaking}
@@ -18,7 +17,10 @@ use Rattle.pulsar_laws.proofs.producers.Drawing.{Every, Drawn, joins_new, born_j
 use Rattle.pulsar_run.specs.Things.{row_by, row_after, along, since_act}
 use Rattle.pulsar_run.proofs.Things.{row_stays, alone}
 use Rattle.pulsar_acts.specs.Things.{topics}
-use Rattle.pulsar_acts.specs.View.{topic_born, asked_of}
+use Rattle.pulsar_acts.specs.View.{topic_born, asked_of, multi_at}
+use Rattle.pulsar_producer_table.specs.MultiAsks.{removed_by}
+use Rattle.pulsar_outgoing.specs.declared.multi_topic.Multi.{Multi}
+use Rattle.pulsar_outgoing.specs.declared.multi_topic.MultiAsk.{MultiAsk}
 
 -- what acts make of one, the newest first
 abbrev pub all_after : List Deed → Seen → Seen
@@ -43,7 +45,7 @@ pub topics_alone_lem : TopicsAlone
 topics_alone_lem o log n t run h =
     let a = alone rules topics topics_keep o log n t h in
     let j = born_joins (view o a.is_born.older) a.is_born.act n a.at_first a.is_born.is_born in
-    let limits : Limits = limits_of j.building.settings in
+    let limits : Limits = j.limits in
     let s : Setup = record { built = j.is_new.built; first_number = o.chosen.first_number; limits = limits } in (
       j.is_new.built,
       limits,
@@ -65,7 +67,7 @@ module _ (o : Options) (log : List Entry) (k : Every (Drawn o) log) (n : ℕ) (t
       by None e = refl
       by (Some u) e =
           let j = born_joins (view o log) a n u e in
-          absurd (joins_new o log k j.who j.verdict j.building n t j.makes (subst (λ (x : Act). IsRun o (Then x ∷ log)) j.is_act run) j.is_new.listed h)
+          absurd (joins_new o log k a n u t run j h)
 
   pub row_along : (seen.after a (view o log)).producers.topics n ≡ Some (along topic_after (topic_acts (view o log) n a) t)
   row_along = ap (λ b. row_after topic_after b false (topic_acts (view o log) n a) ((view o log).producers.topics n)) born_none
@@ -98,7 +100,7 @@ CameFrom n a (Stores t e) = (who : Who) × (a ≡ Does who (OfTopic n (Store e))
 CameFrom n a (Flushes t) = (who : Who) × (a ≡ Does who (OfTopic n Flush)) × (t ≡ turn_of who)
 CameFrom n a TakesBatch = (who : Who) × (a ≡ Does who (OfTopic n TakeBatch))
 CameFrom n a Cuts = a ≡ Comes (Rings (Batch n))
-CameFrom n a Closes = (who : Who) × (t : ℕ) × (a ≡ Does who (Shut t))
+CameFrom n a Closes = (who : Who) × (((t : ℕ) × (a ≡ Does who (Shut t))) ⊎ ((m : Multi) × (ask : MultiAsk) × (a ≡ Does who (OfMulti m ask))))
 CameFrom n a Halts = (who : Who) × (a ≡ Does who StopAll)
 
 ask_came : (v : View) (who : Who) (n : ℕ) (ask : TopicAsk) → Each (CameFrom n (Does who (OfTopic n ask))) (asked_of v who n ask).acts
@@ -111,11 +113,10 @@ ask_came v who n Flush = ((who, refl, refl), tt)
 ask_came v who n TakeBatch = ((who, refl), tt)
 ask_came v who n _ = tt
 
-shut_came : (who : Who) (t n : ℕ) (ns : List ℕ) → Each (CameFrom n (Does who (Shut t))) (shut_by n ns)
-shut_came who t n [] = tt
-shut_came who t n (m ∷ ns) =
-    let k = shut_came who t n ns in
-    each_either (CameFrom n (Does who (Shut t))) (n == m) (topic.Closes ∷ shut_by n ns) (shut_by n ns) ((who, t, refl), k) k
+shut_came : (n : ℕ) (a : Act) → CameFrom n a topic.Closes → (ns : List ℕ) → Each (CameFrom n a) (shut_by n ns)
+shut_came n a is [] = tt
+shut_came n a is (m ∷ ns) =
+    let k = shut_came n a is ns in each_either (CameFrom n a) (n == m) (topic.Closes ∷ shut_by n ns) (shut_by n ns) (is, k) k
 
 pub came_from : (v : View) (n : ℕ) (a : Act) → Each (CameFrom n a) (topic_acts v n a)
 came_from v n (Does who (OfTopic m ask)) =
@@ -125,7 +126,8 @@ came_from v n (Comes (Rings (Batch m))) =
     each_when (CameFrom n (Comes (Rings (Batch m)))) (n == m) (rung_by (rings v.now (Batch m) v.alarms)) []
     (λ e. each_either (CameFrom n (Comes (Rings (Batch m)))) (rings v.now (Batch m) v.alarms) (topic.Cuts ∷ []) []
     (ap (λ k. Comes (Rings (Batch k))) (sym (eqb-true n m e)), tt) tt) (λ e. tt)
-came_from v n (Does who (Shut t)) = shut_came who t n (numbers_at (v.producers.built t))
+came_from v n (Does who (Shut t)) = shut_came n (Does who (Shut t)) (who, inl (t, refl)) (numbers_at (v.producers.built t))
+came_from v n (Does who (OfMulti m ask)) = shut_came n (Does who (OfMulti m ask)) (who, inr (m, ask, refl)) (removed_by ask (multi_at v m))
 came_from v n (Does who StopAll) = ((who, refl), tt)
 came_from v n _ = tt
 

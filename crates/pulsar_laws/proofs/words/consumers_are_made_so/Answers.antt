@@ -15,7 +15,7 @@ batch_is false c = refl
 
 pub returns-clause-made : goal.returns-clause-made
 returns-clause-made c = record {
-  built = λ j. refl;
+  built = λ key j. refl;
   raw = λ s. (refl, refl, refl, refl, refl, refl, refl);
   sizes = λ s. (queue_is s.config.options.receiver_queue_size, batch_is s.is_raw s.config);
 }

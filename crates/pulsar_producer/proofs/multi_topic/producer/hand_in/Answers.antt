@@ -13,7 +13,7 @@ returns-in_ok-dispatch-in-Some-clause-after c =
     let written = c.get_mut.follows.holds c.dispatch.new.self in
     ap (map named) written.0
     ∙ routed_is c.args.topic.now c.args.message c.dispatch.new.self c.in-Some.producer.now _ (sym c.in-Some.ensures.value)
-        c.in_ok-dispatch-in-Some.ensures.after
+    c.in_ok-dispatch-in-Some.ensures.after
 
 pub returns-in-None-clause-given : goal.returns-in-None-clause-given
 returns-in-None-clause-given c = ap (λ p. taken_by p c.args.advice c.args.message) (c.in-None.ensures.value ∙ found_is c.args.topic.now _)

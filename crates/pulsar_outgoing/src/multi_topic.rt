@@ -23,8 +23,13 @@ pub enum Multi {
 pub enum Taker {
     /// The call of this ticket.
     Call(u64),
-    /// The copy of a dead letter, for the topic consumer of this number. The key tells it from others that have had the number.
-    Copy { consumer: u64, key: u64 },
+    /// The copy of a dead letter, for the topic consumer of this number, which the call of this ticket built. The key tells it from others that
+    /// have had both.
+    Copy {
+        consumer: u64,
+        ticket: u64,
+        key: u64,
+    },
 }
 
 /// A message as its user gave it, in a box.

@@ -32,7 +32,7 @@ all_placed P t (x ∷ xs) p ps = by (beside t x) (all_placed P t xs p ps.1)
 
 all_queued : (P : Taker → Type 0) (t : Taker) (xs : List Taker) → P t → AllByRecursion P xs → AllByRecursion P (queued t xs)
 all_queued P (Call t) xs p ps = all_placed P t xs p ps
-all_queued P (Copy consumer key) xs p ps = all_append P xs (Copy consumer key ∷ []) ps (p, tt)
+all_queued P (Copy consumer ticket key) xs p ps = all_append P xs (Copy consumer ticket key ∷ []) ps (p, tt)
 
 -- WHAT IS SO OF THEM: T of those that wait for the turn, and P of what is stored
 

@@ -48,7 +48,7 @@ above_more k x (y ∷ ys) lt all = let up = all.0 in (omega (arith, lt, up), abo
 
 above_placed : (t k : ℕ) (xs : List Taker) → t < k → AreAbove t (tickets xs) → AreAbove t (tickets (placed k xs))
 above_placed t k [] lt all = (lt, tt)
-above_placed t k (Copy consumer key ∷ xs) lt all = above_placed t k xs lt all
+above_placed t k (Copy consumer ticket key ∷ xs) lt all = above_placed t k xs lt all
 above_placed t k (Call x ∷ xs) lt all = by (nat_lt k x) (k == x) (above_placed t k xs lt all.1)
   where
     by : (a b : Bool) → AreAbove t (tickets (placed k xs))
@@ -59,7 +59,7 @@ above_placed t k (Call x ∷ xs) lt all = by (nat_lt k x) (k == x) (above_placed
 
 ascend_placed : (k : ℕ) (xs : List Taker) → Ascend (tickets xs) → Ascend (tickets (placed k xs))
 ascend_placed k [] all = (tt, tt)
-ascend_placed k (Copy consumer key ∷ xs) all = ascend_placed k xs all
+ascend_placed k (Copy consumer ticket key ∷ xs) all = ascend_placed k xs all
 ascend_placed k (Call x ∷ xs) all = by (nat_lt k x) refl (k == x) refl (ascend_placed k xs all.1)
   where
     by : (a : Bool) → nat_lt k x ≡ a → (b : Bool) → (k == x) ≡ b → Ascend (tickets (placed k xs))
@@ -71,16 +71,16 @@ ascend_placed k (Call x ∷ xs) all = by (nat_lt k x) refl (k == x) refl (ascend
 tickets_append : (xs ys : List Taker) → tickets (xs ++ ys) ≡ tickets xs ++ tickets ys
 tickets_append [] ys = refl
 tickets_append (Call t ∷ xs) ys = ap (λ ts. t ∷ ts) (tickets_append xs ys)
-tickets_append (Copy consumer key ∷ xs) ys = tickets_append xs ys
+tickets_append (Copy consumer ticket key ∷ xs) ys = tickets_append xs ys
 
 ascend_queued : (t : Taker) (xs : List Taker) → Ascend (tickets xs) → Ascend (tickets (queued t xs))
 ascend_queued (Call t) xs all = ascend_placed t xs all
-ascend_queued (Copy consumer key) xs all = subst Ascend (sym (tickets_append xs (Copy consumer key ∷ []) ∙ append-nil (tickets xs))) all
+ascend_queued (Copy consumer ticket key) xs all = subst Ascend (sym (tickets_append xs (Copy consumer ticket key ∷ []) ∙ append-nil (tickets xs))) all
 
 ascend_rest : (xs : List Taker) → Ascend (tickets xs) → Ascend (tickets (rest_of xs))
 ascend_rest [] all = tt
 ascend_rest (Call x ∷ xs) all = all.1
-ascend_rest (Copy consumer key ∷ xs) all = all
+ascend_rest (Copy consumer ticket key ∷ xs) all = all
 
 takes_ascend : (o : Option Taker) (t : Taker) (v : Seen) → Ascend (tickets v.waiting) → Ascend (tickets (takes_in o t v).waiting)
 takes_ascend None t v all = all
@@ -101,7 +101,7 @@ rises s (act ∷ h) = rises_after act (seen s h) (rises s h)
 lowest : (ts : List Taker) (t : ℕ) → Rises ts → first_of ts ≡ Some (Call t) → AreAbove t (tickets (rest_of ts)) × (ts ≡ Call t ∷ rest_of ts)
 lowest [] t all is = absurd cc
 lowest (Call u ∷ us) t all is = let same : u ≡ t = cc in (subst (λ k. AreAbove k (tickets us)) same all.0, ap (λ k. Call k ∷ us) same)
-lowest (Copy consumer key ∷ us) t all is = absurd cc
+lowest (Copy consumer ticket key ∷ us) t all is = absurd cc
 
 pub lowest_is_next : LowestIsNext
 lowest_is_next s h t is = lowest (seen s h).waiting t (rises s h) is
@@ -121,11 +121,11 @@ or_true false b e = e
 
 same_taker : (t : Taker) → is_taker t t ≡ true
 same_taker (Call t) = eq-eqb t t refl
-same_taker (Copy consumer key) = ap (λ b. b && (key == key)) (eq-eqb consumer consumer refl) ∙ eq-eqb key key refl
+same_taker (Copy consumer ticket key) = ap (λ b. b && (key == key)) (eq-eqb consumer consumer refl) ∙ eq-eqb key key refl
 
 listed_placed : (t : ℕ) (xs : List Taker) → is_listed (Call t) (placed t xs) ≡ true
 listed_placed t [] = ap (λ b. b || false) (eq-eqb t t refl)
-listed_placed t (Copy consumer key ∷ xs) = listed_placed t xs
+listed_placed t (Copy consumer ticket key ∷ xs) = listed_placed t xs
 listed_placed t (Call x ∷ xs) = by (nat_lt t x) (t == x) refl (listed_placed t xs)
   where
     by : (a b : Bool) → (t == x) ≡ b → is_listed (Call t) (placed t xs) ≡ true
@@ -140,7 +140,7 @@ listed_last t (x ∷ xs) = or_true (is_taker t x) (is_listed t (xs ++ t ∷ []))
 
 listed_new : (t : Taker) (xs : List Taker) → is_listed t (queued t xs) ≡ true
 listed_new (Call t) xs = listed_placed t xs
-listed_new (Copy consumer key) xs = listed_last (Copy consumer key) xs
+listed_new (Copy consumer ticket key) xs = listed_last (Copy consumer ticket key) xs
 
 taken_waits : (o : Option Taker) (t : Taker) (v : Seen) → is_none o ≡ false → is_listed t (takes_in o t v).waiting ≡ true
 taken_waits None t v e = absurd cc
@@ -220,11 +220,11 @@ below_append t (x ∷ xs) ys all = below_append t xs ys all.1
 -- what has come so far rises, and a call that comes is above all of it
 came_before : (t : Taker) (ts : List Taker) → Ascend (tickets (ts ++ t ∷ [])) → Ascend (tickets ts)
 came_before (Call t) ts all = (ascend_last t (tickets ts) (subst Ascend (tickets_append ts (Call t ∷ [])) all)).0
-came_before (Copy consumer key) ts all = subst Ascend (tickets_append ts (Copy consumer key ∷ []) ∙ append-nil (tickets ts)) all
+came_before (Copy consumer ticket key) ts all = subst Ascend (tickets_append ts (Copy consumer ticket key ∷ []) ∙ append-nil (tickets ts)) all
 
 -- so it goes behind those who wait
 goes_last : (t : Taker) (gone ws ts : List Taker) → gone ++ ws ≡ ts → Ascend (tickets (ts ++ t ∷ [])) → queued t ws ≡ ws ++ t ∷ []
-goes_last (Copy consumer key) gone ws ts is all = refl
+goes_last (Copy consumer ticket key) gone ws ts is all = refl
 goes_last (Call t) gone ws ts is all =
     let below : AreBelow t (tickets ts) = (ascend_last t (tickets ts) (subst Ascend (tickets_append ts (Call t ∷ [])) all)).1 in
     placed_last t ws (below_append t (tickets gone) (tickets ws) (subst (AreBelow t) (sym (ap tickets is) ∙ tickets_append gone ws) below))

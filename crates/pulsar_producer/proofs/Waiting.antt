@@ -15,7 +15,7 @@ AreBelow t (u ∷ us) = (u < t) × AreBelow t us
 
 pub placed_last : (t : ℕ) (ws : List Taker) → AreBelow t (tickets ws) → placed t ws ≡ ws ++ Call t ∷ []
 placed_last t [] all = refl
-placed_last t (Copy consumer key ∷ ws) all = ap (λ ts. Copy consumer key ∷ ts) (placed_last t ws all)
+placed_last t (Copy consumer ticket key ∷ ws) all = ap (λ ts. Copy consumer ticket key ∷ ts) (placed_last t ws all)
 placed_last t (Call u ∷ ws) all = by (nat_lt t u) refl (t == u) refl (placed_last t ws all.1)
   where
     lt : u < t
@@ -30,7 +30,7 @@ placed_last t (Call u ∷ ws) all = by (nat_lt t u) refl (t == u) refl (placed_l
 below : (t g : ℕ) (ws : List Taker) → g < t → AreAtMost g ws → AreBelow t (tickets ws)
 below t g [] lt all = tt
 below t g (Call u ∷ ws) lt all = let most = all.0 in (omega (arith, lt, most), below t g ws lt all.1)
-below t g (Copy consumer key ∷ ws) lt all = below t g ws lt all
+below t g (Copy consumer ticket key ∷ ws) lt all = below t g ws lt all
 
 pub placed_above : (t g : ℕ) (ws : List Taker) → g < t → AreAtMost g ws → placed t ws ≡ ws ++ Call t ∷ []
 placed_above t g ws lt all = placed_last t ws (below t g ws lt all)
@@ -39,16 +39,16 @@ placed_above t g ws lt all = placed_last t ws (below t g ws lt all)
 pub most_last : (t g : ℕ) (ws : List Taker) → g < t → AreAtMost g ws → AreAtMost t (ws ++ Call t ∷ [])
 most_last t g [] lt all = (omega arith, tt)
 most_last t g (Call u ∷ ws) lt all = let most = all.0 in (omega (arith, lt, most), most_last t g ws lt all.1)
-most_last t g (Copy consumer key ∷ ws) lt all = most_last t g ws lt all
+most_last t g (Copy consumer ticket key ∷ ws) lt all = most_last t g ws lt all
 
-pub most_copy : (consumer key g : ℕ) (ws : List Taker) → AreAtMost g ws → AreAtMost g (ws ++ Copy consumer key ∷ [])
-most_copy consumer key g [] all = tt
-most_copy consumer key g (Call u ∷ ws) all = (all.0, most_copy consumer key g ws all.1)
-most_copy consumer key g (Copy other more ∷ ws) all = most_copy consumer key g ws all
+pub most_copy : (consumer ticket key g : ℕ) (ws : List Taker) → AreAtMost g ws → AreAtMost g (ws ++ Copy consumer ticket key ∷ [])
+most_copy consumer ticket key g [] all = tt
+most_copy consumer ticket key g (Call u ∷ ws) all = (all.0, most_copy consumer ticket key g ws all.1)
+most_copy consumer ticket key g (Copy other made more ∷ ws) all = most_copy consumer ticket key g ws all
 
 pub most_placed : (t g : ℕ) (ws : List Taker) → t ≤ g → AreAtMost g ws → AreAtMost g (placed t ws)
 most_placed t g [] le all = (le, tt)
-most_placed t g (Copy consumer key ∷ ws) le all = most_placed t g ws le all
+most_placed t g (Copy consumer ticket key ∷ ws) le all = most_placed t g ws le all
 most_placed t g (Call u ∷ ws) le all = by (nat_lt t u) (t == u) (most_placed t g ws le all.1)
   where
     by : (a b : Bool) → AreAtMost g (placed t ws)

@@ -89,7 +89,7 @@ AreAbove t (u ∷ us) = (t < u) × AreAbove t us
 abbrev pub tickets : List Taker → List ℕ
 tickets [] = []
 tickets (Call t ∷ ts) = t ∷ tickets ts
-tickets (Copy consumer key ∷ ts) = tickets ts
+tickets (Copy consumer ticket key ∷ ts) = tickets ts
 
 -- The turn is passed on to the first of those that wait, and that one waits no longer. Where that is a call, its ticket is the lowest of the
 -- calls that wait.
@@ -104,9 +104,9 @@ FirstIsNext = (s : Setup) (h : List Act) (t : Taker) → next_holder (seen s h) 
 -- who waits: those that wanted their turn and have not got it
 abbrev pub is_taker : Taker → Taker → Bool
 is_taker (Call t) (Call u) = t == u
-is_taker (Call t) (Copy consumer key) = false
-is_taker (Copy consumer key) (Call u) = false
-is_taker (Copy consumer key) (Copy other more) = (consumer == other) && (key == more)
+is_taker (Call t) (Copy consumer ticket key) = false
+is_taker (Copy consumer ticket key) (Call u) = false
+is_taker (Copy consumer ticket key) (Copy other made more) = (consumer == other) && (key == more)
 
 abbrev pub is_listed : Taker → List Taker → Bool
 is_listed t ts = list_any (λ u. is_taker t u) ts

@@ -10,7 +10,7 @@ use Rattle.pulsar_outgoing.specs.declared.multi_topic.Taker.TheVariants.{Call, C
 -- a ticket beside that of one that waits; it is behind each copy
 abbrev pub beside : (ticket : ℕ) → Taker → Ordering
 beside t (Call u) = nat_cmp t u
-beside t (Copy consumer key) = Greater
+beside t (Copy consumer ticket key) = Greater
 
 -- a call goes before the first one of a greater ticket, and it waits once
 abbrev pub placed : (ticket : ℕ) → List Taker → List Taker
@@ -20,13 +20,13 @@ placed t (u ∷ us) = match_ordering (beside t u) (Call t ∷ u ∷ us) (u ∷ u
 -- one more waits
 abbrev pub queued : Taker → List Taker → List Taker
 queued (Call t) ts = placed t ts
-queued (Copy consumer key) ts = ts ++ Copy consumer key ∷ []
+queued (Copy consumer ticket key) ts = ts ++ Copy consumer ticket key ∷ []
 
 -- no call among these has a greater ticket
 abbrev pub AreAtMost : ℕ → List Taker → Type 0
 AreAtMost g [] = Unit {0}
 AreAtMost g (Call t ∷ ts) = (t ≤ g) × AreAtMost g ts
-AreAtMost g (Copy consumer key ∷ ts) = AreAtMost g ts
+AreAtMost g (Copy consumer ticket key ∷ ts) = AreAtMost g ts
 
 -- who is next, and who waits behind that one
 abbrev pub first_of : List Taker → Option Taker

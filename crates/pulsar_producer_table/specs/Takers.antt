@@ -9,9 +9,9 @@ use Rattle.pulsar_calls.specs.Who.{in_turn}
 
 abbrev pub who_of : Taker → Who
 who_of (taker.Call ticket) = Call ticket
-who_of (taker.Copy consumer key) = Consumer consumer key
+who_of (taker.Copy consumer ticket key) = Consumer consumer ticket
 
 -- at the topic producer of a number, whose batches take their turn behind all tickets
 abbrev pub who_at : (number : ℕ) → Taker → Who
 who_at n (taker.Call turn) = in_turn n turn
-who_at n (taker.Copy consumer key) = Consumer consumer key
+who_at n (taker.Copy consumer ticket key) = Consumer consumer ticket

@@ -13,9 +13,13 @@ pub(crate) fn who_of(taker: Taker) -> Who
 {
     match taker {
         Taker::Call(ticket) => Who::Call(ticket),
-        Taker::Copy { consumer, key } => Who::Consumer {
+        Taker::Copy {
+            consumer,
+            ticket,
+            ..
+        } => Who::Consumer {
             number: consumer,
-            ticket: key,
+            ticket,
         },
     }
 }
@@ -26,9 +30,13 @@ pub(crate) fn who_at(number: u64, taker: Taker) -> Who
 {
     match taker {
         Taker::Call(turn) => in_turn(number, turn),
-        Taker::Copy { consumer, key } => Who::Consumer {
+        Taker::Copy {
+            consumer,
+            ticket,
+            ..
+        } => Who::Consumer {
             number: consumer,
-            ticket: key,
+            ticket,
         },
     }
 }

@@ -139,7 +139,11 @@ fn a_close_removes_the_producer(rt: HostRuntime) -> Result<(), Fail> {
 }
 
 fn copy(key: u64) -> Taker {
-    Taker::Copy { consumer: 1, key }
+    Taker::Copy {
+        consumer: 1,
+        ticket: 2,
+        key,
+    }
 }
 
 #[test]

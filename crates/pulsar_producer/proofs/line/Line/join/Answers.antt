@@ -9,4 +9,4 @@ invariant_of-self-in-Copy c =
     let i = c.self.inside in
     subst (AreAtMost i.greatest) (sym c.in_ok-push_back-in-Copy.ensures.items)
     (subst (λ (t : Taker). AreAtMost i.greatest (i.waiting.items ++ t ∷ [])) (sym c.in-Copy.is)
-    (most_copy c.in-Copy.consumer c.in-Copy.key i.greatest i.waiting.items c.self.invariant))
+    (most_copy c.in-Copy.consumer c.in-Copy.ticket c.in-Copy.key i.greatest i.waiting.items c.self.invariant))

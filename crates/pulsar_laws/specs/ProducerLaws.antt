@@ -365,7 +365,7 @@ HasTurn v who n = (row : Topic) × (v.producers.topics n ≡ Some row) × (row.s
 -- who waits behind the one that has the turn next: all have greater tickets; nobody takes a turn for a copy
 abbrev pub AreBehind : Taker → List Taker → Type 0
 AreBehind (taker.Call t) left = AreAbove t (tickets left)
-AreBehind (taker.Copy consumer key) left = ⊥
+AreBehind (taker.Copy consumer ticket key) left = ⊥
 
 -- The turn is passed on by the one that has it, to the lowest ticket of those that wait, which is told so.
 abbrev pub PassedInTurn : Type 0

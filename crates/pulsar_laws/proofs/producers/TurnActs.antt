@@ -398,4 +398,4 @@ in_last t x (y ∷ ys) (inr h) = elim (in_last t x ys h) [ inl i ↦ inl (inr i)
 
 pub in_queued : (t x : Taker) (xs : List Taker) → In t (queued x xs) → In t xs ⊎ (t ≡ x)
 in_queued t (taker.Call k) xs h = in_placed t k xs h
-in_queued t (taker.Copy consumer key) xs h = in_last t (taker.Copy consumer key) xs h
+in_queued t (taker.Copy consumer ticket key) xs h = in_last t (taker.Copy consumer ticket key) xs h

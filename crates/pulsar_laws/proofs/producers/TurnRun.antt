@@ -346,8 +346,8 @@ above_not x [] h i = i
 above_not x (taker.Call y ∷ xs) h (inl e) = let lt : x < y = h.0 in let q : x ≡ y = cc in absurd
     (let f : 1 ≤ 0 = omega (arith, lt, q) in (let g : ⊥ = omega (arith, f) in g))
 above_not x (taker.Call y ∷ xs) h (inr i) = above_not x xs h.1 i
-above_not x (taker.Copy consumer key ∷ xs) h (inl e) = absurd cc
-above_not x (taker.Copy consumer key ∷ xs) h (inr i) = above_not x xs h i
+above_not x (taker.Copy consumer ticket key ∷ xs) h (inl e) = absurd cc
+above_not x (taker.Copy consumer ticket key ∷ xs) h (inr i) = above_not x xs h i
 
 -- the first of those that wait is the lowest
 lowest : (o : Options) (log : List Entry) (n : ℕ) (row : Topic) (x : ℕ) (xs : List Taker) → IsRun o log → (view o log).producers.topics n ≡ Some row →
@@ -490,13 +490,13 @@ module _ (o : Options) (log : List Entry) (who : Who) (n : ℕ) (run : IsRun o (
   }
 
   -- a copy has it now: neither a call nor a topic producer is told of that
-  module _ (consumer key : ℕ) (xs : List Taker) (e : row.seen.waiting ≡ taker.Copy consumer key ∷ xs) where
+  module _ (consumer ticket key : ℕ) (xs : List Taker) (e : row.seen.waiting ≡ taker.Copy consumer ticket key ∷ xs) where
     abbrev copy_note : Notice
-    copy_note = turn_notice n (taker.Copy consumer key, row.seen.given.version)
+    copy_note = turn_notice n (taker.Copy consumer ticket key, row.seen.given.version)
 
     pends_copy : (w : Who) → pending o log w + turn_note w copy_note ≡ pending o (Then pass ∷ log) w
     pends_copy w =
-        let p = told_next (Some (taker.Copy consumer key, row.seen.given.version)) (passed_as (taker.Copy consumer key ∷ xs) e) w in omega (arith, p)
+        let p = told_next (Some (taker.Copy consumer ticket key, row.seen.given.version)) (passed_as (taker.Copy consumer ticket key ∷ xs) e) w in omega (arith, p)
 
     copy_call : (u : ℕ) → pending o log (Call u) ≡ pending o (Then pass ∷ log) (Call u)
     copy_call u = let p = pends_copy (Call u) in let z : turn_note (Call u) copy_note ≡ 0 = refl in omega (arith, p, z)
@@ -649,7 +649,7 @@ module _ (o : Options) (log : List Entry) (who : Who) (n : ℕ) (run : IsRun o (
   pass_turns : (ts : List Taker) → row.seen.waiting ≡ ts → AllTurns o (Then pass ∷ log)
   pass_turns [] e = none_waits e
   pass_turns (taker.Call x ∷ xs) e = next_turns x xs e
-  pass_turns (taker.Copy consumer key ∷ xs) e = copy_turns consumer key xs e
+  pass_turns (taker.Copy consumer ticket key ∷ xs) e = copy_turns consumer ticket key xs e
 
 -- ALONG A LOG
 
@@ -710,7 +710,7 @@ turns_run o (Then a ∷ log) run = let k = turns_run o log run.0 in (then_turns 
 behind : (o : Options) (log : List Entry) (n : ℕ) (row : Topic) (next : Taker) (left : List Taker) → IsRun o log →
     (view o log).producers.topics n ≡ Some row → row.seen.waiting ≡ next ∷ left → (ticket : ℕ) × (next ≡ taker.Call ticket) → AreBehind next left
 behind o log n row (taker.Call t) left run is e k = lowest o log n row t left run is e
-behind o log n row (taker.Copy consumer key) left run is e k = absurd (let no : taker.Copy consumer key ≡ taker.Call k.0 = k.1 in cc)
+behind o log n row (taker.Copy consumer ticket key) left run is e k = absurd (let no : taker.Copy consumer ticket key ≡ taker.Call k.0 = k.1 in cc)
 
 pub passed_in_turn_lem : PassedInTurn
 passed_in_turn_lem o log who n run =

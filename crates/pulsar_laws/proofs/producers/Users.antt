@@ -53,7 +53,7 @@ build_alone _ = refl
 -- a turn is taken by a ticket, and for no copy
 abbrev pub TakerSo : (ℕ → Type 0) → Taker → Type 0
 TakerSo T (taker.Call t) = T t
-TakerSo T (taker.Copy consumer key) = ⊥
+TakerSo T (taker.Copy consumer ticket key) = ⊥
 
 module _ (T P : ℕ → Type 0) where
   abbrev ItemSo : Item → Type 0
@@ -267,7 +267,7 @@ any_log (Then a ∷ log) = (any_does a, any_log log)
 
 pub has_ticket : (t : Taker) → TakerSo Any t → (ticket : ℕ) × (t ≡ taker.Call ticket)
 has_ticket (taker.Call ticket) so = (ticket, refl)
-has_ticket (taker.Copy consumer key) so = absurd so
+has_ticket (taker.Copy consumer ticket key) so = absurd so
 
 pub waits_by_ticket : (o : Options) (n : ℕ) (t : Taker) (log : List Entry) (row : Topic) → IsRun o log → (view o log).producers.topics n ≡ Some row →
     In t row.seen.waiting → (ticket : ℕ) × (t ≡ taker.Call ticket)

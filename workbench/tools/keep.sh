@@ -5,7 +5,7 @@ cd /work/main || exit 1
 heads=""
 add() { git fetch -q "$1" "$2" 2>/dev/null || return; h=$(git rev-parse FETCH_HEAD); git merge-base --is-ancestor $h HEAD || heads="$heads $h"; }
 for b in tenth eleventh; do add /work/h/trans $b; done
-for d in /work/h/wb /work/l/letters /work/l/multis /work/l/calls4 /work/l/letters3 /work/l/multis /work/l/laws /work/l/measure /work/l/client; do
+for d in /work/h/wb /work/l/crates39 /work/l/others39 /work/l/laws39 /work/l/bars /work/l/wrong; do
   [ -d $d/.git ] || continue
   add $d HEAD
 done

@@ -524,7 +524,7 @@ serving w n service.Redelivering u = redelivered_rests
 -- THE COPIES OF ITS DEAD LETTERS
 
 copying : (w : Ways) (t : List ℕ) (s : CopyState) (u : Outcome) (x : PlanTransition) → CopyTo w t s u x → ToldTo (Copying w t s) u x
-copying w t s u (Stays (Copying w t q) a) (copies_on k) = copies_go k
+copying w t s u _ (copies_on k) = copies_go k
 
 -- ALL
 

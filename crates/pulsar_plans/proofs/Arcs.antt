@@ -523,8 +523,8 @@ serving w n service.Redelivering u = redelivered_rests
 
 -- THE COPIES OF ITS DEAD LETTERS
 
-copying : (w : Ways) (t : List ℕ) (s : CopyState) (u : Outcome) (x : PlanTransition) → CopyTo w t s u x → ToldTo (Copying w t s) u x
-copying w t s u (Stays (Copying w t q) a) (copies_on k) = copies_go k
+copying : {w : Ways} {t : List ℕ} {s : CopyState} {u : Outcome} {x : PlanTransition} → CopyTo w t s u x → ToldTo (Copying w t s) u x
+copying (copies_on k) = copies_go k
 
 -- ALL
 
@@ -572,7 +572,7 @@ told_arcs (Subscribing w o b) u =
     told_if (Subscribing w o b) u (overrides u) _ _ (λ h. ends _ refl) (λ h. subscribing_news w o b u (consumer_news_of u) refl)
 told_arcs (Serving w n s) u = told_if (Serving w n s) u (overrides u) _ _ (λ h. over) (λ h. serving w n s u)
 told_arcs (Copying w t s) u =
-    told_if (Copying w t s) u (overrides u) _ _ (λ h. copies_over) (λ h. copying w t s u (told_copy w t s u) (copy_arcs w t s u))
+    told_if (Copying w t s) u (overrides u) _ _ (λ h. copies_over) (λ h. copying (copy_arcs w t s u))
 told_arcs (Departing t n) (outcome.GotLink l) = departs_asks
 told_arcs (Departing t n) (outcome.Word word.Again) = departs_again
 told_arcs (Departing t n) (outcome.Word _) = ends _ refl

@@ -114,6 +114,7 @@ served_at (service.Resuming s) = Some (resumed_at s.command s.resuming)
 served_at (service.Reviving link) = None
 served_at service.Failing = None
 served_at service.Closing = None
+served_at service.Redelivering = None
 
 abbrev pub multi_stage : MultiSending → Option Stage
 multi_stage (multi_send.Waiting t m) = None

@@ -347,8 +347,8 @@ pub record Flow : Type 0 where
 -- those that the plan of a consumer has asked for since its subscription was made, newest first: with another one they begin anew
 abbrev pub flows_after : View → (ticket : ℕ) → Act → List Flow → List Flow
 flows_after v t (Does who (OfConsumer (Revive l))) fs = if t == ticket_of who && is_some (v.links.live l) then [] else fs
-flows_after v t (Does (Consumer n u 0) (Ask l (words.SendFlow m p))) fs =
-    if t == u then record { place = place_of (answer_at v.now (words.SendFlow m p) (v.links.live l)); permits = p } ∷ fs else fs
+flows_after v t (Does (Consumer n u key) (Ask l (words.SendFlow m p))) fs =
+    if (key == 0) && (t == u) then record { place = place_of (answer_at v.now (words.SendFlow m p) (v.links.live l)); permits = p } ∷ fs else fs
 flows_after v t a fs = fs
 
 abbrev pub flows_since : Options → (ticket : ℕ) → List Entry → List Flow

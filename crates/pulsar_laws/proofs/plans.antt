@@ -9,6 +9,7 @@ pub mod Owned
 pub mod Batched
 pub mod Stores
 pub mod AtOnce
+pub mod MultiDeeds
 pub mod Standing
 pub mod Takers
 pub mod Fitting

@@ -1,4 +1,5 @@
 pub mod Left
+pub mod Doing
 pub mod Consuming
 pub mod Wording
 pub mod Natures

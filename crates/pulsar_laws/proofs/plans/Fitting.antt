@@ -17,7 +17,8 @@ use Rattle.pulsar_producer.specs.declared.sending.Sending.TheVariants as send
 use Rattle.pulsar_calls.specs.declared.act.Outcome.TheVariants as outcome
 use Rattle.pulsar_calls.specs.declared.act.Procedure.TheVariants as procedure
 use Rattle.pulsar_plans.specs.declared.plan.At.TheVariants as at
-use Rattle.pulsar_plans.proofs.Arcs.{Arc, BatchArc, Begun, batch_cuts, batch_sends, batch_settles, batches_go, begins_send, begins_stop, builds_on, by_arcs, by_begun, part_sends, sends, taken_settles}
+use Rattle.pulsar_plans.proofs.Arcs.{Arc, BatchArc, Begun, batch_cuts, batch_sends, batch_settles, batches_go, begins_send, begins_stop, builds_on, by_arcs, by_begun, copies_go, multi_goes, part_sends, sends, taken_settles}
+use Rattle.pulsar_laws.proofs.plans.Doing.{IsCommon, copy_does, multi_does}
 use Rattle.pulsar_producer.proofs.Arcs.{BuildArc, SendArc, draws, naming_rests, queued, sent_rests}
 
 -- where it stands: it tells that it was queued, or leaves behind what it tells, or is stored; it holds what it is told of at once, or stores it; or
@@ -172,6 +173,9 @@ build_own : {w : Ways} {o : ProducerOrder} {b q : Build} {y : News} {d : Deed} �
 build_own naming_rests = refl
 build_own _ = refl
 
+common_own : IsCommon (λ a. is_own a ≡ true)
+common_own = record { gets = λ at. refl; asks = λ l request. refl; waits = λ delay. refl; numbers = refl; rests = refl; builds = λ k. build_own k }
+
 batch_fits : {w : Ways} {e : Errand} {b q : Batches} {y : News} {d : Deed} → BatchArc w e b y q d → fits (spot (Batching w e q)) (action_of d) ≡ true
 batch_fits (batch_sends k) = send_own k
 batch_fits (taken_settles {items} c f) = reports_settle (reports c f (map member_of items))
@@ -184,6 +188,8 @@ arc_fits (sends d k) = send_own k
 arc_fits (part_sends {h} d k b) = part_fits h k b
 arc_fits (batches_go d k) = batch_fits k
 arc_fits (batch_cuts rs i b) = reports_settle rs
+arc_fits (multi_goes {m} d k) = multi_does (λ a. is_own a ≡ true) common_own m (λ ask. refl) k
+arc_fits (copies_go k) = copy_does (λ a. is_own a ≡ true) common_own (λ ask. refl) (λ ask. refl) (λ n. refl) (λ x. send_own x) k
 arc_fits _ = refl
 
 pub told_fits : (plan : Plan) (u : Outcome) → Fits (told plan u)

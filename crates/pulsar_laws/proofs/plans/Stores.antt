@@ -22,7 +22,8 @@ use Rattle.pulsar_producer_table.specs.Producers.{Producers, advice, batches_in,
 use Rattle.pulsar_acts.specs.Rules.{call_part}
 use Rattle.pulsar_laws.proofs.plans.Granted.{BeginsSo, does_from, in_each}
 use Rattle.pulsar_laws.proofs.calls.Made.{calls_are_made_lem}
-use Rattle.pulsar_plans.proofs.Arcs.{Arc, BatchArc, Begun, StaysSo, batch_sends, batches_go, begins_storing, builds_on, by_begun, part_sends, sends as sends_on, stays_by}
+use Rattle.pulsar_plans.proofs.Arcs.{Arc, BatchArc, Begun, StaysSo, batch_sends, batches_go, begins_storing, builds_on, by_begun, copies_go, multi_goes, part_sends, sends as sends_on, stays_by}
+use Rattle.pulsar_laws.proofs.plans.Doing.{IsCommon, copy_does, multi_does}
 use Rattle.pulsar_producer.proofs.Arcs.{BuildArc, SendArc, draws, naming_rests}
 use Rattle.pulsar_laws.proofs.plans.Consuming.{humble_call, is_humble}
 
@@ -45,11 +46,16 @@ batch_none : {w : Ways} {e : Errand} {b q : Batches} {y : News} {d : Deed} → B
 batch_none (batch_sends k) = send_none k
 batch_none _ = refl
 
+common_none : IsCommon (λ a. is_store a ≡ false)
+common_none = record { gets = λ at. refl; asks = λ l request. refl; waits = λ delay. refl; numbers = refl; rests = refl; builds = λ k. build_none k }
+
 arc_none : {p q : Plan} {u : Outcome} {a : Action} → Arc p u q a → is_store a ≡ false
 arc_none (builds_on d k) = build_none k
 arc_none (sends_on d k) = send_none k
 arc_none (part_sends d k b) = send_none k
 arc_none (batches_go d k) = batch_none k
+arc_none (multi_goes {m} d k) = multi_does (λ a. is_store a ≡ false) common_none m (λ ask. refl) k
+arc_none (copies_go k) = copy_does (λ a. is_store a ≡ false) common_none (λ ask. refl) (λ ask. refl) (λ n. refl) (λ x. send_none x) k
 arc_none _ = refl
 
 pub told_none : (plan : Plan) (u : Outcome) → StaysSo NoStore (told plan u)

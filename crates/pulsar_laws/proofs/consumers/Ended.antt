@@ -158,7 +158,7 @@ deed_end (Copied key now) m = after_ends (IsCopied key now) m.seen
 deed_end (CopyLost key now) m = after_ends (FailsCopy key now) m.seen
 deed_end (IsForgotten id) m = after_ends (Forgets id) m.seen
 deed_end (IsChecked now) m = after_ends (Checks now) m.seen
-deed_end ClientStops m = sym (or_false (is_ended (after (Over Stopped) m.seen))) ∙ after_ends (Over Stopped) m.seen
+deed_end ClientStops m = after_ends (Over Stopped) m.seen
 
 or_next : (a b c : Bool) → ((a || b) || c) ≡ (a || (b || c))
 or_next true b c = refl

@@ -224,7 +224,7 @@ mutes_give s (x ∷ xs) h k =
 frame_mute : (now l : ℕ) (r : Reply) (s : Seen) → Each IsMute (frame_does now l r s)
 frame_mute now l r s =
     each_either IsMute (is_body 9 r.content.body) (cond (lives_on l s) (Hears l (frame_in r) ∷ IsAt now ∷ []) []) _
-    (each_either IsMute (lives_on l s) (Hears l (frame_in r) ∷ IsAt now ∷ []) [] (tt, tt, tt) tt)
+    (each_either IsMute (lives_on l s) (Hears l (frame_in r) ∷ IsAt now ∷ []) [] (tt, (tt, tt)) tt)
     (each_either IsMute (is_body 27 r.content.body) (cond (lives_on l s) (Over TopicEnded ∷ []) []) _
     (each_either IsMute (lives_on l s) (Over TopicEnded ∷ []) [] (tt, tt) tt)
     (each_either IsMute (is_body 16 r.content.body) (Loses l ∷ []) [] (tt, tt) tt))
@@ -243,7 +243,7 @@ loss_mute l (Some cause) = (tt, tt)
 
 subscription_mute : (now l : ℕ) (url : Option Parts) → Each IsMute (subscription_does now l url)
 subscription_mute now l None = tt
-subscription_mute now l (Some url) = (tt, tt, tt)
+subscription_mute now l (Some url) = (tt, (tt, tt))
 
 abbrev pub is_poll : Act → Bool
 is_poll (Comes (Polls t)) = true
@@ -266,7 +266,7 @@ does_mute v t m a e h = did_so (λ xs s. Each IsMute xs) (λ s. tt) (λ xs ys s 
     one (CopyLost key now) c n = (tt, tt)
     one (IsForgotten id) c n = (tt, tt)
     one (IsChecked now) c n = (tt, tt)
-    one ClientStops c n = (tt, tt, tt)
+    one ClientStops c n = (tt, (tt, tt))
 
 -- an effect of a poll gives what the poll gives
 poll_item : (t : ℕ) (topic : List ℕ) (item : Option Arrived) (why : Option Ending) →

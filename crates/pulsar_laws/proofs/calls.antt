@@ -4,7 +4,6 @@ pub mod Sources
 pub mod Made
 pub mod Begun
 pub mod Same
-pub mod Keying
 pub mod Settled
 pub mod Slow
 pub mod Done

@@ -1,4 +1,6 @@
 pub mod Left
+pub mod Doing
+pub mod Drawn
 pub mod Consuming
 pub mod Wording
 pub mod Natures
@@ -9,7 +11,6 @@ pub mod Owned
 pub mod Batched
 pub mod Stores
 pub mod AtOnce
-pub mod MultiDeeds
 pub mod Standing
 pub mod Takers
 pub mod Fitting

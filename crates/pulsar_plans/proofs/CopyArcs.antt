@@ -38,7 +38,9 @@ use Rattle.pulsar_searches.specs.declared.turn.Ways.{Ways}
 use Rattle.pulsar_wire.specs.Failures.{Failure}
 
 pub data CopyArc (w : Ways) (t : List ℕ) : CopyState → Outcome → CopyState → Action → Type 0 where
-  copy_rests : {s : CopyState} {u : Outcome} → CopyArc w t s u s Rest
+  resting_rests : {u : Outcome} → CopyArc w t Resting u Resting Rest
+  taking_rests : {u : Outcome} → CopyArc w t Taking u Taking Rest
+  settling_rests : {u : Outcome} → CopyArc w t Settling u Settling Rest
   due_takes : CopyArc w t Resting (outcome.Word word.CopyDue) Taking (OfConsumer TakeCopy)
   letter_hands : {m : ProducerMessageValues} →
       CopyArc w t Taking (outcome.Word (word.Letter m)) (Handing (multi_send.Waiting t m)) (OfMulti Own TakeMultiTurn)
@@ -84,16 +86,16 @@ module _ (w : Ways) (t : List ℕ) where
 
   pub copy_arcs : (s : CopyState) (u : Outcome) → CopyTo w t s u (told_copy w t s u)
   copy_arcs Resting (outcome.Word word.CopyDue) = copies_on due_takes
-  copy_arcs Resting (outcome.Word _) = copies_on copy_rests
-  copy_arcs Resting _ = copies_on copy_rests
+  copy_arcs Resting (outcome.Word _) = copies_on resting_rests
+  copy_arcs Resting _ = copies_on resting_rests
   copy_arcs Taking (outcome.Word (word.Letter m)) = copies_on letter_hands
   copy_arcs Taking (outcome.Word word.NoLetter) = copies_on no_letter_rests
-  copy_arcs Taking (outcome.Word _) = copies_on copy_rests
-  copy_arcs Taking _ = copies_on copy_rests
+  copy_arcs Taking (outcome.Word _) = copies_on taking_rests
+  copy_arcs Taking _ = copies_on taking_rests
   copy_arcs (Handing s) u = handing s u (multi.multi_send_told w s (multi_news_of u)) (multi_send_arcs w s (multi_news_of u))
   copy_arcs (Sending e s) u = sending e s u (produce.send_told w e s (news_of u)) refl (send_arcs w e s (news_of u))
   copy_arcs Settling (outcome.Word (word.Asks l request)) = copies_on settled_asks
   copy_arcs Settling (outcome.Word word.NoAsk) = copies_on settled_rests
-  copy_arcs Settling (outcome.Word _) = copies_on copy_rests
-  copy_arcs Settling _ = copies_on copy_rests
+  copy_arcs Settling (outcome.Word _) = copies_on settling_rests
+  copy_arcs Settling _ = copies_on settling_rests
   copy_arcs Asking u = copies_on asked_rests

@@ -35,6 +35,7 @@ use Rattle.pulsar_laws.proofs.Cases.{none_some, some_is}
 use Rattle.pulsar_laws.proofs.Lists.{in_right, into_flat}
 use Rattle.pulsar_laws.proofs.consumers.Lone.{applied, applied_append, arrival_done, did_so, joins_here, none_after, subscription_done}
 use Rattle.pulsar_laws.proofs.calls.Same.{same_self}
+use Rattle.pulsar_laws.proofs.plans.Drawn.{called_rest, left_rest, numbered_rest}
 use Rattle.pulsar_laws.proofs.consumers.Members.{CameFrom, after_number, lost_gone, row_made}
 use Rattle.pulsar_laws.specs.ConsumerLaws.{does_to, subscription_does}
 use Rattle.pulsar_laws.proofs.consumers.Deeds.{deed_does}
@@ -62,47 +63,13 @@ in_kept t u (x ∷ xs) i = by (nat_lt u x) (u == x) i (in_kept t u xs)
     by false false (inl e) k = inl e
     by false false (inr i) k = inr (k i)
 
--- what remains where only numbers are taken and named: the tickets, and the key that is drawn next
-abbrev pub rest_of : Consumers → List ℕ × ℕ
-rest_of cs = (cs.tickets, cs.next_key)
-
-names_rest : (number : Option ℕ) (cs : Consumers) → rest_of (names_in number cs) ≡ rest_of cs
-names_rest None cs = refl
-names_rest (Some number) cs = refl
-
-opened_rest : (asked : Asked) (cs : Consumers) → rest_of (opened_on asked cs) ≡ rest_of cs
-opened_rest (content.Raw l words) cs = names_rest (named_consumer words) cs
-opened_rest _ cs = refl
-
-pub called_rest : (lacks is_open : Bool) (asked : Asked) (cs : Consumers) → rest_of (cond lacks cs (called_on is_open asked cs)) ≡ rest_of cs
-called_rest true is_open asked cs = refl
-called_rest false true asked cs = opened_rest asked cs
-called_rest false false asked cs = refl
-
-drew_rest : (free : ℕ) (wanted : Option ℕ) (cs : Consumers) → rest_of (drew free wanted cs) ≡ rest_of cs
-drew_rest free None cs = refl
-drew_rest free (Some n) cs = refl
-
-holds_rest : (t : ℕ) (x : Numbering) (cs : Consumers) → rest_of (holds t x cs) ≡ rest_of cs
-holds_rest t (Has n) cs = refl
-holds_rest t InUse cs = refl
-holds_rest t Spent cs = refl
-
-pub numbered_rest : (t : ℕ) (wanted : Option ℕ) (cs : Consumers) → rest_of (numbered t wanted cs) ≡ rest_of cs
-numbered_rest t wanted cs = drew_rest (next_free cs) wanted (holds t (numbering cs wanted) cs) ∙ holds_rest t (numbering cs wanted) cs
-
-pub left_rest : (who : Who) (cs : Consumers) → rest_of (consumers_left who cs) ≡ rest_of cs
-left_rest (Call t) cs = refl
-left_rest (Consumer n t) cs = refl
-left_rest (Producer n) cs = refl
-
 module _ (t : ℕ) where
   abbrev Has' : Consumers → Type 0
   Has' cs = In t cs.tickets
 
   listed_has : (who : Who) (cs : Consumers) → Has' cs → Has' (listed_as who cs)
   listed_has (Call u) cs h = in_kept t u cs.tickets h
-  listed_has (Consumer n u) cs h = h
+  listed_has (Consumer n u key) cs h = h
   listed_has (Producer n) cs h = h
 
   made_has : (who : Who) (x : Makes) (cs : Consumers) → Has' cs → Has' (consumers_listed who x cs)
@@ -135,7 +102,7 @@ module _ (t : ℕ) where
     | inl e ↦ inr (subst (λ x. In t (insert_key nat_cmp cs.tickets x)) (eqb-true t u e) (in_new t cs.tickets))
     | inr e ↦ inl (rw e at h)
   ]
-  joins_new (Consumer k u) m n cs h = inl h
+  joins_new (Consumer k u key) m n cs h = inl h
   joins_new (Producer k) m n cs h = inl h
 
   made_new : (live : ℕ → Option Seat) (who : Who) (x : Makes) (n : Member) (cs : Consumers) →
@@ -239,7 +206,7 @@ falls_due v t m a w h = did_so Falls (λ s k. k) (λ xs ys s q p k. q (p (ap is_
 -- WHERE ONE FALLS DUE its plan is told so
 
 abbrev pub due_to_plan : (number ticket : ℕ) → Act
-due_to_plan n t = Told (record { who = Consumer n t; outcome = outcome.Word word.Due })
+due_to_plan n t = Told (record { who = Consumer n t 0; outcome = outcome.Word word.Due })
 
 told_in : (n : Notice) (ns : List Notice) → In n ns → In (Told n) (map Told ns)
 told_in n [] i = absurd i
@@ -409,7 +376,7 @@ made_due_so v t who verdict n none is h =
           (sym (eqb-true t u same)) e) h)
       | inr other ↦ old (rw other at e)
     ]
-    joined_by (Consumer k u) j made e = old e
+    joined_by (Consumer k u key) j made e = old e
     joined_by (Producer k) j made e = old e
 
     raw_by : (who : Who) (l : ℕ) (made : Subscribed) → row_made (Some (member_on v.links.live l (reader.of_raw made))) who t (v.consumers.rows t) ≡ Some n →
@@ -420,7 +387,7 @@ made_due_so v t who verdict n none is h =
           absurd (raw_none v.links.live l made (ap (λ (x : Member). is_due x.seen) (some_is it) ∙ h)))
       | inr other ↦ old (rw other at e)
     ]
-    raw_by (Consumer k u) l made e = old e
+    raw_by (Consumer k u key) l made e = old e
     raw_by (Producer k) l made e = old e
 
     by : (x : Makes) → verdict.makes ≡ x → row_made (member_made v.links.live v.consumers.next_key x) who t (v.consumers.rows t) ≡ Some n →

@@ -126,7 +126,7 @@ born_none v t (Answers who verdict) other = by (member_made v.links.live v.consu
     by : (m : Option Member) (who : Who) → is_same (Call t) who ≡ false → member_of m who t ≡ None
     by None who h = refl
     by (Some m) (Call u) h = ap (λ b. cond b (Some m) None) (apart_call t u h)
-    by (Some m) (Consumer n u) h = refl
+    by (Some m) (Consumer n u key) h = refl
     by (Some m) (Producer n) h = refl
 born_none v t a other = refl
 
@@ -201,7 +201,7 @@ pub data RowFrom (o : Options) (log : List Entry) (a : Act) (t : ℕ) : Type 0 w
 
 pub joins_here : (who : Who) (m : Member) (row : Option Member) (t : ℕ) → is_same (Call t) who ≡ true → row_made (Some m) who t row ≡ Some m
 joins_here (Call u) m row t h = let e : (t == u) ≡ true = (and_parts (t == u) (t == u) h).0 in rw e refl
-joins_here (Consumer n u) m row t h = absurd cc
+joins_here (Consumer n u key) m row t h = absurd cc
 joins_here (Producer n) m row t h = absurd cc
 
 module _ (o : Options) (log : List Entry) (t : ℕ) where

@@ -58,7 +58,7 @@ born_joins v (Answers who verdict) t m h = by (member_made v.links.live v.consum
           record { verdict = verdict; is_act = ap (λ x. Answers (Call x) verdict) (sym (eqb-true t u q)); makes = e ∙ is })
       | inr q ↦ (let is : None ≡ Some m = rw q at k in absurd cc)
     ]
-    by (Some n) e (Consumer j u) k = absurd cc
+    by (Some n) e (Consumer j u key) k = absurd cc
     by (Some n) e (Producer j) k = absurd cc
 born_joins v a t m h = absurd cc
 

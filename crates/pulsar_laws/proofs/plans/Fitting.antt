@@ -3,7 +3,7 @@
 -- reported once it is queued.
 use Rattle.std.proofs.Common.{◌≡◌, ℕ, List, ◌∷◌, map, refl, Bool, true, false, ◌&&◌, Option, Some, None, []}
 use Rattle.pulsar_laws.proofs.ActWords.{Action, Ask, Find, Notice, OfTopic, Outcome, PassTurn, Procedure, Share, Shut, StopAll, Store, TakeBatch, Tell, TellAll}
-use Rattle.pulsar_laws.proofs.PlanWords.{action_of, Batches, Batching, begins, BuildingProducer as Build, Deed, Errand, Fate, Gives, Leaving, News, Plan, PlanTransition, ProducerOrder, Reporting, Sending as Send, Stays, Stored, Storing, told, told_to, Wish, verdict, Visiting, Ways}
+use Rattle.pulsar_laws.proofs.PlanWords.{action_of, Batches, Batching, begins, BuildingProducer as Build, Deed, Errand, Fate, Gives, Leaving, News, Plan, PlanTransition, ProducerOrder, Reporting, Sending as Send, Stays, Stored, Storing, told, told_to, verdict, Visiting, Ways}
 use Rattle.pulsar_producer.specs.Batching.{is_sent_send}
 use Rattle.pulsar_frame.specs.Batch.{EntryValues}
 use Rattle.pulsar_outgoing.specs.Batch.{member_of, reports}
@@ -17,17 +17,8 @@ use Rattle.pulsar_producer.specs.declared.sending.Sending.TheVariants as send
 use Rattle.pulsar_calls.specs.declared.act.Outcome.TheVariants as outcome
 use Rattle.pulsar_calls.specs.declared.act.Procedure.TheVariants as procedure
 use Rattle.pulsar_plans.specs.declared.plan.At.TheVariants as at
-use Rattle.pulsar_plans.proofs.Arcs.{Arc, BatchArc, Begun, batch_cuts, batch_sends, batch_settles, batches_go, begins_send, begins_stop, builds_on, by_arcs, by_begun, copies_go, multi_goes, multi_sends, part_sends, sends, taken_settles}
-use Rattle.pulsar_plans.proofs.CopyArcs.{CopyArc}
-use Rattle.pulsar_plans.proofs.MultiArcs.{MultiSendArc}
-use Rattle.pulsar_plans.specs.Plan.{multi_action_of, wished}
-use Rattle.pulsar_plans.specs.declared.copying.CopyState.{CopyState}
-use Rattle.pulsar_outgoing.specs.declared.multi_topic.Multi.{Multi}
-use Rattle.pulsar_producer.specs.declared.multi_topic.deed.MultiDeed.{MultiDeed}
-use Rattle.pulsar_producer.specs.declared.multi_topic.deed.MultiNews.{MultiNews}
-use Rattle.pulsar_producer.specs.declared.multi_topic.sending.MultiSending.{MultiSending as MultiSend}
-use Rattle.pulsar_searches.specs.declared.turn.Action.TheVariants as wish
-use Rattle.pulsar_laws.proofs.plans.MultiDeeds.{copy_does, multi_does}
+use Rattle.pulsar_plans.proofs.Arcs.{Arc, BatchArc, Begun, batch_cuts, batch_sends, batch_settles, batches_go, begins_send, begins_stop, builds_on, by_arcs, by_begun, copies_go, multi_goes, part_sends, sends, taken_settles}
+use Rattle.pulsar_laws.proofs.plans.Doing.{IsCommon, copy_does, multi_does}
 use Rattle.pulsar_producer.proofs.Arcs.{BuildArc, SendArc, draws, naming_rests, queued, sent_rests}
 
 -- where it stands: it tells that it was queued, or leaves behind what it tells, or is stored; it holds what it is told of at once, or stores it; or
@@ -182,26 +173,14 @@ build_own : {w : Ways} {o : ProducerOrder} {b q : Build} {y : News} {d : Deed} �
 build_own naming_rests = refl
 build_own _ = refl
 
+common_own : IsCommon (λ a. is_own a ≡ true)
+common_own = record { gets = λ at. refl; asks = λ l request. refl; waits = λ delay. refl; numbers = refl; rests = refl; builds = λ k. build_own k }
+
 batch_fits : {w : Ways} {e : Errand} {b q : Batches} {y : News} {d : Deed} → BatchArc w e b y q d → fits (spot (Batching w e q)) (action_of d) ≡ true
 batch_fits (batch_sends k) = send_own k
 batch_fits (taken_settles {items} c f) = reports_settle (reports c f (map member_of items))
 batch_fits (batch_settles {ms} {c} f) = reports_settle (reports c f ms)
 batch_fits _ = refl
-
-own_wish : (a : Wish) → is_own (wished a) ≡ true
-own_wish (wish.Get p) = refl
-own_wish (wish.Ask l request) = refl
-own_wish (wish.Wait delay) = refl
-
-abbrev IsOwnDeed : Action → Type 0
-IsOwnDeed a = is_own a ≡ true
-
-multi_own : {w : Ways} {s q : MultiSend} {y : MultiNews} {d : MultiDeed} (m : Multi) → MultiSendArc w s y q d → is_own (multi_action_of m d) ≡ true
-multi_own m k = multi_does IsOwnDeed (λ n ask. refl) own_wish refl refl (λ x. build_own x) m k
-
-copy_own : {w : Ways} {t : List ℕ} {s q : CopyState} {u : Outcome} {a : Action} → CopyArc w t s u q a → is_own a ≡ true
-copy_own k =
-    copy_does IsOwnDeed (λ n ask. refl) own_wish refl refl (λ x. build_own x) (λ x. send_own x) (λ ask. refl) (λ n. refl) (λ l request. refl) k
 
 arc_fits : {p q : Plan} {u : Outcome} {a : Action} → Arc p u q a → fits (spot q) a ≡ true
 arc_fits (builds_on d k) = build_own k
@@ -209,10 +188,8 @@ arc_fits (sends d k) = send_own k
 arc_fits (part_sends {h} d k b) = part_fits h k b
 arc_fits (batches_go d k) = batch_fits k
 arc_fits (batch_cuts rs i b) = reports_settle rs
-arc_fits (multi_goes {m} d k) = multi_own m k
-arc_fits (multi_sends {share = None} k) = refl
-arc_fits (multi_sends {share = Some h} k) = refl
-arc_fits (copies_go k) = copy_own k
+arc_fits (multi_goes {m} d k) = multi_does (λ a. is_own a ≡ true) common_own m (λ ask. refl) k
+arc_fits (copies_go k) = copy_does (λ a. is_own a ≡ true) common_own (λ ask. refl) (λ ask. refl) (λ n. refl) (λ x. send_own x) k
 arc_fits _ = refl
 
 pub told_fits : (plan : Plan) (u : Outcome) → Fits (told plan u)

@@ -1,64 +1,58 @@
--- What begins for a consumer is the plan that serves it, or the one that copies its dead letters; and for a topic producer that of its own batches. And
--- what the plan of one is and does, where its procedure begins so and each outcome keeps it.
-use Rattle.std.proofs.Common.{◌≡◌, ◌⊎◌, inl, inr, ◌∙◌, sym, ap, subst, ℕ, ◌<◌, ◌≤◌, arith, List, [], ◌∷◌, refl, Bool, true, false, cond, Option, Some, None}
+-- What begins for a consumer is the plan that serves it, and for a topic producer that of its own batches. And what the plan of one is and does,
+-- where its procedure begins so and each outcome keeps it.
+use Rattle.std.proofs.Common.{◌≡◌, ◌⊎◌, inl, inr, ◌∙◌, sym, ap, subst, ℕ, ◌≤◌, arith, List, [], ◌∷◌, refl, Bool, true, false, cond, Option, Some, None}
 use Rattle.std.proofs.lemmas.Bool.{cases_Bool}
-use Rattle.pulsar_laws.proofs.ActWords.{Act, Action, Answers, Call, Consumer, Does, is_same, OfMulti, Outcome, Procedure, Producer, Starts, Told, Who}
+use Rattle.pulsar_laws.proofs.ActWords.{Act, Action, Answers, Call, Consumer, is_same, Outcome, Procedure, Producer, Starts, Told, Who}
 use Rattle.pulsar_laws.proofs.PlanWords.{begins, Gives, Plan, PlanTransition, Stays, told, Ways}
 use Rattle.pulsar_laws.proofs.RunWords.{agenda, at_once, Begins, begun_same, counted, Each, each_append, each_first, each_map, each_rest, Entry, is_served, IsRun, notice, Options, rest, start_of, started, stays, stays_some, Then, told_some, view, View, ways_of}
 use Rattle.pulsar_calls.specs.declared.act.Procedure.TheVariants as procedure
 use Rattle.pulsar_client.proofs.Raising.{IsRaised, raises}
 use Rattle.pulsar_laws.proofs.Cases.{none_some}
-use Rattle.pulsar_laws.proofs.plans.AtOnce.{once_each, performs_once}
+use Rattle.pulsar_laws.proofs.plans.Drawn.{next, positive}
 use Rattle.pulsar_laws.proofs.plans.Left.{left_each}
 use Rattle.pulsar_laws.proofs.calls.Same.{same_self, same_who}
-use Rattle.pulsar_laws.proofs.calls.Keying.{key_positive}
 
 -- WHAT BEGINS
 
 abbrev pub OwnBatches : ℕ → Procedure → Type 0
 OwnBatches n p = (w : Ways) × (block : Bool) × (p ≡ procedure.Batch w (record { producer = n; block = block }))
 
--- the plan of a consumer itself has the key 0, and that of the copies another
+-- of a consumer: the one with no key serves it, and the others copy its dead letters
 abbrev pub OwnService : (number key : ℕ) → Procedure → Type 0
-OwnService n k p =
-    ((w : Ways) × (p ≡ procedure.Serve w n) × (k ≡ 0)) ⊎ ((w : Ways) × (topic : List ℕ) × (p ≡ procedure.Copy w topic) × (0 < k))
+OwnService n key p =
+    ((key ≡ 0) × (w : Ways) × (p ≡ procedure.Serve w n)) ⊎ ((1 ≤ key) × (w : Ways) × (topic : List ℕ) × (p ≡ procedure.Copy w topic))
 
 abbrev pub IsOwn : Act → Type 0
 IsOwn (Starts (Producer n) p) = OwnBatches n p
-IsOwn (Starts (Consumer n t k) p) = OwnService n k p
+IsOwn (Starts (Consumer n t key) p) = OwnService n key p
 IsOwn _ = Unit {0}
 
 served_own : (a : Act) → is_served a ≡ true → IsOwn a
 served_own (Starts who p) h = absurd cc
 served_own _ h = tt
 
-abbrev begins_others : Act → Bool
-begins_others (Answers who verdict) = true
-begins_others (Does who (OfMulti m ask)) = true
-begins_others _ = false
+abbrev is_verdict : Act → Bool
+is_verdict (Answers who verdict) = true
+is_verdict _ = false
 
-raised_own : (a b : Act) → begins_others a ≡ false → IsRaised a b → IsOwn b
+raised_own : (a b : Act) → is_verdict a ≡ false → IsRaised a b → IsOwn b
 raised_own (Answers who verdict) b other h = absurd cc
-raised_own (Does who (OfMulti m ask)) b other h = absurd cc
 raised_own a (Starts (Producer n) p) other h = absurd cc
-raised_own a (Starts (Consumer n t k) p) other h = absurd cc
+raised_own a (Starts (Consumer n t key) p) other h = absurd cc
 raised_own a _ other h = tt
 
-once_own : (v : View) (a : Act) → 0 < v.consumers.next_key → Each IsOwn (at_once v a)
-once_own v (Answers who verdict) pos =
-    left_each IsOwn (ways_of v.chosen) v.consumers.next_key who verdict.makes (λ w e s. (w, e.block, refl)) (λ w n t s. inl (w, refl, refl))
-    (λ w n t topic s. inr (w, topic, refl, pos))
-once_own v (Does who (OfMulti m ask)) pos =
-    once_each IsOwn (λ u k b. tt) (λ p. tt) (λ l. tt) (λ w e s. (w, e.block, refl)) (performs_once v who (OfMulti m ask))
-once_own v a pos = each_map (IsRaised a) IsOwn (at_once v a) (λ b. raised_own a b refl) (raises v a)
+once_own : (v : View) (a : Act) → 1 ≤ next v → Each IsOwn (at_once v a)
+once_own v (Answers who verdict) key =
+    left_each IsOwn (ways_of v.chosen) (next v) who verdict.makes (λ w e s. (w, e.block, refl)) (λ w n t s. inl (refl, w, refl))
+    (λ w n t topic s. inr (key, w, topic, refl))
+once_own v a key = each_map (IsRaised a) IsOwn (at_once v a) (λ b. raised_own a b refl) (raises v a)
 
 own_due : (o : Options) (log : List Entry) → IsRun o log → Each IsOwn (agenda o log).now
 own_due o [] run = tt
 own_due o (Begins e ∷ log) run = tt
 own_due o (Then a ∷ log) run =
     let g = agenda o log in
-    each_append IsOwn (at_once (view o log) a) (rest g).now (once_own (view o log) a (key_positive o log))
-    (each_rest IsOwn g.now g.here g.behind g.parts (own_due o log run.0))
+    each_append IsOwn (at_once (view o log) a) (rest g).now (once_own (view o log) a (positive o log)) (each_rest IsOwn g.now g.here g.behind g.parts (own_due o log run.0))
 
 pub starts_so : (o : Options) (log : List Entry) (who : Who) (p : Procedure) → IsRun o (Then (Starts who p) ∷ log) → IsOwn (Starts who p)
 starts_so o log who p run =

@@ -1,5 +1,6 @@
 pub mod Left
 pub mod Doing
+pub mod Drawn
 pub mod Consuming
 pub mod Wording
 pub mod Natures

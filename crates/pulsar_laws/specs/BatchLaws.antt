@@ -379,11 +379,19 @@ BringsEntry o x e older =
     (asked : Asked) × (sent : ℕ × List ProducerMessageValues) × (m : ProducerMessageValues)
     × (e ≡ Then (Comes (call_part o.policies (view o older) asked))) × (sent_by asked ≡ Some sent) × In m sent.1 × (entry_of m ≡ Some x)
 
--- A call stores its own message, in the step in which it is made, as the first thing that it does.
+-- a producer of many topics has handed its message on, to be stored so, and its turn there is over
+abbrev pub IsHandedOn : Options → (ticket number : ℕ) → EntryValues → List Entry → Type 0
+IsHandedOn o t n x log =
+    (u : Outcome) × (older : List Entry) × (w : Ways) × (m : Multi) × (share : Option Share) × (log ≡ Then (Told (notice (Call t) u)) ∷ older)
+    × ((view o older).stand (Call t) ≡ Some (plan.MultiSending w m share (multi_send.Passing (Ok (dispatch.Store n x)))))
+
+-- A call stores its own message, in the step in which it is made, as the first thing that it does; or, where a producer of many topics takes its
+-- message, right behind its turn there.
 abbrev pub StoredAtOnce : Type 0
 StoredAtOnce = (o : Options) (log : List Entry) (t n : ℕ) (x : EntryValues) → IsRun o (Then (Does (Call t) (OfTopic n (Store x))) ∷ log) →
-    (share : Option Share) × (older : List Entry) × (log ≡ Then (Starts (Call t) (procedure.Store n share x)) ∷ older)
-    × InThisStep (BringsEntry o x) older
+    ((share : Option Share) × (older : List Entry) × (log ≡ Then (Starts (Call t) (procedure.Store n share x)) ∷ older)
+    × InThisStep (BringsEntry o x) older)
+    ⊎ IsHandedOn o t n x log
 
 -- a topic producer tells a call what became of its message, with all who are in the batch (MembersAreTold)
 abbrev pub TellsFate : (ticket : ℕ) → Result (Values send_receipt) Failure → Entry → List Entry → Type 0

@@ -33,7 +33,7 @@ raised_no_stop : (a b : Act) → may OfDeed a ≡ false → may OfStart a ≡ fa
 raised_no_stop a (Does who action) d s m x h = (let f : true ≡ false = sym h ∙ d in absurd cc)
 raised_no_stop a (Starts (Call t) p) d s m x h = (let f : true ≡ false = sym h ∙ s in absurd cc)
 raised_no_stop a (Starts (Producer n) p) d s m x h = (let f : true ≡ false = sym h ∙ m in absurd cc)
-raised_no_stop a (Starts (Consumer n t) p) d s m x h = (let f : true ≡ false = sym h ∙ x in absurd cc)
+raised_no_stop a (Starts (Consumer n t key) p) d s m x h = (let f : true ≡ false = sym h ∙ x in absurd cc)
 raised_no_stop a _ d s m x h = refl
 
 no_stop_at : (s : Spot) → fits s StopAll ≡ true → ⊥

@@ -409,7 +409,7 @@ module _ (o : Options) (who : Who) (u : Outcome) (older : List Entry) where
   polled_caused t (Some m) e h =
       let k = due_there t (consumer.member_after (reader.Polls v.now) m) h in
       is_due_caused (Then (Comes (Polls t))) k.told
-      (inl (t, m, refl, (e, k.who_is ∙ ap (λ n. Consumer n t) (after_number (reader.Polls v.now) m.seen)), k.due))
+      (inl (t, m, refl, (e, k.who_is ∙ ap (λ n. Consumer n t 0) (after_number (reader.Polls v.now) m.seen)), k.due))
 
   closed_caused : (w : Who) (l : ℕ) (request : Words) → In it (over_rows (closed_at v l request) v.consumers) →
       Cause o who u (Then (Does w (Ask l request))) older
@@ -434,7 +434,7 @@ module _ (o : Options) (who : Who) (u : Outcome) (older : List Entry) where
   revived_caused w l (Some m) e h =
       let k = due_there (ticket_of w) (consumer.revived l (url_at (v.links.live l)) m) h in
       is_due_caused (Then (Does w (OfConsumer (Revive l)))) k.told
-      (inr (inl (l, w, m, refl, (e, k.who_is ∙ ap (λ n. Consumer n (ticket_of w)) (revived_number l (url_at (v.links.live l)) m)), k.due)))
+      (inr (inl (l, w, m, refl, (e, k.who_is ∙ ap (λ n. Consumer n (ticket_of w) 0) (revived_number l (url_at (v.links.live l)) m)), k.due)))
 
   built_caused : (w : Who) (verdict : Verdict) (m : Makes) → verdict.makes ≡ m → In it (made_due v.links.live v.consumers.next_key w m) →
       Cause o who u (Then (Answers w verdict)) older
@@ -448,7 +448,7 @@ module _ (o : Options) (who : Who) (u : Outcome) (older : List Entry) where
         verdict.said,
         ap (λ x. Then (Answers w (record { makes = x; said = verdict.said }))) e,
         k.who_is
-            ∙ ap (λ n. Consumer n (ticket_of w))
+            ∙ ap (λ n. Consumer n (ticket_of w) 0)
             (subscribed_number j.link url (record { seen = reader.fresh (setup_of v.consumers.next_key j); seekers = [] })),
         k.due,
       )))

@@ -71,7 +71,7 @@ part_from o log t k f run =
         let lo : x.share.of < w = x.own.3 in
         let hi : w < x.share.of + 1 + x.own.1 = x.own.4 in
         (x.own.1, now, omega (arith, of, it, lo), omega (arith, of, it, hi))
-    by newer older (Consumer n u) there r =
+    by newer older (Consumer n u key) there r =
         let d : is_modest (Tell (notice (Call t) (outcome.Parted k f))) ≡ true = server_does o older n u (Tell (notice (Call t) (outcome.Parted k f))) r in
         absurd cc
     by newer older (Producer m) there r =

@@ -123,7 +123,7 @@ Other t u = t ≡ u → ⊥
 
 turn_other : (t : ℕ) (who : Who) → is_spent t ≡ false → (Call t ≡ who → ⊥) → Other t (turn_of who)
 turn_other t (Call u) unspent other e = other (ap Call e)
-turn_other t (Consumer n u) unspent other e = let f : false ≡ true = sym unspent ∙ ap is_spent e in absurd cc
+turn_other t (Consumer n u key) unspent other e = let f : false ≡ true = sym unspent ∙ ap is_spent e in absurd cc
 turn_other t (Producer n) unspent other e = let f : false ≡ true = sym unspent ∙ ap is_spent e in absurd cc
 
 mute_does : (t : ℕ) → is_spent t ≡ false → (a : Act) → MuteBy t a → DoesSo (Other t) (Other t) a

@@ -53,7 +53,7 @@ none_in f (x ∷ xs) P none k = (λ i. none x k.0 i + none_in f xs P none k.1 i)
 
 -- a plan of batches is no call
 left_due : (f : Act → ℕ) (ways : Option Ways) (maker : Who) (makes : Makes) → ((w : Ways) (e : Errand) → f (Starts (Producer e.producer) (Batch w e)) ≡ 0) →
-    ((w : Ways) (n t : ℕ) → f (Starts (Consumer n t) (Serve w n)) ≡ 0) →
+    ((w : Ways) (n t : ℕ) → f (Starts (Consumer n t 0) (Serve w n)) ≡ 0) →
     due f (left_with ways maker makes) ≡ 0
 left_due f ways maker makes none idle =
     none_in f (left_with ways maker makes) (λ a. f a ≡ 0) (λ a h. h) (left_each (λ a. f a ≡ 0) ways maker makes (λ w e s. none w e) (λ w n t s. idle w n t))

@@ -22,7 +22,7 @@ ArePlain (x ∷ xs) = (is_plain x ≡ true) × ArePlain xs
 
 ends_plain : (who : Who) (said : Said) → ArePlain (ends who said)
 ends_plain (Call t) said = (refl, tt)
-ends_plain (Consumer n t) said = tt
+ends_plain (Consumer n t key) said = tt
 ends_plain (Producer n) said = tt
 
 connects_plain : (l : ℕ) (reached : Option (List ℕ × ℕ)) → ArePlain (connects_to l reached)

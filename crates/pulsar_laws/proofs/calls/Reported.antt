@@ -544,7 +544,7 @@ told_by o log t k f run =
         let x = tells_own o older w (parting t k f) r in
         let it : k ≡ w = x.ticket ∙ x.own.0 in
         (newer, older, there ∙ ap (λ y. newer ++ Then (Does (Call y) (Tell (parting t k f))) ∷ older) (sym it))
-    by newer older (Consumer n v) there r = let d : is_modest (Tell (parting t k f)) ≡ true = server_does o older n v (Tell (parting t k f)) r in absurd cc
+    by newer older (Consumer n v key) there r = let d : is_modest (Tell (parting t k f)) ≡ true = server_does o older n v (Tell (parting t k f)) r in absurd cc
     by newer older (Producer m) there r =
         let d = batcher_does o older m (Tell (parting t k f)) r in absurd (no_tell d.0 (parting t k f) d.1)
 

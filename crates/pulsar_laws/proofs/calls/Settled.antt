@@ -315,7 +315,7 @@ step_tells o (Then a ∷ log) t f run (inr h) = inr (step_tells o log t f run.0 
 
 abbrev spent_in : Who → Bool
 spent_in (Call t) = is_spent t
-spent_in (Consumer n t) = false
+spent_in (Consumer n t key) = false
 spent_in (Producer n) = false
 
 abbrev Ends : Options → List Entry → (ticket : ℕ) → Verdict → Type 0

@@ -238,7 +238,7 @@ module _ (o : Options) (who : Who) (u : Outcome) (older : List Entry) where
 
   by_part : (other : Who) → IsRun o (Then (Does other (Tell it)) ∷ older) → IsToldByPart who u (Then (Does other (Tell it))) older
   by_part (Call t) run = by_call t run
-  by_part (Consumer n t) run = (let f : is_modest (Tell it) ≡ true = server_does o older n t (Tell it) run in absurd cc)
+  by_part (Consumer n t key) run = (let f : is_modest (Tell it) ≡ true = server_does o older n t (Tell it) run in absurd cc)
   by_part (Producer n) run = let k = batcher_does o older n (Tell it) run in absurd (no_tell k.0 it k.1)
 
   -- A BATCH TELLS IT

@@ -266,7 +266,7 @@ join_note t u a m h k = caused_note t u m k
 joins_few : (o : Options) (log : List Entry) (t u : ℕ) (a : Act) → IsRun o (Then a ∷ log) → sum (note t u) (joins (view o log) a) ≤ tell_of u a
 joins_few o log t u (Does (Call w) (Tell n)) run =
     elim (is_same (Call t) n.who) as (λ b. cond b (part_of u n.outcome) 0 + 0 ≤ part_of u n.outcome) [ true ↦ omega arith | false ↦ omega arith ]
-joins_few o log t u (Does (Consumer m w) (Tell n)) run =
+joins_few o log t u (Does (Consumer m w key) (Tell n)) run =
     (let f : is_modest (Tell n) ≡ true = server_does o log m w (Tell n) run in absurd cc)
 joins_few o log t u (Does (Producer w) (Tell n)) run = let k = batcher_does o log w (Tell n) run in absurd (no_tell k.0 n k.1)
 joins_few o log t u a run =

@@ -212,19 +212,19 @@ start_licensed v advised asked u p l r plan h b (inr i) =
 
 abbrev IsBegun : Act → Type 0
 IsBegun (Starts (Call t) p) = MildBegun p ⊎ (is_direct p ≡ true)
-IsBegun (Starts (Consumer n t) p) = MildBegun p
+IsBegun (Starts (Consumer n t 0) p) = MildBegun p
 IsBegun (Starts (Producer n) p) = MildBegun p
 IsBegun _ = Unit {0}
 
 mild_start : (a : Act) → IsMildStart a → IsBegun a
 mild_start (Starts (Call t) p) h = inl h
-mild_start (Starts (Consumer n t) p) h = h
+mild_start (Starts (Consumer n t key) p) h = h
 mild_start (Starts (Producer n) p) h = h
 mild_start _ h = tt
 
 either_way : (who : Who) (p : Procedure) → IsBegun (Starts who p) → MildBegun p ⊎ (is_direct p ≡ true)
 either_way (Call t) p h = h
-either_way (Consumer n t) p h = inl h
+either_way (Consumer n t key) p h = inl h
 either_way (Producer n) p h = inl h
 
 may_direct : (b : Bool) (p : Procedure) → is_direct p ≡ true → MildBegun (unless_refused b p) ⊎ (is_direct (unless_refused b p) ≡ true)
@@ -261,7 +261,7 @@ raised_so : (a b : Act) → starts_some a ≡ false → IsRaised a b → IsBegun
 raised_so (Comes (Calls asked advised)) b other h = absurd cc
 raised_so (Answers who verdict) b other h = absurd cc
 raised_so a (Starts (Call t) p) other h = absurd cc
-raised_so a (Starts (Consumer n t) p) other h = absurd cc
+raised_so a (Starts (Consumer n t key) p) other h = absurd cc
 raised_so a (Starts (Producer n) p) other h = absurd cc
 raised_so a _ other h = tt
 
@@ -374,7 +374,7 @@ led_none o log who l r run b k =
 call_only : (o : Options) (older : List Entry) (who : Who) (p : Procedure) (l : ℕ) (r : Words) (plan : Plan) → IsRun o (Then (Starts who p) ∷ older) →
     begins p ≡ Stays plan (Ask l r) → is_ack r ≡ true → (t : ℕ) × (who ≡ Call t)
 call_only o older (Call t) p l r plan run e b = (t, refl)
-call_only o older (Consumer n t) p l r plan run e b = absurd (never_acks p l r plan (start_so o older (Consumer n t) p run) e b)
+call_only o older (Consumer n t key) p l r plan run e b = absurd (never_acks p l r plan (start_so o older (Consumer n t key) p run) e b)
 call_only o older (Producer n) p l r plan run e b = absurd (never_acks p l r plan (start_so o older (Producer n) p run) e b)
 
 pub acks_are_licensed_lem : AcksAreLicensed

@@ -133,10 +133,10 @@ made_ways o log who v j run made = by (deeds_follow_lem o log who (Answered v) r
 -- ALONG A LOG
 
 abbrev Starting : Options → List Entry → (number ticket : ℕ) → Type 0
-Starting o log n t = (p : Procedure) × (first (agenda o log) ≡ Some (Starts (Consumer n t) p))
+Starting o log n t = (p : Procedure) × (first (agenda o log) ≡ Some (Starts (Consumer n t 0) p))
 
 abbrev pub Standing : Options → List Entry → (number ticket : ℕ) → Type 0
-Standing o log n t = (p : Plan) × ((view o log).stand (Consumer n t) ≡ Some p) × (is_alert p ≡ true)
+Standing o log n t = (p : Plan) × ((view o log).stand (Consumer n t 0) ≡ Some p) × (is_alert p ≡ true)
 
 abbrev pub IsAlert : Options → List Entry → (number ticket : ℕ) → Type 0
 IsAlert o log n t = Starting o log n t ⊎ Standing o log n t
@@ -158,7 +158,7 @@ module _ (o : Options) (log : List Entry) (t : ℕ) where
       Starting o (Then (Answers (Call t) verdict) ∷ log) j.number t
   starts_next j verdict w made ways = (
     procedure.Serve w j.number,
-    first_at o log (Answers (Call t) verdict) (Starts (Consumer j.number t) (procedure.Serve w j.number))
+    first_at o log (Answers (Call t) verdict) (Starts (Consumer j.number t 0) (procedure.Serve w j.number))
         ((λ i. left_with (ways_of (chosen_same o log i)) (Call t) (made i)) ∙ ap (λ x. left_with x (Call t) (makes.Consumer j)) ways),
   )
 
@@ -184,7 +184,7 @@ module _ (o : Options) (log : List Entry) (t : ℕ) where
             (subst (λ n. Starting o (Then (Answers (Call t) verdict) ∷ log) n t) number (starts_next j verdict w.0 made w.1)))
         | inr d ↦ old (rw d at e)
       ]
-      joined_by (Consumer k u) j run made e = old e
+      joined_by (Consumer k u key) j run made e = old e
       joined_by (Producer k) j run made e = old e
 
       raw_is : (l : ℕ) (s : Subscribed) → member_on v.links.live l (reader.of_raw s) ≡ m → ⊥
@@ -196,7 +196,7 @@ module _ (o : Options) (log : List Entry) (t : ℕ) where
         | inl d ↦ (let same : Some (member_on v.links.live l (reader.of_raw s)) ≡ Some m = rw d at e in raw_is l s (some_is same))
         | inr d ↦ old (rw d at e)
       ]
-      raw_by (Consumer k u) l s e = old e
+      raw_by (Consumer k u key) l s e = old e
       raw_by (Producer k) l s e = old e
 
       by : (x : Makes) → verdict.makes ≡ x → row_made (member_made v.links.live v.consumers.next_key x) who t (v.consumers.rows t) ≡ Some m →
@@ -212,7 +212,7 @@ module _ (o : Options) (log : List Entry) (t : ℕ) where
 
 module _ (once : EndsOnce) (o : Options) (log : List Entry) (n t : ℕ) where
   abbrev who : Who
-  who = Consumer n t
+  who = Consumer n t 0
 
   started : (p : Procedure) → IsRun o (Then (Starts who p) ∷ log) → IsAlert o (Then (Starts who p) ∷ log) n t
   started p run =
@@ -286,16 +286,16 @@ module _ (once : EndsOnce) (o : Options) (log : List Entry) (t : ℕ) (was : Ale
       subst (λ y. IsAlert o (Then (Does y (OfConsumer (Revive j))) ∷ log) m.seen.number t) (sym s) (by x.0 (subst (λ y. IsRun o (Then (Does y (OfConsumer
       (Revive j))) ∷ log)) s run))
     where
-      by : (n : ℕ) → IsRun o (Then (Does (Consumer n t) (OfConsumer (Revive j))) ∷ log) →
-          IsAlert o (Then (Does (Consumer n t) (OfConsumer (Revive j))) ∷ log) m.seen.number t
+      by : (n : ℕ) → IsRun o (Then (Does (Consumer n t 0) (OfConsumer (Revive j))) ∷ log) →
+          IsAlert o (Then (Does (Consumer n t 0) (OfConsumer (Revive j))) ∷ log) m.seen.number t
       by n run =
-          let k : IsRevived o log (Consumer n t) j = is_revived o log (Consumer n t) j run in
-          let stood : (view o log).stand (Consumer n t) ≡ Some k.plan =
-          ap (λ y. (view o y).stand (Consumer n t)) k.is_there
-          ∙ stand_told o k.older (Consumer n t) (outcome.Replied k.reply) k.before k.plan (OfConsumer (Revive j)) k.stood k.leads in
+          let k : IsRevived o log (Consumer n t 0) j = is_revived o log (Consumer n t 0) j run in
+          let stood : (view o log).stand (Consumer n t 0) ≡ Some k.plan =
+          ap (λ y. (view o y).stand (Consumer n t 0)) k.is_there
+          ∙ stand_told o k.older (Consumer n t 0) (outcome.Replied k.reply) k.before k.plan (OfConsumer (Revive j)) k.stood k.leads in
           let r : Numbered o n t log = numbered_run once o log n t k.plan run.0 stood in
           let number : m.seen.number ≡ n = ap (λ (y : Member). y.seen.number) (some_is (sym is ∙ r.1)) ∙ r.2 in
-          inr (k.plan, ap (λ y. (view o log).stand (Consumer y t)) number ∙ stood, revived_alert k.plan k.revives)
+          inr (k.plan, ap (λ y. (view o log).stand (Consumer y t 0)) number ∙ stood, revived_alert k.plan k.revives)
 
   alert_next : (a : Act) → IsRun o (Then a ∷ log) → Alert o t (Then a ∷ log)
   alert_next a run m k is plain on = by (row_from o log t once a (consumer_ticket o (Then a ∷ log) t m run is) run)
@@ -332,7 +332,7 @@ alert_run once o (Begins e ∷ log) t run = λ m k is plain on. begun m (alert_r
     begun : (m : Member) → IsAlert o log m.seen.number t → IsAlert o (Begins e ∷ log) m.seen.number t
     begun m (inl (p, f)) = absurd (none_some (sym run.1 ∙ f))
     begun m (inr (p, stood, alert)) =
-        inr (p, ap (λ f. f (Consumer m.seen.number t)) (begun_same (λ v. v.stand) e (view o log) refl) ∙ stood, alert)
+        inr (p, ap (λ f. f (Consumer m.seen.number t 0)) (begun_same (λ v. v.stand) e (view o log) refl) ∙ stood, alert)
 alert_run once o (Then a ∷ log) t run = alert_next once o log t (alert_run once o log t run.0) a run
 
 -- IT ASKS FOR A FLOW only for a moment
@@ -356,7 +356,7 @@ asking_goes p q a u h e k = absurd cc
 
 module _ (o : Options) (n t : ℕ) where
   abbrev server : Who
-  server = Consumer n t
+  server = Consumer n t 0
 
   abbrev Asked : List Entry → ℕ → Words → Type 0
   Asked log l r = (first (agenda o log) ≡ Some (Does server (Ask l r))) ⊎ ((older : List Entry) × (log ≡ Then (Does server (Ask l r)) ∷ older))

@@ -58,7 +58,7 @@ turned_silent o (Some t) = retries_silent o t.link t.pause
 
 ends_silent : (who : Who) (said : Said) → Each IsSilent (ends who said)
 ends_silent (Call t) said = (refl, tt)
-ends_silent (Consumer n t) said = tt
+ends_silent (Consumer n t key) said = tt
 ends_silent (Producer n) said = tt
 
 connects_silent : (l : ℕ) (reached : Option (List ℕ × ℕ)) → Each IsSilent (connects_to l reached)

@@ -129,10 +129,10 @@ row_done v t a m row h e = ap (λ r. done_since v t a r h) e ∙ by a
 
 module _ (once : EndsOnce) (o : Options) (log : List Entry) (n t l m p : ℕ) (run : IsRun o log) (x : IsPlaced o log n t l m p) where
   abbrev pub told_so : Notice
-  told_so = notice (Consumer n t) (outcome.Word (word.Flow l p))
+  told_so = notice (Consumer n t 0) (outcome.Word (word.Flow l p))
 
   abbrev pub took : List Entry
-  took = Then (Does (Consumer n t) (OfConsumer TakeFlow)) ∷ x.older
+  took = Then (Does (Consumer n t 0) (OfConsumer TakeFlow)) ∷ x.older
 
   before : IsRun o x.older
   before = (subst (IsRun o) x.is_behind run).0.0
@@ -142,7 +142,7 @@ module _ (once : EndsOnce) (o : Options) (log : List Entry) (n t l m p : ℕ) (r
       ap (done_to o t) x.is_behind
       ∙ row_done (view o took) t (Told told_so) _ ((view o took).consumers.rows t) (done_to o t took)
       (asked_there o x.older n t told_so x.was_due.member x.was_due.is_there)
-      ∙ row_done (view o x.older) t (Does (Consumer n t) (OfConsumer TakeFlow)) x.was_due.member ((view o x.older).consumers.rows t)
+      ∙ row_done (view o x.older) t (Does (Consumer n t 0) (OfConsumer TakeFlow)) x.was_due.member ((view o x.older).consumers.rows t)
       (done_to o t x.older) x.was_due.is_there
       ∙ ap (λ b. (cond b (Asks ∷ []) []) ++ done_to o t x.older) (eq-eqb t t refl)
 
@@ -190,11 +190,11 @@ module _ (once : EndsOnce) (o : Options) (log : List Entry) (t : ℕ) (k : Every
 
   kept_covered : (a : Act) (l : ℕ) (s : Setup) (m : Member) → IsRun o (Then a ∷ log) → LinkFrom o log a t l → v.consumers.rows t ≡ Some m →
       made_with o t log ≡ Some s → permits_of (flows_after v t a fs) ≤ asked_since s (does_to v t m a ++ done_to o t log)
-  kept_covered (Does (Consumer n u) (Ask j (words.SendFlow m' p))) l s m run from is made = elim (cases_Bool (t == u)) [
+  kept_covered (Does (Consumer n u key) (Ask j (words.SendFlow m' p))) l s m run from is made = elim (cases_Bool (t == u)) [
     | inl d ↦
-        (let a : Act = Does (Consumer n u) (Ask j (words.SendFlow m' p)) in
-        let run2 : IsRun o (Then (Does (Consumer n t) (Ask j (words.SendFlow m' p))) ∷ log) =
-        subst (λ y. IsRun o (Then (Does (Consumer n y) (Ask j (words.SendFlow m' p))) ∷ log)) (sym (eqb-true t u d)) run in
+        (let a : Act = Does (Consumer n u 0) (Ask j (words.SendFlow m' p)) in
+        let run2 : IsRun o (Then (Does (Consumer n t 0) (Ask j (words.SendFlow m' p))) ∷ log) =
+        subst (λ y. IsRun o (Then (Does (Consumer n y 0) (Ask j (words.SendFlow m' p))) ∷ log)) (sym (eqb-true t u d)) run in
         let x : IsPlaced o log n t j m' p = is_placed once o log n t j m' p run2 in
         let old = asked_covered once o log n t j m' p run.0 x k s made in
         let more = taken_more s (does_to v t m a) (done_to o t log) (ask_new m n u j m' p) in
@@ -203,12 +203,12 @@ module _ (once : EndsOnce) (o : Options) (log : List Entry) (t : ℕ) (k : Every
         let g : permits_of (flows_after v t a fs) ≡ permits_of (new ∷ fs) = ap (λ b. permits_of (cond b (new ∷ fs) fs)) d in
         omega (arith, old, more, f, g))
     | inr d ↦
-        plain_covered (Does (Consumer n u) (Ask j (words.SendFlow m' p))) l s m run from is made
+        plain_covered (Does (Consumer n u 0) (Ask j (words.SendFlow m' p))) l s m run from is made
         (ap (λ b. cond b (record { place = place_of (answer_at v.now (words.SendFlow m' p) (v.links.live j)); permits = p } ∷ fs) fs) d)
   ]
     where
-      ask_new : (m : Member) (n u j m' p : ℕ) → makes_new (does_to v t m (Does (Consumer n u) (Ask j (words.SendFlow m' p)))) ≡ false
-      ask_new m n u j m' p = other_new v t (Does (Consumer n u) (Ask j (words.SendFlow m' p))) refl m
+      ask_new : (m : Member) (n u j m' p : ℕ) → makes_new (does_to v t m (Does (Consumer n u 0) (Ask j (words.SendFlow m' p)))) ≡ false
+      ask_new m n u j m' p = other_new v t (Does (Consumer n u 0) (Ask j (words.SendFlow m' p))) refl m
   kept_covered (Does who (OfConsumer (Revive j))) l s m run from is made = elim (cases_Bool (t == ticket_of who && is_some (v.links.live j))) [
     | inl d ↦ none_covered (flows_after v t (Does who (OfConsumer (Revive j))) fs) _ (ap (λ b. cond b [] fs) d)
     | inr d ↦ plain_covered (Does who (OfConsumer (Revive j))) l s m run from is made (ap (λ b. cond b [] fs) d)

@@ -40,6 +40,7 @@ use Rattle.pulsar_laws.proofs.Cases.{none_some, some_is}
 use Rattle.pulsar_laws.proofs.Lists.{in_right, into_flat}
 use Rattle.pulsar_laws.proofs.consumers.Lone.{applied, applied_append, arrival_done, did_so, joins_here, none_after, subscription_done}
 use Rattle.pulsar_laws.proofs.calls.Same.{same_self}
+use Rattle.pulsar_laws.proofs.plans.Drawn.{called_rest, left_rest, numbered_rest}
 use Rattle.pulsar_laws.proofs.consumers.Members.{CameFrom, after_number, lost_gone, row_made}
 use Rattle.pulsar_laws.specs.ConsumerLaws.{does_to, subscription_does}
 use Rattle.pulsar_laws.proofs.consumers.Deeds.{deed_does}
@@ -66,40 +67,6 @@ in_kept t u (x ∷ xs) i = by (nat_lt u x) (u == x) i (in_kept t u xs)
     by false true i k = i
     by false false (inl e) k = inl e
     by false false (inr i) k = inr (k i)
-
--- what remains where only numbers are taken and named: the tickets, and the key that is drawn next
-abbrev pub rest_of : Consumers → List ℕ × ℕ
-rest_of cs = (cs.tickets, cs.next_key)
-
-names_rest : (number : Option ℕ) (cs : Consumers) → rest_of (names_in number cs) ≡ rest_of cs
-names_rest None cs = refl
-names_rest (Some number) cs = refl
-
-opened_rest : (asked : Asked) (cs : Consumers) → rest_of (opened_on asked cs) ≡ rest_of cs
-opened_rest (content.Raw l words) cs = names_rest (named_consumer words) cs
-opened_rest _ cs = refl
-
-pub called_rest : (lacks is_open : Bool) (asked : Asked) (cs : Consumers) → rest_of (cond lacks cs (called_on is_open asked cs)) ≡ rest_of cs
-called_rest true is_open asked cs = refl
-called_rest false true asked cs = opened_rest asked cs
-called_rest false false asked cs = refl
-
-drew_rest : (free : ℕ) (wanted : Option ℕ) (cs : Consumers) → rest_of (drew free wanted cs) ≡ rest_of cs
-drew_rest free None cs = refl
-drew_rest free (Some n) cs = refl
-
-holds_rest : (t : ℕ) (x : Numbering) (cs : Consumers) → rest_of (holds t x cs) ≡ rest_of cs
-holds_rest t (Has n) cs = refl
-holds_rest t InUse cs = refl
-holds_rest t Spent cs = refl
-
-pub numbered_rest : (t : ℕ) (wanted : Option ℕ) (cs : Consumers) → rest_of (numbered t wanted cs) ≡ rest_of cs
-numbered_rest t wanted cs = drew_rest (next_free cs) wanted (holds t (numbering cs wanted) cs) ∙ holds_rest t (numbering cs wanted) cs
-
-pub left_rest : (who : Who) (cs : Consumers) → rest_of (consumers_left who cs) ≡ rest_of cs
-left_rest (Call t) cs = refl
-left_rest (Consumer n t key) cs = refl
-left_rest (Producer n) cs = refl
 
 module _ (t : ℕ) where
   abbrev Has' : Consumers → Type 0

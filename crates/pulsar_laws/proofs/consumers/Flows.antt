@@ -84,38 +84,38 @@ recall_so o log who (outcome.Word _) run = tt
 recall_so o log who _ run = tt
 
 -- what begins for a consumer is the plan that serves it
-pub start_serves : (o : Options) (older : List Entry) (n t : ℕ) (p : Procedure) → IsRun o (Then (Starts (Consumer n t) p) ∷ older) →
+pub start_serves : (o : Options) (older : List Entry) (n t : ℕ) (p : Procedure) → IsRun o (Then (Starts (Consumer n t 0) p) ∷ older) →
     (w : Ways) × (p ≡ procedure.Serve w n)
-start_serves o older n t p run = starts_so o older (Consumer n t) p run
+start_serves o older n t p run = starts_so o older (Consumer n t 0) p run
 
 -- what it does first is nothing, and then what it is told leads to
 module _ (o : Options) (n t : ℕ) where
-  serves_run : (log : List Entry) (plan : Plan) → IsRun o log → (view o log).stand (Consumer n t) ≡ Some plan → ServesSo n plan
+  serves_run : (log : List Entry) (plan : Plan) → IsRun o log → (view o log).stand (Consumer n t 0) ≡ Some plan → ServesSo n plan
   serves_run =
-      stands_so o (Consumer n t) (IsRun o) (run_older o) (λ log q. ServesSo n q) (λ e log q m r s k. k) begun
-      (λ log b u q a r s k e. (arc_serves n (told_arc e) k (recall_so o log (Consumer n t) u r)).0)
+      stands_so o (Consumer n t 0) (IsRun o) (run_older o) (λ log q. ServesSo n q) (λ e log q m r s k. k) begun
+      (λ log b u q a r s k e. (arc_serves n (told_arc e) k (recall_so o log (Consumer n t 0) u r)).0)
     where
-      begun : (log : List Entry) (p : Procedure) (q : Plan) (a : Action) → IsRun o (Then (Starts (Consumer n t) p) ∷ log) → begins p ≡ Stays q a → ServesSo n q
+      begun : (log : List Entry) (p : Procedure) (q : Plan) (a : Action) → IsRun o (Then (Starts (Consumer n t 0) p) ∷ log) → begins p ≡ Stays q a → ServesSo n q
       begun log p q a r e =
           let k = start_serves o log n t p r in
           let f : Stays (Serving k.0 n service.Resting) Rest ≡ Stays q a = ap begins (sym k.1) ∙ e in
           let g : Serving k.0 n service.Resting ≡ q = cc in
           subst (ServesSo n) g (refl, tt)
 
-  pub led_by : (log : List Entry) (a : Action) → IsRun o (Then (Does (Consumer n t) a) ∷ log) → (a ≡ Rest → ⊥) →
-      (k : IsLedSo o log (Consumer n t) a) × GoesSo n k.outcome k.plan a
-  led_by log a run other = elim (does_from o log (Consumer n t) a run) [ inl k ↦ absurd (begun k) | inr k ↦ (k, led k) ]
+  pub led_by : (log : List Entry) (a : Action) → IsRun o (Then (Does (Consumer n t 0) a) ∷ log) → (a ≡ Rest → ⊥) →
+      (k : IsLedSo o log (Consumer n t 0) a) × GoesSo n k.outcome k.plan a
+  led_by log a run other = elim (does_from o log (Consumer n t 0) a run) [ inl k ↦ absurd (begun k) | inr k ↦ (k, led k) ]
     where
-      begun : BeginsSo o log (Consumer n t) a → ⊥
+      begun : BeginsSo o log (Consumer n t 0) a → ⊥
       begun k =
           let is = start_serves o k.older n t k.procedure (subst (IsRun o) k.is_there run.0) in
           let f : begins (procedure.Serve is.0 n) ≡ Stays k.plan a = ap begins (sym is.1) ∙ k.leads in
           other (let e : a ≡ Rest = cc in e)
 
-      led : (k : IsLedSo o log (Consumer n t) a) → GoesSo n k.outcome k.plan a
+      led : (k : IsLedSo o log (Consumer n t 0) a) → GoesSo n k.outcome k.plan a
       led k =
-          let r : IsRun o (Then (Told (notice (Consumer n t) k.outcome)) ∷ k.older) = subst (IsRun o) k.is_there run.0 in
-          arc_serves n (told_arc k.leads) (serves_run k.older k.before r.0 k.stood) (recall_so o k.older (Consumer n t) k.outcome r)
+          let r : IsRun o (Then (Told (notice (Consumer n t 0) k.outcome)) ∷ k.older) = subst (IsRun o) k.is_there run.0 in
+          arc_serves n (told_arc k.leads) (serves_run k.older k.before r.0 k.stood) (recall_so o k.older (Consumer n t 0) k.outcome r)
 
 -- WHAT ELSE TELLS OF NO FLOW
 
@@ -147,7 +147,7 @@ no_flow l p w h e = subst NoFlowIn e h
 -- THE LAW
 
 -- where it is told of a flow it took it
-takes_so : (o : Options) (n t l p : ℕ) (e : Entry) (older : List Entry) → Cause o (Consumer n t) (outcome.Word (word.Flow l p)) e older →
+takes_so : (o : Options) (n t l p : ℕ) (e : Entry) (older : List Entry) → Cause o (Consumer n t 0) (outcome.Word (word.Flow l p)) e older →
     TakesSo o n t l p e older
 takes_so o n t l p e older (inl ((OfConsumer TakeFlow), is, said)) = (is, said)
 takes_so o n t l p e older (inl (action, is, said)) = absurd said
@@ -158,34 +158,34 @@ takes_so o n t l p e older (inr (inr (inr (inr (inl (q, k)))))) = absurd cc
 takes_so o n t l p e older (inr (inr (inr (inr (inr (q, k)))))) = absurd cc
 
 abbrev IsTaken : Options → List Entry → (n t l m p : ℕ) → Type 0
-IsTaken o log n t l m p = (older : List Entry) × (m ≡ n) × (log ≡ Then (Told (notice (Consumer n t) (outcome.Word (word.Flow l p)))) ∷ older)
+IsTaken o log n t l m p = (older : List Entry) × (m ≡ n) × (log ≡ Then (Told (notice (Consumer n t 0) (outcome.Word (word.Flow l p)))) ∷ older)
     × InThisStep (TakesSo o n t l p) older
 
 pub flows_are_taken_lem : FlowsAreTaken
 flows_are_taken_lem o log n t l m p run = by (led_by o n t log (Ask l (words.SendFlow m p)) run (λ e. absurd cc))
   where
-    by : (k : IsLedSo o log (Consumer n t) (Ask l (words.SendFlow m p))) × GoesSo n k.outcome k.plan (Ask l (words.SendFlow m p)) → IsTaken o log n t l m p
+    by : (k : IsLedSo o log (Consumer n t 0) (Ask l (words.SendFlow m p))) × GoesSo n k.outcome k.plan (Ask l (words.SendFlow m p)) → IsTaken o log n t l m p
     by (k, x) =
-        let r : IsRun o (Then (Told (notice (Consumer n t) k.outcome)) ∷ k.older) = subst (IsRun o) k.is_there run.0 in
-        let it : Then (Told (notice (Consumer n t) k.outcome)) ∷ k.older ≡ Then (Told (notice (Consumer n t) (outcome.Word (word.Flow l p)))) ∷ k.older =
-        ap (λ u. Then (Told (notice (Consumer n t) u)) ∷ k.older) x.1.1 in
-        let q : IsRun o (Then (Told (notice (Consumer n t) (outcome.Word (word.Flow l p)))) ∷ k.older) = subst (IsRun o) it r in (
+        let r : IsRun o (Then (Told (notice (Consumer n t 0) k.outcome)) ∷ k.older) = subst (IsRun o) k.is_there run.0 in
+        let it : Then (Told (notice (Consumer n t 0) k.outcome)) ∷ k.older ≡ Then (Told (notice (Consumer n t 0) (outcome.Word (word.Flow l p)))) ∷ k.older =
+        ap (λ u. Then (Told (notice (Consumer n t 0) u)) ∷ k.older) x.1.1 in
+        let q : IsRun o (Then (Told (notice (Consumer n t 0) (outcome.Word (word.Flow l p)))) ∷ k.older) = subst (IsRun o) it r in (
           k.older,
           x.1.0,
           k.is_there ∙ it,
-          step_more (Cause o (Consumer n t) (outcome.Word (word.Flow l p))) (TakesSo o n t l p) (takes_so o n t l p) k.older
-              (outcomes_are_caused_lem o k.older (Consumer n t) (outcome.Word (word.Flow l p)) q),
+          step_more (Cause o (Consumer n t 0) (outcome.Word (word.Flow l p))) (TakesSo o n t l p) (takes_so o n t l p) k.older
+              (outcomes_are_caused_lem o k.older (Consumer n t 0) (outcome.Word (word.Flow l p)) q),
         )
 
 -- it waits for the flow that it takes
-waits_then : (o : Options) (older : List Entry) (n t : ℕ) → IsRun o (Then (Does (Consumer n t) (OfConsumer TakeFlow)) ∷ older) →
-    (w : Ways) × ((view o older).stand (Consumer n t) ≡ Some (Serving w n service.Taking))
+waits_then : (o : Options) (older : List Entry) (n t : ℕ) → IsRun o (Then (Does (Consumer n t 0) (OfConsumer TakeFlow)) ∷ older) →
+    (w : Ways) × ((view o older).stand (Consumer n t 0) ≡ Some (Serving w n service.Taking))
 waits_then o older n t run =
     let y = led_by o n t older (OfConsumer TakeFlow) run (λ e. absurd cc) in
     let k = y.0 in (
       y.1.1.0,
-      ap (λ l. (view o l).stand (Consumer n t)) k.is_there
-          ∙ stand_told o k.older (Consumer n t) k.outcome k.before k.plan (OfConsumer TakeFlow) k.stood k.leads
+      ap (λ l. (view o l).stand (Consumer n t 0)) k.is_there
+          ∙ stand_told o k.older (Consumer n t 0) k.outcome k.before k.plan (OfConsumer TakeFlow) k.stood k.leads
           ∙ ap Some y.1.1.1,
     )
 

@@ -141,7 +141,7 @@ halts o e older l end run is same =
 
 module _ (o : Options) (n t : ℕ) where
   abbrev who : Who
-  who = Consumer n t
+  who = Consumer n t 0
 
   abbrev heard : Notice → Who
   heard x = x.who

@@ -13,43 +13,11 @@ use Rattle.pulsar_acts.specs.View.{consumers_listed, listed_as}
 use Rattle.pulsar_laws.proofs.Cases.{none_some, some_is}
 use Rattle.pulsar_laws.proofs.calls.Same.{same_who}
 use Rattle.pulsar_laws.specs.ConsumerLaws.{KeysAreOwn, done_to, made_as, made_with}
-use Rattle.pulsar_laws.proofs.consumers.Due.{called_rest, left_rest, numbered_rest}
+use Rattle.pulsar_laws.proofs.plans.Drawn.{begun_next, key_on, left_rest, listed_key, next, positive}
 use Rattle.pulsar_laws.proofs.consumers.Ended.{consumers_remain_lem, older_run}
 use Rattle.pulsar_laws.proofs.consumers.Lone.{consumers_alone_lem}
 
 -- THE KEY THAT IS DRAWN NEXT
-
-abbrev next : View → ℕ
-next v = v.consumers.next_key
-
-same_least : {n m : ℕ} → m ≡ n → n ≤ m
-same_least {n} {m} e = omega (arith, e)
-
-listed_key : (who : Who) (cs : Consumers) → (listed_as who cs).next_key ≡ cs.next_key
-listed_key (Call t) cs = refl
-listed_key (Consumer n t) cs = refl
-listed_key (Producer n) cs = refl
-
-built_key : (who : Who) (x : Makes) (cs : Consumers) → cs.next_key ≤ (consumers_listed who x cs).next_key
-built_key who (makes.Consumer j) cs =
-    let e : (listed_as who (keyed cs)).next_key ≡ suc cs.next_key = listed_key who (keyed cs) in omega (arith, e)
-built_key who (makes.RawConsumer l made) cs = same_least (listed_key who cs)
-built_key who makes.Nothing cs = same_least refl
-built_key who makes.Client cs = same_least refl
-built_key who (makes.Producer b) cs = same_least refl
-built_key who (makes.MultiProducer name settings) cs = same_least refl
-
--- it never falls
-key_on : (v : View) (a : Act) → next v ≤ (consumers_after v a).next_key
-key_on v (Comes (Calls asked advice)) =
-    same_least (ap (λ x. x.1) (called_rest (lacks_tickets v.calls.drawn (shares asked)) (may_call v.calls) asked v.consumers))
-key_on v (Does who (TakeNumber wanted)) = same_least (ap (λ x. x.1) (numbered_rest (ticket_of who) wanted v.consumers))
-key_on v (Answers who verdict) =
-    let e : (consumers_after v (Answers who verdict)).next_key ≡ (consumers_listed who verdict.makes v.consumers).next_key =
-    ap (λ x. x.1) (left_rest who (consumers_listed who verdict.makes v.consumers)) in
-    let k = built_key who verdict.makes v.consumers in
-    omega (arith, e, k)
-key_on v a = same_least refl
 
 -- and one that was drawn is behind it
 key_drawn : (v : View) (who : Who) (verdict : Verdict) (j : Joining) → verdict.makes ≡ makes.Consumer j →
@@ -81,24 +49,13 @@ made_new key (makes.Producer b) s e = absurd (none_some e)
 made_new key (makes.MultiProducer name settings) s e = absurd (none_some e)
 
 module _ (o : Options) where
-  begun_next : (e : Heard) (log : List Entry) → next (view o (Begins e ∷ log)) ≡ next (view o log)
-  begun_next e log = begun_same next e (view o log) refl
-
-  positive : (log : List Entry) → 0 < next (view o log)
-  positive [] = omega arith
-  positive (Begins e ∷ log) = let k = positive log in let same = begun_next e log in omega (arith, k, same)
-  positive (Then a ∷ log) =
-      let k = positive log in
-      let m : next (view o log) ≤ next (view o (Then a ∷ log)) = key_on (view o log) a in
-      omega (arith, k, m)
-
   keyed_more : (m n : ℕ) (s : Setup) → m ≤ n → IsKeyed m s → IsKeyed n s
   keyed_more m n s le (inl k) = inl k
   keyed_more m n s le (inr k) = let below = k.2 in inr (k.0, k.1, omega (arith, le, below))
 
   are_keyed : (t : ℕ) (log : List Entry) (s : Setup) → made_with o t log ≡ Some s → IsKeyed (next (view o log)) s
   are_keyed t [] s how = absurd (none_some how)
-  are_keyed t (Begins e ∷ log) s how = subst (λ n. IsKeyed n s) (sym (begun_next e log)) (are_keyed t log s how)
+  are_keyed t (Begins e ∷ log) s how = subst (λ n. IsKeyed n s) (sym (begun_next o e log)) (are_keyed t log s how)
   are_keyed t (Then (Answers who verdict) ∷ log) s how = by (is_same (Call t) who) (are_keyed t log s) how
     where
       v : View
@@ -110,7 +67,7 @@ module _ (o : Options) where
       new : IsNew (next v) verdict.makes s → IsKeyed after s
       new (inl k) = inl k
       new (inr (j, is, built, key)) =
-          let pos = positive log in
+          let pos = positive o log in
           let more : after ≡ suc (next v) = key_drawn v who verdict j is in
           inr (built, omega (arith, pos, key), omega (arith, more, key))
 
@@ -147,9 +104,9 @@ module _ (o : Options) where
           cond b (made_as n verdict.makes) (made_with o t log) ≡ Some s → cond c (made_as n verdict.makes) (made_with o u log) ≡ Some r → t ≡ u
       by true true b c before e f = let k : Call t ≡ Call u = same_who (Call t) who b ∙ sym (same_who (Call u) who c) in cc
       by true false b c before e f =
-          absurd (apart n verdict.makes s r (positive log) (made_new n verdict.makes s e) (are_keyed u log r f) one same)
+          absurd (apart n verdict.makes s r (positive o log) (made_new n verdict.makes s e) (are_keyed u log r f) one same)
       by false true b c before e f =
-          absurd (apart n verdict.makes r s (positive log) (made_new n verdict.makes r f) (are_keyed t log s e) (swapped s.is_raw r.is_raw one) (sym same))
+          absurd (apart n verdict.makes r s (positive o log) (made_new n verdict.makes r f) (are_keyed t log s e) (swapped s.is_raw r.is_raw one) (sym same))
       by false false b c before e f = before e f
   own t u (Then a ∷ log) s r how how2 one same = own t u log s r how how2 one same
 

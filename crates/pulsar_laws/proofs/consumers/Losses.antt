@@ -129,7 +129,7 @@ loss_over l (Some cause) m x o h = by (resubscribes l m.seen) h
 
 module _ (once : EndsOnce) (o : Options) (n t : ℕ) where
   abbrev who : Who
-  who = Consumer n t
+  who = Consumer n t 0
 
   abbrev lost : Notice
   lost = notice who (outcome.Word word.Lost)

@@ -133,18 +133,18 @@ server_asks b l p q k r is h = absurd cc
 
 abbrev pub Takes : Options → List Entry → (n t : ℕ) → Type 0
 Takes o log n t =
-    (first (agenda o log) ≡ Some (Does (Consumer n t) (OfConsumer TakeFlow))) ⊎ ((older : List Entry)
-    × (log ≡ Then (Does (Consumer n t) (OfConsumer TakeFlow)) ∷ older))
+    (first (agenda o log) ≡ Some (Does (Consumer n t 0) (OfConsumer TakeFlow))) ⊎ ((older : List Entry)
+    × (log ≡ Then (Does (Consumer n t 0) (OfConsumer TakeFlow)) ∷ older))
 
 abbrev pub TakesAt : Options → List Entry → (n t : ℕ) → Type 0
-TakesAt o log n t = (p : Plan) → (view o log).stand (Consumer n t) ≡ Some p → is_taking p ≡ true → Takes o log n t
+TakesAt o log n t = (p : Plan) → (view o log).stand (Consumer n t 0) ≡ Some p → is_taking p ≡ true → Takes o log n t
 
 -- behind that it is told what flow is due
 pub told_flow : (o : Options) (older : List Entry) (n t : ℕ) →
-    first (agenda o (Then (Does (Consumer n t) (OfConsumer TakeFlow)) ∷ older))
-    ≡ Some (Told (notice (Consumer n t) (outcome.Word (flow_said (flow_at ((view o older).consumers.rows t))))))
+    first (agenda o (Then (Does (Consumer n t 0) (OfConsumer TakeFlow)) ∷ older))
+    ≡ Some (Told (notice (Consumer n t 0) (outcome.Word (flow_said (flow_at ((view o older).consumers.rows t))))))
 told_flow o older n t =
-    first_at o older (Does (Consumer n t) (OfConsumer TakeFlow)) (Told (notice (Consumer n t) (outcome.Word (flow_said (flow_at
+    first_at o older (Does (Consumer n t 0) (OfConsumer TakeFlow)) (Told (notice (Consumer n t 0) (outcome.Word (flow_said (flow_at
     ((view o older).consumers.rows t)))))) refl
 
 abbrev said : Act → Outcome
@@ -160,14 +160,14 @@ flow_is None = refl
 flow_is (Some f) = refl
 
 next_flow : (o : Options) (log : List Entry) (n t : ℕ) (a : Act) → first (agenda o log) ≡ Some a → (older : List Entry) →
-    log ≡ Then (Does (Consumer n t) (OfConsumer TakeFlow)) ∷ older → is_flow (said a) ≡ true
+    log ≡ Then (Does (Consumer n t 0) (OfConsumer TakeFlow)) ∷ older → is_flow (said a) ≡ true
 next_flow o log n t a fits older is =
-    let f : first (agenda o (Then (Does (Consumer n t) (OfConsumer TakeFlow)) ∷ older)) ≡ Some a = subst (λ x. first (agenda o x) ≡ Some a) is fits in
+    let f : first (agenda o (Then (Does (Consumer n t 0) (OfConsumer TakeFlow)) ∷ older)) ≡ Some a = subst (λ x. first (agenda o x) ≡ Some a) is fits in
     ap is_flow (ap said (some_is (sym f ∙ told_flow o older n t))) ∙ flow_is (flow_at ((view o older).consumers.rows t))
 
 module _ (o : Options) (log : List Entry) (n t : ℕ) (was : TakesAt o log n t) where
   abbrev who : Who
-  who = Consumer n t
+  who = Consumer n t 0
 
   -- another act does not come while it waits
   not_now : (a : Act) (p : Plan) → first (agenda o log) ≡ Some a → is_flow (said a) ≡ false → (a ≡ Does who (OfConsumer TakeFlow) → ⊥) →
@@ -201,35 +201,35 @@ serve_rests w n p q is e h =
     let g : false ≡ true = ap is_taking f ∙ h in cc
 
 starts_rest : (o : Options) (log : List Entry) (who : Who) (pr : Procedure) (n t : ℕ) (q : Plan) → IsRun o (Then (Starts who pr) ∷ log) →
-    is_same (Consumer n t) who ≡ true → stays (begins pr) ≡ Some q → is_taking q ≡ true → ⊥
+    is_same (Consumer n t 0) who ≡ true → stays (begins pr) ≡ Some q → is_taking q ≡ true → ⊥
 starts_rest o log who pr n t q run e is h =
-    let s : Consumer n t ≡ who = same_who (Consumer n t) who e in
+    let s : Consumer n t ≡ who = same_who (Consumer n t 0) who e in
     let k = start_serves o log n t pr (subst (λ w. IsRun o (Then (Starts w pr) ∷ log)) (sym s) run) in
     serve_rests k.0 n pr q k.1 is h
 
 told_run : (o : Options) (log : List Entry) (n t : ℕ) (m : Notice) → IsRun o (Then (Told m) ∷ log) → TakesAt o log n t → TakesAt o (Then (Told m) ∷ log) n t
-told_run o log n t m run was = λ p stood h. elim (cases_Bool (is_same (Consumer n t) m.who)) [
-  | inl e ↦ own p (same_who (Consumer n t) m.who e) (rw e at stood) h
+told_run o log n t m run was = λ p stood h. elim (cases_Bool (is_same (Consumer n t 0) m.who)) [
+  | inl e ↦ own p (same_who (Consumer n t 0) m.who e) (rw e at stood) h
   | inr e ↦ other p e (rw e at stood) h
 ]
   where
-    own : (p : Plan) → Consumer n t ≡ m.who → stays_some (told_some ((view o log).stand (Consumer n t)) m.outcome) ≡ Some p → is_taking p ≡ true →
+    own : (p : Plan) → Consumer n t ≡ m.who → stays_some (told_some ((view o log).stand (Consumer n t 0)) m.outcome) ≡ Some p → is_taking p ≡ true →
         Takes o (Then (Told m) ∷ log) n t
     own p s is h =
-        let same : Told (notice (Consumer n t) m.outcome) ≡ Told m = ap (λ w. Told (notice w m.outcome)) s in
+        let same : Told (notice (Consumer n t 0) m.outcome) ≡ Told m = ap (λ w. Told (notice w m.outcome)) s in
         subst (λ x. Takes o (Then x ∷ log) n t) same
-        (told_takes o log n t was m.outcome ((view o log).stand (Consumer n t)) p (run.1 ∙ ap Some (sym same)) refl
+        (told_takes o log n t was m.outcome ((view o log).stand (Consumer n t 0)) p (run.1 ∙ ap Some (sym same)) refl
         (λ q stood. server_stands o log n t q run.0 stood) is h)
 
-    other : (p : Plan) → is_same (Consumer n t) m.who ≡ false → (view o log).stand (Consumer n t) ≡ Some p → is_taking p ≡ true →
+    other : (p : Plan) → is_same (Consumer n t 0) m.who ≡ false → (view o log).stand (Consumer n t 0) ≡ Some p → is_taking p ≡ true →
         Takes o (Then (Told m) ∷ log) n t
     other p e stood h = elim (was p stood h) [
-      | inl f ↦ (let g : Told m ≡ Does (Consumer n t) (OfConsumer TakeFlow) = some_is (sym run.1 ∙ f) in absurd cc)
+      | inl f ↦ (let g : Told m ≡ Does (Consumer n t 0) (OfConsumer TakeFlow) = some_is (sym run.1 ∙ f) in absurd cc)
       | inr k ↦
-          (let f : first (agenda o (Then (Does (Consumer n t) (OfConsumer TakeFlow)) ∷ k.0)) ≡ Some (Told m) = subst (λ x. first (agenda o x)
+          (let f : first (agenda o (Then (Does (Consumer n t 0) (OfConsumer TakeFlow)) ∷ k.0)) ≡ Some (Told m) = subst (λ x. first (agenda o x)
           ≡ Some (Told m)) k.1 run.1 in
           let g : m.who ≡ Consumer n t = some_is (ap heard (some_is (sym f ∙ told_flow o k.0 n t))) in
-          let d : true ≡ false = sym (ap (is_same (Consumer n t)) g ∙ same_self (Consumer n t)) ∙ e in
+          let d : true ≡ false = sym (ap (is_same (Consumer n t 0)) g ∙ same_self (Consumer n t 0)) ∙ e in
           absurd cc)
     ]
 
@@ -237,11 +237,11 @@ pub takes_run : (o : Options) (log : List Entry) (n t : ℕ) → IsRun o log →
 takes_run o [] n t run = λ p stood h. absurd (none_some stood)
 takes_run o (Begins e ∷ log) n t run = λ p stood h.
     (let s = begun_same (λ v. v.stand) e (view o log) refl in
-    elim (takes_run o log n t run.0 p (sym (ap (λ f. f (Consumer n t)) s) ∙ stood) h) [
+    elim (takes_run o log n t run.0 p (sym (ap (λ f. f (Consumer n t 0)) s) ∙ stood) h) [
       | inl f ↦ absurd (none_some (sym run.1 ∙ f))
       | inr k ↦ absurd (none_some (sym run.1 ∙ ap (λ x. first (agenda o x)) k.1 ∙ told_flow o k.0 n t))
     ])
-takes_run o (Then (Starts who pr) ∷ log) n t run = λ p stood h. elim (cases_Bool (is_same (Consumer n t) who)) [
+takes_run o (Then (Starts who pr) ∷ log) n t run = λ p stood h. elim (cases_Bool (is_same (Consumer n t 0) who)) [
   | inl e ↦ absurd (starts_rest o log who pr n t p run e (rw e at stood) h)
   | inr e ↦ absurd (not_now o log n t (takes_run o log n t run.0) (Starts who pr) p run.1 refl (λ f. absurd cc) (rw e at stood) h)
 ]
@@ -305,14 +305,14 @@ asked_on None = refl
 asked_on (Some l) = refl
 
 pub asked_there : (o : Options) (older : List Entry) (n t : ℕ) (x : Notice) (m : Member) → (view o older).consumers.rows t ≡ Some m →
-    (view o (Then (Told x) ∷ Then (Does (Consumer n t) (OfConsumer TakeFlow)) ∷ older)).consumers.rows t ≡ Some (member_after Asks m)
+    (view o (Then (Told x) ∷ Then (Does (Consumer n t 0) (OfConsumer TakeFlow)) ∷ older)).consumers.rows t ≡ Some (member_after Asks m)
 asked_there o older n t x m h =
     let row : Option Member = (view o older).consumers.rows t in
     ap (λ b. row_by member_by (cond b (FlowTaken ∷ []) []) row) (eq-eqb t t refl) ∙ ap (option_map (member_after Asks)) h
 
 pub record IsPlaced (o : Options) (log : List Entry) (n t l m p : ℕ) : Type 0 where
   pub older : List Entry
-  pub is_behind : log ≡ Then (Told (notice (Consumer n t) (outcome.Word (word.Flow l p)))) ∷ Then (Does (Consumer n t) (OfConsumer TakeFlow)) ∷ older
+  pub is_behind : log ≡ Then (Told (notice (Consumer n t 0) (outcome.Word (word.Flow l p)))) ∷ Then (Does (Consumer n t 0) (OfConsumer TakeFlow)) ∷ older
   pub was_due : WasDue o older t l p
   pub seat : Seat
   pub live : (view o log).links.live l ≡ Some seat
@@ -323,7 +323,7 @@ pub record IsPlaced (o : Options) (log : List Entry) (n t l m p : ℕ) : Type 0 
 
 -- where the flow was due that it took
 placed_there : EndsOnce → (o : Options) (log : List Entry) (n t l m p : ℕ) (older : List Entry) →
-    log ≡ Then (Told (notice (Consumer n t) (outcome.Word (word.Flow l p)))) ∷ Then (Does (Consumer n t) (OfConsumer TakeFlow)) ∷ older → IsRun o older →
+    log ≡ Then (Told (notice (Consumer n t 0) (outcome.Word (word.Flow l p)))) ∷ Then (Does (Consumer n t 0) (OfConsumer TakeFlow)) ∷ older → IsRun o older →
     WasDue o older t l p → IsPlaced o log n t l m p
 placed_there once o log n t l m p older is run k =
     let on : link_of k.member.seen ≡ Some l = ap (option_map (λ (y : Live). y.link)) k.is_live ∙ ap Some k.on in
@@ -336,17 +336,17 @@ placed_there once o log n t l m p older is run k =
       live = ap (λ y. (view o y).links.live l) is ∙ x.1;
       answer = flow_placed (view o log).now m p x.0.seen x.2;
       member = member_after Asks k.member;
-      is_there = ap (λ y. (view o y).consumers.rows t) is ∙ asked_there o older n t (notice (Consumer n t) (outcome.Word (word.Flow l p))) k.member k.is_there;
+      is_there = ap (λ y. (view o y).consumers.rows t) is ∙ asked_there o older n t (notice (Consumer n t 0) (outcome.Word (word.Flow l p))) k.member k.is_there;
       on = asked_on k.member.seen.engine.live ∙ on;
     }
 
-pub is_placed : EndsOnce → (o : Options) (log : List Entry) (n t l m p : ℕ) → IsRun o (Then (Does (Consumer n t) (Ask l (words.SendFlow m p))) ∷ log) →
+pub is_placed : EndsOnce → (o : Options) (log : List Entry) (n t l m p : ℕ) → IsRun o (Then (Does (Consumer n t 0) (Ask l (words.SendFlow m p))) ∷ log) →
     IsPlaced o log n t l m p
 is_placed once o log n t l m p run = led (led_by o n t log (Ask l (words.SendFlow m p)) run (λ e. absurd cc)).0
   where
     due_here : (older : List Entry) →
-        log ≡ Then (Told (notice (Consumer n t) (outcome.Word (word.Flow l p)))) ∷ Then (Does (Consumer n t) (OfConsumer TakeFlow)) ∷ older →
-        IsRun o (Then (Told (notice (Consumer n t) (outcome.Word (word.Flow l p)))) ∷ Then (Does (Consumer n t) (OfConsumer TakeFlow)) ∷ older) →
+        log ≡ Then (Told (notice (Consumer n t 0) (outcome.Word (word.Flow l p)))) ∷ Then (Does (Consumer n t 0) (OfConsumer TakeFlow)) ∷ older →
+        IsRun o (Then (Told (notice (Consumer n t 0) (outcome.Word (word.Flow l p)))) ∷ Then (Does (Consumer n t 0) (OfConsumer TakeFlow)) ∷ older) →
         IsPlaced o log n t l m p
     due_here older is r =
         let e : outcome.Word (flow_said (flow_at ((view o older).consumers.rows t))) ≡ outcome.Word (word.Flow l p) =
@@ -355,24 +355,24 @@ is_placed once o log n t l m p run = led (led_by o n t log (Ask l (words.SendFlo
         placed_there once o log n t l m p older is r.0.0
         (due_live o older t l p ((view o older).consumers.rows t) refl (due_flow (flow_at ((view o older).consumers.rows t)) l p f))
 
-    led : IsLedSo o log (Consumer n t) (Ask l (words.SendFlow m p)) → IsPlaced o log n t l m p
+    led : IsLedSo o log (Consumer n t 0) (Ask l (words.SendFlow m p)) → IsPlaced o log n t l m p
     led k =
         let x = flows_are_taken_lem o log n t l m p run in
-        let same : Then (Told (notice (Consumer n t) k.outcome)) ∷ k.older ≡ Then (Told (notice (Consumer n t) (outcome.Word (word.Flow l p)))) ∷ x.0 =
+        let same : Then (Told (notice (Consumer n t 0) k.outcome)) ∷ k.older ≡ Then (Told (notice (Consumer n t 0) (outcome.Word (word.Flow l p)))) ∷ x.0 =
         sym k.is_there ∙ x.2 in
         let u : k.outcome ≡ outcome.Word (word.Flow l p) = ap said (some_is (ap newest same)) in
-        let r : IsRun o (Then (Told (notice (Consumer n t) k.outcome)) ∷ k.older) = subst (IsRun o) k.is_there run.0 in
+        let r : IsRun o (Then (Told (notice (Consumer n t 0) k.outcome)) ∷ k.older) = subst (IsRun o) k.is_there run.0 in
         let server : is_server k.before ≡ true = server_stands o k.older n t k.before r.0 k.stood in
         let taking : is_taking k.before ≡ true =
         server_asks k.before l p k.plan l (words.SendFlow m p) server (sym (ap (told k.before) u) ∙ k.leads) in
         elim (takes_run o k.older n t r.0 k.before k.stood taking) [
-          | inl f ↦ (let g : Told (notice (Consumer n t) k.outcome) ≡ Does (Consumer n t) (OfConsumer TakeFlow) = some_is (sym r.1 ∙ f) in absurd cc)
+          | inl f ↦ (let g : Told (notice (Consumer n t 0) k.outcome) ≡ Does (Consumer n t 0) (OfConsumer TakeFlow) = some_is (sym r.1 ∙ f) in absurd cc)
           | inr older ↦
-              (let there : log ≡ Then (Told (notice (Consumer n t) (outcome.Word (word.Flow l p)))) ∷ Then (Does (Consumer n t)
+              (let there : log ≡ Then (Told (notice (Consumer n t 0) (outcome.Word (word.Flow l p)))) ∷ Then (Does (Consumer n t 0)
               (OfConsumer TakeFlow)) ∷ older.0 =
               k.is_there
-              ∙ ap (λ y. Then (Told (notice (Consumer n t) y)) ∷ k.older) u
-              ∙ ap (λ y. Then (Told (notice (Consumer n t) (outcome.Word (word.Flow l p)))) ∷ y) older.1 in
+              ∙ ap (λ y. Then (Told (notice (Consumer n t 0) y)) ∷ k.older) u
+              ∙ ap (λ y. Then (Told (notice (Consumer n t 0) (outcome.Word (word.Flow l p)))) ∷ y) older.1 in
               due_here older.0 there (subst (IsRun o) there run.0))
         ]
 

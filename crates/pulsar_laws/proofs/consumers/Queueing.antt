@@ -161,7 +161,7 @@ module _ (once : EndsOnce) (o : Options) (log : List Entry) (t : ℕ) (was : Flo
 
   -- none was asked for where there is no consumer
   pub fresh_none : (a : Act) → IsRun o (Then a ∷ log) → v.consumers.rows t ≡ None → flows_after v t a fs ≡ []
-  fresh_none (Does (Consumer n u) (Ask l (words.SendFlow m p))) run e = elim (cases_Bool (t == u)) [
+  fresh_none (Does (Consumer n u key) (Ask l (words.SendFlow m p))) run e = elim (cases_Bool (t == u)) [
     | inl d ↦
         (let x : IsPlaced o log n u l m p = is_placed once o log n u l m p run in
         absurd (none_some (sym e ∙ ap v.consumers.rows (eqb-true t u d) ∙ x.is_there)))
@@ -189,9 +189,9 @@ module _ (once : EndsOnce) (o : Options) (log : List Entry) (t : ℕ) (was : Flo
 
   kept_below : (a : Act) → IsRun o (Then a ∷ log) → (m : Member) (k : ℕ) → v.consumers.rows t ≡ Some m → link_of m.seen ≡ Some k →
       IsAt (AreBelow (flows_after v t a fs)) ((view o (Then a ∷ log)).links.live k)
-  kept_below (Does (Consumer n u) (Ask l (words.SendFlow m' p))) run m k e on = elim (cases_Bool (t == u)) [
+  kept_below (Does (Consumer n u key) (Ask l (words.SendFlow m' p))) run m k e on = elim (cases_Bool (t == u)) [
     | inl d ↦
-        (let a : Act = Does (Consumer n u) (Ask l (words.SendFlow m' p)) in
+        (let a : Act = Does (Consumer n u 0) (Ask l (words.SendFlow m' p)) in
         let x : IsPlaced o log n u l m' p = is_placed once o log n u l m' p run in
         let same : m ≡ x.member = some_is (sym e ∙ ap v.consumers.rows (eqb-true t u d) ∙ x.is_there) in
         let link : l ≡ k = some_is (sym x.on ∙ ap (λ (y : Member). link_of y.seen) (sym same) ∙ on) in
@@ -202,24 +202,24 @@ module _ (once : EndsOnce) (o : Options) (log : List Entry) (t : ℕ) (was : Flo
         (subst (λ j. IsAt (AreBelow fs) (v.links.live j)) (sym link) (was.below m k e on)))))
     | inr d ↦
         subst (λ b. IsAt (AreBelow (cond b (record { place = place_of (answer_at v.now (words.SendFlow m' p) (v.links.live l)); permits = p } ∷ fs) fs))
-        ((view o (Then (Does (Consumer n u) (Ask l (words.SendFlow m' p))) ∷ log)).links.live k)) (sym d)
-        (same_below (Does (Consumer n u) (Ask l (words.SendFlow m' p))) run m k e on)
+        ((view o (Then (Does (Consumer n u 0) (Ask l (words.SendFlow m' p))) ∷ log)).links.live k)) (sym d)
+        (same_below (Does (Consumer n u 0) (Ask l (words.SendFlow m' p))) run m k e on)
   ]
     where
       new : (l m' p n u : ℕ) (seat : Seat) → v.links.live l ≡ Some seat → answer_at v.now (words.SendFlow m' p) (Some seat) ≡ Ok (place_on seat.seen) →
           IsAt (AreBelow fs) (v.links.live l) →
           IsAt (AreBelow (record { place = place_of (answer_at v.now (words.SendFlow m' p) (v.links.live l)); permits = p } ∷ fs))
-          ((view o (Then (Does (Consumer n u) (Ask l (words.SendFlow m' p))) ∷ log)).links.live l)
+          ((view o (Then (Does (Consumer n u 0) (Ask l (words.SendFlow m' p))) ∷ log)).links.live l)
       new l m' p n u seat live answer h =
           let r : IsInLine seat.seen = in_seat o log l seat live in
           let old : AreBelow fs seat.seen = subst (IsAt (AreBelow fs)) live h in
           subst (IsAt (AreBelow (record { place = place_of (answer_at v.now (words.SendFlow m' p) (v.links.live l)); permits = p } ∷ fs)))
-          (sym (asked_is v (Consumer n u) l (words.SendFlow m' p) l))
+          (sym (asked_is v (Consumer n u 0) l (words.SendFlow m' p) l))
           (subst (λ row. IsAt (AreBelow (record { place = place_of (answer_at v.now (words.SendFlow m' p) row); permits = p } ∷ fs))
-          (cond (l == l) (option_map (seat_asked (Consumer n u) v.now (words.SendFlow m' p)) row) row)) (sym live)
+          (cond (l == l) (option_map (seat_asked (Consumer n u 0) v.now (words.SendFlow m' p)) row) row)) (sym live)
           (subst (λ b. IsAt (AreBelow (record { place = place_of (answer_at v.now (words.SendFlow m' p) (Some seat)); permits = p } ∷ fs))
-          (cond b (Some (seat_asked (Consumer n u) v.now (words.SendFlow m' p) seat)) (Some seat))) (sym (eq-eqb l l refl))
-          (asked_below v.now m' p (Consumer n u) seat fs r answer old)))
+          (cond b (Some (seat_asked (Consumer n u 0) v.now (words.SendFlow m' p) seat)) (Some seat))) (sym (eq-eqb l l refl))
+          (asked_below v.now m' p (Consumer n u 0) seat fs r answer old)))
   kept_below (Does who (OfConsumer (Revive l))) run m k e on = by (t == ticket_of who && is_some (v.links.live l))
     where
       by : (b : Bool) → IsAt (AreBelow (cond b [] fs)) ((view o (Then (Does who (OfConsumer (Revive l))) ∷ log)).links.live k)

@@ -82,7 +82,7 @@ said _ = outcome.NotFound
 
 module _ (o : Options) (n t : ℕ) where
   abbrev who : Who
-  who = Consumer n t
+  who = Consumer n t 0
 
   abbrev pub Revived : List Entry → ℕ → Type 0
   Revived log l = (first (agenda o log) ≡ Some (Does who (OfConsumer (Revive l)))) ⊎ ((older : List Entry) × (log ≡ Then (Does who (OfConsumer (Revive l))) ∷ older))
@@ -140,7 +140,7 @@ module _ (o : Options) (n t : ℕ) where
 -- IT BEGINS right behind the verdict that makes its consumer
 
 abbrev begins_service : Act → Bool
-begins_service (Starts (Consumer n t) p) = true
+begins_service (Starts (Consumer n t key) p) = true
 begins_service _ = false
 
 abbrev NoService : Act → Type 0
@@ -156,7 +156,7 @@ is_verdict _ = false
 
 raised_none : (a b : Act) → is_verdict a ≡ false → IsRaised a b → NoService b
 raised_none (Answers who verdict) b other h = absurd cc
-raised_none a (Starts (Consumer n t) p) other h = absurd cc
+raised_none a (Starts (Consumer n t key) p) other h = absurd cc
 raised_none a _ other h = refl
 
 -- none, or it alone
@@ -233,15 +233,15 @@ calls_make o log (Producer m) verdict j made run = elim (answers_from o log (Pro
     | inr e ↦ (let f : (fails Exhausted).makes ≡ makes.Consumer j = sym (ap (λ y. y.makes) e) ∙ made in absurd cc)
   ]
 ]
-calls_make o log (Consumer n t) verdict j made run = elim (answers_from o log (Consumer n t) verdict run) [
+calls_make o log (Consumer n t key) verdict j made run = elim (answers_from o log (Consumer n t key) verdict run) [
   | inl k ↦
-      (let r : IsRun o (Then (Told (notice (Consumer n t) k.outcome)) ∷ k.older) = subst (IsRun o) k.is_there run.0 in
+      (let r : IsRun o (Then (Told (notice (Consumer n t 0) k.outcome)) ∷ k.older) = subst (IsRun o) k.is_there run.0 in
       let f : makes.Nothing ≡ makes.Consumer j =
       sym (server_gives k.before k.outcome verdict (server_stands o k.older n t k.before r.0 k.stood) k.leads) ∙ made in
       absurd cc)
   | inr x ↦ elim x [
     | inl k ↦
-        (let r : IsRun o (Then (Starts (Consumer n t) k.procedure) ∷ k.older) = subst (IsRun o) k.is_there run.0 in
+        (let r : IsRun o (Then (Starts (Consumer n t 0) k.procedure) ∷ k.older) = subst (IsRun o) k.is_there run.0 in
         absurd (serve_goes_on o k.older n t k.procedure verdict r k.leads))
     | inr e ↦ (let f : (fails Exhausted).makes ≡ makes.Consumer j = sym (ap (λ y. y.makes) e) ∙ made in absurd cc)
   ]
@@ -255,7 +255,7 @@ pub record IsMadeBy (o : Options) (log : List Entry) (n t : ℕ) : Type 0 where
   pub made : verdict.makes ≡ makes.Consumer joining
   pub number : joining.number ≡ n
 
-left_is : (ways : Option Ways) (maker : Who) (m : Makes) (n t : ℕ) (p : Procedure) → left_with ways maker m ≡ Starts (Consumer n t) p ∷ [] →
+left_is : (ways : Option Ways) (maker : Who) (m : Makes) (n t : ℕ) (p : Procedure) → left_with ways maker m ≡ Starts (Consumer n t 0) p ∷ [] →
     (j : Joining) × (m ≡ makes.Consumer j) × (j.number ≡ n) × (ticket_of maker ≡ t)
 left_is None maker (makes.Consumer j) n t p e = absurd cc
 left_is (Some w) maker (makes.Consumer j) n t p e = (j, refl, (let f : j.number ≡ n = cc in f), (let g : ticket_of maker ≡ t = cc in g))
@@ -268,16 +268,16 @@ left_is ways maker makes.Nothing n t p e = absurd cc
 left_is ways maker makes.Client n t p e = absurd cc
 left_is ways maker (makes.RawConsumer l made) n t p e = absurd cc
 
-pub begins_made : (o : Options) (log : List Entry) (n t : ℕ) (p : Procedure) → IsRun o (Then (Starts (Consumer n t) p) ∷ log) → IsMadeBy o log n t
+pub begins_made : (o : Options) (log : List Entry) (n t : ℕ) (p : Procedure) → IsRun o (Then (Starts (Consumer n t 0) p) ∷ log) → IsMadeBy o log n t
 begins_made o log n t p run = by (service_next o log)
   where
     by : ServiceNext o log → IsMadeBy o log n t
     by (inl k) =
         let g : Agenda = agenda o log in
-        let f : true ≡ false = each_first NoService g.now g.here g.behind g.parts (Starts (Consumer n t) p) served_none k run.1 in
+        let f : true ≡ false = each_first NoService g.now g.here g.behind g.parts (Starts (Consumer n t 0) p) served_none k run.1 in
         absurd cc
     by (inr k) =
-        let head : k.act ≡ Starts (Consumer n t) p = fits_first o log k.act (Starts (Consumer n t) p) k.left k.now run.1 in
+        let head : k.act ≡ Starts (Consumer n t 0) p = fits_first o log k.act (Starts (Consumer n t 0) p) k.left k.now run.1 in
         let x = left_is (ways_of (view o k.older).chosen) k.maker k.verdict.makes n t p (k.alone ∙ ap (λ y. y ∷ []) head) in
         let c = calls_make o k.older k.maker k.verdict x.0 x.1 (subst (IsRun o) k.there run.0) in
         let u : c.0 ≡ t = sym (ap ticket_of c.1) ∙ x.3 in

@@ -56,28 +56,28 @@ module _ (once : EndsOnce) (o : Options) where
             ∙ k.number,
       )
 
-  pub numbered_run : (log : List Entry) (n t : ℕ) (p : Plan) → IsRun o log → (view o log).stand (Consumer n t) ≡ Some p → Numbered o n t log
-  numbered_run log n t p run stood = stands_so o (Consumer n t) (IsRun o) (run_older o) (λ log q. Numbered o n t log) more starts keeps log p run stood
+  pub numbered_run : (log : List Entry) (n t : ℕ) (p : Plan) → IsRun o log → (view o log).stand (Consumer n t 0) ≡ Some p → Numbered o n t log
+  numbered_run log n t p run stood = stands_so o (Consumer n t 0) (IsRun o) (run_older o) (λ log q. Numbered o n t log) more starts keeps log p run stood
     where
-      more : (e : Entry) (log : List Entry) (q : Plan) → moves (Consumer n t) e ≡ false → IsRun o (e ∷ log) → (view o log).stand (Consumer n t) ≡ Some q →
+      more : (e : Entry) (log : List Entry) (q : Plan) → moves (Consumer n t 0) e ≡ false → IsRun o (e ∷ log) → (view o log).stand (Consumer n t 0) ≡ Some q →
           Numbered o n t log → Numbered o n t (e ∷ log)
       more (Begins e) log q m run s k = (k.0, begun_rows e (view o log) t ∙ k.1, k.2)
       more (Then a) log q m run s k = row_on log a n t run k
 
-      starts : (log : List Entry) (p : Procedure) (q : Plan) (a : Action) → IsRun o (Then (Starts (Consumer n t) p) ∷ log) → begins p ≡ Stays q a →
-          Numbered o n t (Then (Starts (Consumer n t) p) ∷ log)
-      starts log p q a run e = row_on log (Starts (Consumer n t) p) n t run (made_row log n t (begins_made o log n t p run))
+      starts : (log : List Entry) (p : Procedure) (q : Plan) (a : Action) → IsRun o (Then (Starts (Consumer n t 0) p) ∷ log) → begins p ≡ Stays q a →
+          Numbered o n t (Then (Starts (Consumer n t 0) p) ∷ log)
+      starts log p q a run e = row_on log (Starts (Consumer n t 0) p) n t run (made_row log n t (begins_made o log n t p run))
 
-      keeps : (log : List Entry) (b : Plan) (u : Outcome) (q : Plan) (a : Action) → IsRun o (Then (Told (notice (Consumer n t) u)) ∷ log) →
-          (view o log).stand (Consumer n t) ≡ Some b → Numbered o n t log → told b u ≡ Stays q a → Numbered o n t (Then (Told (notice (Consumer n t) u)) ∷ log)
-      keeps log b u q a run s k e = row_on log (Told (notice (Consumer n t) u)) n t run k
+      keeps : (log : List Entry) (b : Plan) (u : Outcome) (q : Plan) (a : Action) → IsRun o (Then (Told (notice (Consumer n t 0) u)) ∷ log) →
+          (view o log).stand (Consumer n t 0) ≡ Some b → Numbered o n t log → told b u ≡ Stays q a → Numbered o n t (Then (Told (notice (Consumer n t 0) u)) ∷ log)
+      keeps log b u q a run s k e = row_on log (Told (notice (Consumer n t 0) u)) n t run k
 
   -- of one that does something
-  pub actor_row : (log : List Entry) (n t : ℕ) (a : Action) → IsRun o (Then (Does (Consumer n t) a) ∷ log) → (a ≡ Rest → ⊥) → Numbered o n t log
+  pub actor_row : (log : List Entry) (n t : ℕ) (a : Action) → IsRun o (Then (Does (Consumer n t 0) a) ∷ log) → (a ≡ Rest → ⊥) → Numbered o n t log
   actor_row log n t a run other =
-      let k : IsLedSo o log (Consumer n t) a = (led_by o n t log a run other).0 in
-      let r : IsRun o (Then (Told (notice (Consumer n t) k.outcome)) ∷ k.older) = subst (IsRun o) k.is_there run.0 in
-      let x = row_on k.older (Told (notice (Consumer n t) k.outcome)) n t r (numbered_run k.older n t k.before r.0 k.stood) in
+      let k : IsLedSo o log (Consumer n t 0) a = (led_by o n t log a run other).0 in
+      let r : IsRun o (Then (Told (notice (Consumer n t 0) k.outcome)) ∷ k.older) = subst (IsRun o) k.is_there run.0 in
+      let x = row_on k.older (Told (notice (Consumer n t 0) k.outcome)) n t r (numbered_run k.older n t k.before r.0 k.stood) in
       subst (Numbered o n t) (sym k.is_there) x
 
   -- IT HAS ENDED

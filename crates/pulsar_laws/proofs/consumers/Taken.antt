@@ -110,29 +110,29 @@ other_takes v t a h = did_so (λ xs s. takes_in xs ≡ false) (λ s. refl) (λ x
 abbrev Pending : Options → List Entry → (ticket : ℕ) → Type 0
 Pending o log t =
     (n l p : ℕ) × (older : List Entry) × (flow_at ((view o older).consumers.rows t) ≡ Some (l, p))
-    × ((log ≡ Then (Does (Consumer n t) (OfConsumer TakeFlow)) ∷ older)
-    ⊎ (log ≡ Then (Told (notice (Consumer n t) (outcome.Word (word.Flow l p)))) ∷ Then (Does (Consumer n t) (OfConsumer TakeFlow)) ∷ older))
+    × ((log ≡ Then (Does (Consumer n t 0) (OfConsumer TakeFlow)) ∷ older)
+    ⊎ (log ≡ Then (Told (notice (Consumer n t 0) (outcome.Word (word.Flow l p)))) ∷ Then (Does (Consumer n t 0) (OfConsumer TakeFlow)) ∷ older))
 
 -- what comes next then
 abbrev Follows : Options → List Entry → (ticket : ℕ) → Act → Type 0
 Follows o log t a =
     ((n l p : ℕ) × (older : List Entry) × (flow_at ((view o older).consumers.rows t) ≡ Some (l, p))
-    × (log ≡ Then (Does (Consumer n t) (OfConsumer TakeFlow)) ∷ older)
-    × (a ≡ Told (notice (Consumer n t) (outcome.Word (word.Flow l p)))))
-    ⊎ ((n l p : ℕ) × (a ≡ Does (Consumer n t) (Ask l (words.SendFlow n p))))
+    × (log ≡ Then (Does (Consumer n t 0) (OfConsumer TakeFlow)) ∷ older)
+    × (a ≡ Told (notice (Consumer n t 0) (outcome.Word (word.Flow l p)))))
+    ⊎ ((n l p : ℕ) × (a ≡ Does (Consumer n t 0) (Ask l (words.SendFlow n p))))
 
 follows_next : (o : Options) (log : List Entry) (t : ℕ) → IsRun o log → (a : Option Act) → first (agenda o log) ≡ a → Pending o log t →
     (b : Act) × (a ≡ Some b) × Follows o log t b
 follows_next o log t run a fits (n, l, p, older, flow, inl is) =
-    let r : IsRun o (Then (Does (Consumer n t) (OfConsumer TakeFlow)) ∷ older) = subst (IsRun o) is run in
+    let r : IsRun o (Then (Does (Consumer n t 0) (OfConsumer TakeFlow)) ∷ older) = subst (IsRun o) is run in
     let x = (flows_are_asked_lem o older n t l p r flow).0 in
-    (Told (notice (Consumer n t) (outcome.Word (word.Flow l p))), sym fits ∙ ap (λ y. first (agenda o y)) is ∙ x, inl (n, l, p, older, flow, is, refl))
+    (Told (notice (Consumer n t 0) (outcome.Word (word.Flow l p))), sym fits ∙ ap (λ y. first (agenda o y)) is ∙ x, inl (n, l, p, older, flow, is, refl))
 follows_next o log t run a fits (n, l, p, older, flow, inr is) =
-    let r : IsRun o (Then (Told (notice (Consumer n t) (outcome.Word (word.Flow l p)))) ∷ Then (Does (Consumer n t) (OfConsumer TakeFlow)) ∷ older) = subst
+    let r : IsRun o (Then (Told (notice (Consumer n t 0) (outcome.Word (word.Flow l p)))) ∷ Then (Does (Consumer n t 0) (OfConsumer TakeFlow)) ∷ older) = subst
     (IsRun o) is run
     in
     let x = (flows_are_asked_lem o older n t l p r.0 flow).1 in
-    (Does (Consumer n t) (Ask l (words.SendFlow n p)), sym fits ∙ ap (λ y. first (agenda o y)) is ∙ x, inr (n, l, p, refl))
+    (Does (Consumer n t 0) (Ask l (words.SendFlow n p)), sym fits ∙ ap (λ y. first (agenda o y)) is ∙ x, inr (n, l, p, refl))
 
 pending_next : (o : Options) (log : List Entry) (t : ℕ) (a : Act) → IsRun o (Then a ∷ log) → Pending o log t → Follows o log t a
 pending_next o log t a run k =
@@ -142,7 +142,7 @@ abbrev Settled : Options → (ticket : ℕ) → List Entry → Type 0
 Settled o t log = (m : Member) (l : ℕ) (s : Setup) → (view o log).consumers.rows t ≡ Some m → link_of m.seen ≡ Some l → made_with o t log ≡ Some s →
     (asked_since s (done_to o t log) ≤ permits_of (flows_since o t log)) ⊎ Pending o log t
 
-module _ (once : EndsOnce) (o : Options) (log : List Entry) (n t l m p : ℕ) (run : IsRun o (Then (Does (Consumer n t) (Ask l (words.SendFlow m p))) ∷ log))
+module _ (once : EndsOnce) (o : Options) (log : List Entry) (n t l m p : ℕ) (run : IsRun o (Then (Does (Consumer n t 0) (Ask l (words.SendFlow m p))) ∷ log))
   where
     abbrev x : IsPlaced o log n t l m p
     x = is_placed once o log n t l m p run
@@ -150,20 +150,20 @@ module _ (once : EndsOnce) (o : Options) (log : List Entry) (n t l m p : ℕ) (r
     -- a flow that is asked for is the one that was taken
     asked_settled : Every (Settled o t) log → (s : Setup) → made_with o t log ≡ Some s → asked_since s (done_to o t log) ≤ permits_of (flows_since o t log) + p
     asked_settled k s made =
-        let r : IsRun o (Then (Told (told_so once o log n t l m p run.0 x)) ∷ Then (Does (Consumer n t) (OfConsumer TakeFlow)) ∷ x.older) = subst
+        let r : IsRun o (Then (Told (told_so once o log n t l m p run.0 x)) ∷ Then (Does (Consumer n t 0) (OfConsumer TakeFlow)) ∷ x.older) = subst
         (IsRun o) x.is_behind run.0
         in
-        let e : Every (Settled o t) (Then (Told (told_so once o log n t l m p run.0 x)) ∷ Then (Does (Consumer n t) (OfConsumer TakeFlow)) ∷ x.older) = subst
+        let e : Every (Settled o t) (Then (Told (told_so once o log n t l m p run.0 x)) ∷ Then (Does (Consumer n t 0) (OfConsumer TakeFlow)) ∷ x.older) = subst
         (Every (Settled o t)) x.is_behind k in
         let link : link_of x.was_due.member.seen ≡ Some l = ap (option_map (λ (y : Live). y.link)) x.was_due.is_live ∙ ap Some x.was_due.on in
         let flows : permits_of (flows_since o t log) ≡ permits_of (flows_since o t x.older) = ap (λ y. permits_of (flows_since o t y)) x.is_behind in
         let taken = taken_then once o log n t l m p run.0 x s made in
         elim (here (Settled o t) x.older e.1.1 x.was_due.member l s x.was_due.is_there link (sym (ap (made_with o t) x.is_behind) ∙ made)) [
           | inl old ↦ omega (arith, old, flows, taken)
-          | inr pending ↦ absurd (no_flow (pending_next o x.older t (Does (Consumer n t) (OfConsumer TakeFlow)) r.0 pending))
+          | inr pending ↦ absurd (no_flow (pending_next o x.older t (Does (Consumer n t 0) (OfConsumer TakeFlow)) r.0 pending))
         ]
       where
-        no_flow : Follows o x.older t (Does (Consumer n t) (OfConsumer TakeFlow)) → ⊥
+        no_flow : Follows o x.older t (Does (Consumer n t 0) (OfConsumer TakeFlow)) → ⊥
         no_flow (inl k) = let e = k.6 in cc
         no_flow (inr k) = let e = k.3 in cc
 
@@ -171,7 +171,7 @@ module _ (once : EndsOnce) (o : Options) (log : List Entry) (n t l m p : ℕ) (r
 abbrev is_step : Act → Bool
 is_step (Told n) = true
 is_step (Does who (OfConsumer TakeFlow)) = false
-is_step (Does (Consumer n t) (Ask l (words.SendFlow m p))) = true
+is_step (Does (Consumer n t key) (Ask l (words.SendFlow m p))) = true
 is_step _ = false
 
 not_step : (o : Options) (log : List Entry) (t : ℕ) (a : Act) → is_step a ≡ false → Follows o log t a → ⊥
@@ -195,7 +195,7 @@ made_zero s l (Some seat) = refl
 
 -- who asks, and what is revived
 abbrev asker : Act → Option ℕ
-asker (Does (Consumer n t) action) = Some t
+asker (Does (Consumer n t key) action) = Some t
 asker _ = None
 
 abbrev revived_on : Act → Option ℕ
@@ -272,11 +272,11 @@ module _ (once : EndsOnce) (o : Options) (log : List Entry) (t : ℕ) (k : Every
       by (inr (n, l, p, e)) = absurd cc
 
   -- another asks
-  other_next : (n u j m p : ℕ) → IsRun o (Then (Does (Consumer n u) (Ask j (words.SendFlow m p))) ∷ log) → (t == u) ≡ false → Pending o log t →
-      Pending o (Then (Does (Consumer n u) (Ask j (words.SendFlow m p))) ∷ log) t
-  other_next n u j m p run d pending = absurd (by (pending_next o log t (Does (Consumer n u) (Ask j (words.SendFlow m p))) run pending))
+  other_next : (n u j m p : ℕ) → IsRun o (Then (Does (Consumer n u 0) (Ask j (words.SendFlow m p))) ∷ log) → (t == u) ≡ false → Pending o log t →
+      Pending o (Then (Does (Consumer n u 0) (Ask j (words.SendFlow m p))) ∷ log) t
+  other_next n u j m p run d pending = absurd (by (pending_next o log t (Does (Consumer n u 0) (Ask j (words.SendFlow m p))) run pending))
     where
-      by : Follows o log t (Does (Consumer n u) (Ask j (words.SendFlow m p))) → ⊥
+      by : Follows o log t (Does (Consumer n u 0) (Ask j (words.SendFlow m p))) → ⊥
       by (inl x) = let e = x.6 in cc
       by (inr x) =
           let e : u ≡ t = some_is (ap asker x.3) in
@@ -333,11 +333,11 @@ module _ (once : EndsOnce) (o : Options) (log : List Entry) (t : ℕ) (k : Every
       (never (Comes (Polls u)) run refl)
   kept_settled (Told x) l s m n run from is made seen_so on =
       quiet_settled (Told x) l s m from is made (λ w i e f. absurd cc) (other_takes v t (Told x) refl m) refl (told_next x run)
-  kept_settled (Does (Consumer c u) (Ask j (words.SendFlow m' p))) l s m n run from is made seen_so on = elim (cases_Bool (t == u)) [
+  kept_settled (Does (Consumer c u key) (Ask j (words.SendFlow m' p))) l s m n run from is made seen_so on = elim (cases_Bool (t == u)) [
     | inl d ↦
-        (let a : Act = Does (Consumer c u) (Ask j (words.SendFlow m' p)) in
-        let run2 : IsRun o (Then (Does (Consumer c t) (Ask j (words.SendFlow m' p))) ∷ log) =
-        subst (λ y. IsRun o (Then (Does (Consumer c y) (Ask j (words.SendFlow m' p))) ∷ log)) (sym (eqb-true t u d)) run in
+        (let a : Act = Does (Consumer c u 0) (Ask j (words.SendFlow m' p)) in
+        let run2 : IsRun o (Then (Does (Consumer c t 0) (Ask j (words.SendFlow m' p))) ∷ log) =
+        subst (λ y. IsRun o (Then (Does (Consumer c y 0) (Ask j (words.SendFlow m' p))) ∷ log)) (sym (eqb-true t u d)) run in
         let old = asked_settled once o log c t j m' p run2 k s made in
         let x = taken_same s (does_to v t m a) (done_to o t log) (ask_takes m c u j m' p) in
         let new : Flow = record { place = place_of (answer_at v.now (words.SendFlow m' p) (v.links.live j)); permits = p } in
@@ -345,13 +345,13 @@ module _ (once : EndsOnce) (o : Options) (log : List Entry) (t : ℕ) (k : Every
         let g : permits_of (flows_after v t a fs) ≡ permits_of (new ∷ fs) = ap (λ b. permits_of (cond b (new ∷ fs) fs)) d in
         inl (omega (arith, old, x, f, g)))
     | inr d ↦
-        quiet_settled (Does (Consumer c u) (Ask j (words.SendFlow m' p))) l s m from is made (λ w i e f. absurd cc) (ask_takes m c u j m' p)
+        quiet_settled (Does (Consumer c u 0) (Ask j (words.SendFlow m' p))) l s m from is made (λ w i e f. absurd cc) (ask_takes m c u j m' p)
         (ap (λ b. cond b (record { place = place_of (answer_at v.now (words.SendFlow m' p) (v.links.live j)); permits = p } ∷ fs) fs) d)
         (other_next c u j m' p run d)
   ]
     where
-      ask_takes : (m : Member) (c u j m' p : ℕ) → takes_in (does_to v t m (Does (Consumer c u) (Ask j (words.SendFlow m' p)))) ≡ false
-      ask_takes m c u j m' p = other_takes v t (Does (Consumer c u) (Ask j (words.SendFlow m' p))) refl m
+      ask_takes : (m : Member) (c u j m' p : ℕ) → takes_in (does_to v t m (Does (Consumer c u 0) (Ask j (words.SendFlow m' p)))) ≡ false
+      ask_takes m c u j m' p = other_takes v t (Does (Consumer c u 0) (Ask j (words.SendFlow m' p))) refl m
   kept_settled (Does who (Ask j request)) l s m n run from is made seen_so on =
       quiet_settled (Does who (Ask j request)) l s m from is made (λ w i e f. absurd cc)
       (other_takes v t (Does who (Ask j request)) refl m) refl

@@ -38,7 +38,7 @@ Tells o n t log = IsLeftIn (due_to_plan n t) o log
 
 abbrev Tended : Options → List Entry → (ticket : ℕ) → Type 0
 Tended o log t = (m : Member) (p : Plan) → (view o log).consumers.rows t ≡ Some m → is_due m.seen ≡ true →
-    (view o log).stand (Consumer m.seen.number t) ≡ Some p → is_resting p ≡ true → Tells o m.seen.number t log
+    (view o log).stand (Consumer m.seen.number t 0) ≡ Some p → is_resting p ≡ true → Tells o m.seen.number t log
 
 -- what is left is left behind another act
 left_behind : (o : Options) (log : List Entry) (n t : ℕ) (a : Act) → IsRun o (Then a ∷ log) → (due_to_plan n t ≡ a → ⊥) → Tells o n t log →
@@ -65,7 +65,7 @@ flow_is_none None h = refl
 flow_is_none (Some f) h = absurd cc
 
 took_none : (o : Options) (older : List Entry) (n t : ℕ) (m : Member) →
-    (view o (Then (Does (Consumer n t) (OfConsumer TakeFlow)) ∷ older)).consumers.rows t ≡ Some m →
+    (view o (Then (Does (Consumer n t 0) (OfConsumer TakeFlow)) ∷ older)).consumers.rows t ≡ Some m →
     flow_at ((view o older).consumers.rows t) ≡ None → is_due m.seen ≡ true → ⊥
 took_none o older n t m is none h = by ((view o older).consumers.rows t) refl none
   where
@@ -73,7 +73,7 @@ took_none o older n t m is none h = by ((view o older).consumers.rows t) refl no
     by row e f = on row f (sym (now row e) ∙ is)
       where
         now : (row : Option Member) → (view o older).consumers.rows t ≡ row →
-            (view o (Then (Does (Consumer n t) (OfConsumer TakeFlow)) ∷ older)).consumers.rows t ≡ option_map (member_after Asks) row
+            (view o (Then (Does (Consumer n t 0) (OfConsumer TakeFlow)) ∷ older)).consumers.rows t ≡ option_map (member_after Asks) row
         now row e =
             ap (λ b. row_by member_by (cond b (FlowTaken ∷ []) []) ((view o older).consumers.rows t)) (eq-eqb t t refl)
             ∙ ap (option_map (member_after Asks)) e
@@ -90,7 +90,7 @@ module _ (once : EndsOnce) (o : Options) (log : List Entry) (t : ℕ) (was : Ten
 
   module _ (n : Member) (is : v.consumers.rows t ≡ Some n) (due : is_due n.seen ≡ true) where
     abbrev who : Who
-    who = Consumer n.seen.number t
+    who = Consumer n.seen.number t 0
 
     -- it lives again: its flow fell due right then
     lives_due : (l : ℕ) (older : List Entry) → IsRun o log → log ≡ Then (Does who (OfConsumer (Revive l))) ∷ older → Tells o n.seen.number t log
@@ -220,10 +220,10 @@ module _ (once : EndsOnce) (o : Options) (log : List Entry) (t : ℕ) (was : Ten
           let seen : m.seen ≡ applied (does_to v t n a) n.seen = sym (ap (λ (y : Member). y.seen) same) ∙ r.seen in
           let number : n.seen.number ≡ m.seen.number = sym (ap (λ (s : Seen). s.number) seen ∙ applied_number (does_to v t n a) n.seen) in
           let d : is_due (applied (does_to v t n a) n.seen) ≡ true = sym (ap is_due seen) ∙ due in
-          subst (λ k. Tells o k t (Then a ∷ log)) number (at (is_waker a) refl n e d (ap (λ k. (view o (Then a ∷ log)).stand (Consumer k t)) number ∙ stood))
+          subst (λ k. Tells o k t (Then a ∷ log)) number (at (is_waker a) refl n e d (ap (λ k. (view o (Then a ∷ log)).stand (Consumer k t 0)) number ∙ stood))
         where
           at : (b : Bool) → is_waker a ≡ b → (n : Member) → v.consumers.rows t ≡ Some n → is_due (applied (does_to v t n a) n.seen) ≡ true →
-              (view o (Then a ∷ log)).stand (Consumer n.seen.number t) ≡ Some p → Tells o n.seen.number t (Then a ∷ log)
+              (view o (Then a ∷ log)).stand (Consumer n.seen.number t 0) ≡ Some p → Tells o n.seen.number t (Then a ∷ log)
           at true w n e d s = elim (rises o log t n e a w d) [
             | inl i ↦ arises (due_to_plan n.seen.number t) o (Then a) log i
             | inr old ↦ kept_on n e old a p run s rests
@@ -236,7 +236,7 @@ tended_run once o (Begins e ∷ log) t run = λ m p is due stood rests.
     (let g : Agenda = agenda o log in
     let s = begun_same (λ v. v.stand) e (view o log) refl in
     absurd (none_left (due_to_plan m.seen.number t) g.now g.here g.behind g.parts run.1
-    (tended_run once o log t run.0 m p (sym (begun_rows e (view o log) t) ∙ is) due (sym (ap (λ f. f (Consumer m.seen.number t)) s) ∙ stood) rests)))
+    (tended_run once o log t run.0 m p (sym (begun_rows e (view o log) t) ∙ is) due (sym (ap (λ f. f (Consumer m.seen.number t 0)) s) ∙ stood) rests)))
 tended_run once o (Then a ∷ log) t run = tended_on once o log t (tended_run once o log t run.0) a run
 
 no_due : (l : Live) → is_some (first_in l.due) ≡ false → l.due ≡ []
@@ -247,7 +247,7 @@ no_due l h = by l.due h
     by (n ∷ ns) k = absurd cc
 
 pub resting_none : EndsOnce → (o : Options) (log : List Entry) (t : ℕ) (m : Member) (p : Plan) (l : Live) → IsRun o log → first (agenda o log) ≡ None →
-    (view o log).consumers.rows t ≡ Some m → (view o log).stand (Consumer m.seen.number t) ≡ Some p → is_resting p ≡ true → m.seen.engine.live ≡ Some l →
+    (view o log).consumers.rows t ≡ Some m → (view o log).stand (Consumer m.seen.number t 0) ≡ Some p → is_resting p ≡ true → m.seen.engine.live ≡ Some l →
     l.due ≡ []
 resting_none once o log t m p l run ends is stood rests live = elim (cases_Bool (is_due m.seen)) [
   | inl due ↦

@@ -108,7 +108,7 @@ module _ (l place : ℕ) where
 
   said_quiet : (who : Who) (said : Said) → Quiet (ends_said who said)
   said_quiet (Call t) said = refl
-  said_quiet (Consumer n t) said = refl
+  said_quiet (Consumer n t key) said = refl
   said_quiet (Producer n) said = refl
 
   connects_quiet : (k : ℕ) (reached : Option (List ℕ × ℕ)) → Quiet (connects_to k reached)

@@ -47,7 +47,7 @@ module _ {A : Type 0} (below : A → A → Bool) where
 -- THE ORDER OF ALARMS: by what a tick brings of them, and then by ticket
 
 abbrev ticket_in : Alarm → ℕ
-ticket_in (Wake (Consumer n t)) = t
+ticket_in (Wake (Consumer n t key)) = t
 ticket_in _ = 0
 
 abbrev key : Alarm → ℕ × ℕ × ℕ × ℕ
@@ -70,33 +70,33 @@ then_equal Greater = refl
 same_cmp : (a b : Alarm) → alarm_cmp a b ≡ cmp4 (key a) (key b)
 same_cmp (Retry k) (Retry l) = then_equal (nat_cmp k l)
 same_cmp (Retry k) (Wake (Call u)) = refl
-same_cmp (Retry k) (Wake (Consumer m u)) = refl
+same_cmp (Retry k) (Wake (Consumer m u key)) = refl
 same_cmp (Retry k) (Wake (Producer m)) = refl
 same_cmp (Retry k) _ = refl
 same_cmp (Wake (Call t)) (Wake (Call u)) = then_equal (nat_cmp t u)
-same_cmp (Wake (Call t)) (Wake (Consumer m u)) = refl
+same_cmp (Wake (Call t)) (Wake (Consumer m u key)) = refl
 same_cmp (Wake (Call t)) (Wake (Producer m)) = refl
 same_cmp (Wake (Call t)) _ = refl
-same_cmp (Wake (Consumer n t)) (Wake (Call u)) = refl
-same_cmp (Wake (Consumer n t)) (Wake (Consumer m u)) = refl
-same_cmp (Wake (Consumer n t)) (Wake (Producer m)) = refl
-same_cmp (Wake (Consumer n t)) _ = refl
+same_cmp (Wake (Consumer n t key)) (Wake (Call u)) = refl
+same_cmp (Wake (Consumer n t key)) (Wake (Consumer m u key)) = refl
+same_cmp (Wake (Consumer n t key)) (Wake (Producer m)) = refl
+same_cmp (Wake (Consumer n t key)) _ = refl
 same_cmp (Wake (Producer n)) (Wake (Call u)) = refl
-same_cmp (Wake (Producer n)) (Wake (Consumer m u)) = refl
+same_cmp (Wake (Producer n)) (Wake (Consumer m u key)) = refl
 same_cmp (Wake (Producer n)) (Wake (Producer m)) = then_equal (nat_cmp n m)
 same_cmp (Wake (Producer n)) _ = refl
 same_cmp (Batch n) (Wake (Call u)) = refl
-same_cmp (Batch n) (Wake (Consumer m u)) = refl
+same_cmp (Batch n) (Wake (Consumer m u key)) = refl
 same_cmp (Batch n) (Wake (Producer m)) = refl
 same_cmp (Batch n) (Batch m) = then_equal (nat_cmp n m)
 same_cmp (Batch n) _ = refl
 same_cmp (KeepAlive k) (Wake (Call u)) = refl
-same_cmp (KeepAlive k) (Wake (Consumer m u)) = refl
+same_cmp (KeepAlive k) (Wake (Consumer m u key)) = refl
 same_cmp (KeepAlive k) (Wake (Producer m)) = refl
 same_cmp (KeepAlive k) (KeepAlive l) = then_equal (nat_cmp k l)
 same_cmp (KeepAlive k) _ = refl
 same_cmp CheckIdle (Wake (Call u)) = refl
-same_cmp CheckIdle (Wake (Consumer m u)) = refl
+same_cmp CheckIdle (Wake (Consumer m u key)) = refl
 same_cmp CheckIdle (Wake (Producer m)) = refl
 same_cmp CheckIdle _ = refl
 

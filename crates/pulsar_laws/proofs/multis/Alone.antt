@@ -145,7 +145,7 @@ built_multis t (Some p) ps = refl
 
 left_multis : (who : Who) (ps : Producers) → (producers_left who ps).multis ≡ ps.multis
 left_multis (one.Call t) ps = refl
-left_multis (one.Consumer n t) ps = refl
+left_multis (one.Consumer n t key) ps = refl
 left_multis (one.Producer n) ps = refl
 
 -- one that is made begins anew

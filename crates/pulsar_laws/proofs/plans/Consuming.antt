@@ -22,6 +22,17 @@ is_modest (OfConsumer ask) = true
 is_modest Rest = true
 is_modest _ = false
 
+-- What a plan of a consumer does, that serves it or copies its dead letters: such a one may send, but it tells nobody, stores no message, takes no batch
+-- and ends no link.
+abbrev pub is_discreet : Action → Bool
+is_discreet (Tell n) = false
+is_discreet (TellAll ns) = false
+is_discreet (OfTopic n (Store entry)) = false
+is_discreet (OfTopic n TakeBatch) = false
+is_discreet StopAll = false
+is_discreet (Shut number) = false
+is_discreet _ = true
+
 -- WHAT CALLS ON CONSUMERS BEGIN: one of these, or they are refused
 
 abbrev pub is_humble : Procedure → Bool

@@ -31,6 +31,10 @@ use Rattle.pulsar_client.proofs.Acts.{late}
 use Rattle.pulsar_laws.proofs.plans.Failing.{Fails, IsMade, begins_holds, course_fails, is_proper}
 use Rattle.pulsar_laws.proofs.plans.Follow.{plans_follow_lem}
 use Rattle.pulsar_laws.proofs.plans.Led.{tells_so}
+use Rattle.pulsar_outgoing.specs.declared.multi_topic.Multi.{Multi}
+use Rattle.pulsar_outgoing.specs.declared.multi_topic.Multi.TheVariants as multi
+use Rattle.pulsar_outgoing.specs.declared.multi_topic.Multi.TheVariants.{Own}
+use Rattle.pulsar_acts.specs.Rules.{multi_closes, multi_gathers, multi_sends, multi_sends_by, multi_shares_of, multi_shares_unless, posts, why_no_multi, why_no_multi_sends}
 use Rattle.pulsar_laws.proofs.plans.Left.{left_each}
 use Rattle.pulsar_laws.proofs.plans.Natures.{IsOfBatch}
 use Rattle.pulsar_laws.proofs.calls.Quiet.{IsQuiet, comes_quiet, performs_quiet}
@@ -77,6 +81,10 @@ errand_made : (o : Chosen) (ps : Producers) (s : Option Share) (advised : Option
     MadeBy (ways_of o) (sends_as o ps s advised t m)
 errand_made o ps s advised t m = sends_made (batches_in (ps.built t)) s m (ways_of o) (errand_of advised m (ps.built t))
 
+multi_made : (ws : Option Ways) (m : Multi) (s : Option Share) (t : List ℕ) (x : ProducerMessageValues) → MadeBy ws (multi_sends_by ws m s t x)
+multi_made None m s t x = fails_made None s refusal.NoAddress
+multi_made (Some w) m s t x = (tt, inr refl)
+
 module _ (o : Chosen) (c : Tickets) (cs : Consumers) (ps : Producers) (advised : List (Option ℕ)) where
   abbrev Made : Procedure → Type 0
   Made p = MadeBy (ways_of o) p
@@ -105,6 +113,16 @@ module _ (o : Chosen) (c : Tickets) (cs : Consumers) (ps : Producers) (advised :
   call_made (content.Partitions t) =
       open_made (searches (ways_of o) (sought.CountPartitions t)) (searches_made (ways_of o) (sought.CountPartitions t) refl)
   call_made (content.Brokers t) = open_made (searches (ways_of o) (sought.Name t)) (searches_made (ways_of o) (sought.Name t) refl)
+  call_made (content.Post topic m) = open_made (posts o topic m) (multi_made (ways_of o) Own None topic m)
+  call_made (content.MultiProducer wanted) = open_made (procedure.MakeMulti wanted.name wanted.options) (tt, inl refl)
+  call_made (content.MultiSend t topic m) =
+      open_made (multi_sends o ps.multis t topic m)
+      (unless_made (why_no_multi ps.multis t) (multi_sends_by (ways_of o) (multi.Made t) None topic m) (multi_made (ways_of o) (multi.Made t) None topic m))
+  call_made (content.MultiSendAll t topic ms) =
+      open_made (multi_gathers c ps.multis t ms)
+      (unless_made (why_no_multi ps.multis t) (procedure.Gather (c.drawn + 1) (length ms)) (tt, inl refl))
+  call_made (content.MultiClose t topic) =
+      open_made (multi_closes ps.multis t topic) (unless_made (why_no_multi ps.multis t) (procedure.MultiClose (multi.Made t) topic) (tt, inl refl))
   call_made (content.Producer w) = open_made (produces o w) (produces_made (ways_of o) w.topic w)
   call_made (content.Send t m) =
       open_made (sends o ps (next_advice advised) t m)
@@ -146,8 +164,19 @@ unless_shares : (r : Option CallRefusal) (v : View) (advised : List (Option ℕ)
 unless_shares None v advised t ms = shares_made v.chosen v.producers v.calls.drawn (v.calls.drawn + 1) advised t ms
 unless_shares (Some r) v advised t ms = tt
 
+multi_shares_made : (o : Chosen) (of ticket : ℕ) (m : Multi) (t : List ℕ) (ms : List ProducerMessageValues) →
+    Each (StartsMade (ways_of o)) (multi_shares_of o of ticket m t ms)
+multi_shares_made o of ticket m t [] = tt
+multi_shares_made o of ticket m t (x ∷ xs) = (multi_made (ways_of o) m (share of ticket) t x, multi_shares_made o of (ticket + 1) m t xs)
+
+multi_unless_shares : (r : Option CallRefusal) (v : View) (t : ℕ) (topic : List ℕ) (ms : List ProducerMessageValues) →
+    Each (StartsMade (ways_of v.chosen)) (multi_shares_unless r v t topic ms)
+multi_unless_shares None v t topic ms = multi_shares_made v.chosen v.calls.drawn (v.calls.drawn + 1) (multi.Made t) topic ms
+multi_unless_shares (Some r) v t topic ms = tt
+
 parts_made : (v : View) (advised : List (Option ℕ)) (asked : Asked) → Each (StartsMade (ways_of v.chosen)) (parts_of v advised asked)
 parts_made v advised (content.SendAll t ms) = unless_shares (why_no_sends v.calls v.producers t) v advised t ms
+parts_made v advised (content.MultiSendAll t topic ms) = multi_unless_shares (why_no_multi_sends v.calls v.producers.multis t) v t topic ms
 parts_made v advised _ = tt
 
 starts_made : (v : View) (advised : List (Option ℕ)) (asked : Asked) → Each (StartsMade (ways_of v.chosen)) (starts v advised asked)
@@ -186,7 +215,8 @@ arises_made v (Told n) = some_made (ways_of v.chosen) n.who (told_some (v.stand 
 arises_made v (Does who action) =
     each_map IsQuiet (StartsMade (ways_of v.chosen)) (performs v who action) (quiet_made (ways_of v.chosen)) (performs_quiet v who action)
 arises_made v (Answers who verdict) =
-    left_each (StartsMade (ways_of v.chosen)) (ways_of v.chosen) who verdict.makes (λ w e s. (tt, inr (sym s))) (λ w n t s. (tt, inr (sym s)))
+    left_each (StartsMade (ways_of v.chosen)) (ways_of v.chosen) v.consumers.next_key who verdict.makes (λ w e s. (tt, inr (sym s)))
+    (λ w n t s. (tt, inr (sym s))) (λ w n t topic s. (tt, inr (sym s)))
 arises_made v _ = tt
 
 module _ (o : Options) where

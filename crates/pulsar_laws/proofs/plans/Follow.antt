@@ -40,8 +40,8 @@ served_no_deed _ h = refl
 pub performs_none : (v : View) (who : Who) (action : Action) → Each NoDeed (performs v who action)
 performs_none v who action = each_map IsQuiet NoDeed (performs v who action) quiet_no_deed (performs_quiet v who action)
 
-pub left_no_deed : (ways : Option Ways) (maker : Who) (makes : Makes) → Each NoDeed (left_with ways maker makes)
-left_no_deed ways maker makes = left_each NoDeed ways maker makes (λ w e s. refl) (λ w n t s. refl)
+pub left_no_deed : (ways : Option Ways) (key : ℕ) (maker : Who) (makes : Makes) → Each NoDeed (left_with ways key maker makes)
+left_no_deed ways key maker makes = left_each NoDeed ways key maker makes (λ w e s. refl) (λ w n t s. refl) (λ w n t topic s. refl)
 
 start_no_deed : (from to : ℕ) (a : Act) → StartsIn from to a → NoDeed a
 start_no_deed from to (Starts who p) k = refl
@@ -274,9 +274,9 @@ follows_run o (Then (Does w a) ∷ log) r =
     simple_on o log (Does w a) (follows_run o log r.0) r.1 (each_drop NoDeed (performs (view o log) w a) (performs_none (view o log) w a))
     (λ u t. none_due u (performs (view o log) w a) (performs_none (view o log) w a)) (λ u. refl) (λ u. refl) (λ u. refl) (λ u. refl)
 follows_run o (Then (Answers w a) ∷ log) r =
-    let none : Each NoDeed (left_with (ways_of (view o log).chosen) w a.makes) = left_no_deed (ways_of (view o log).chosen) w a.makes in
-    simple_on o log (Answers w a) (follows_run o log r.0) r.1 (each_drop NoDeed (left_with (ways_of (view o log).chosen) w a.makes) none)
-    (λ u t. none_due u (left_with (ways_of (view o log).chosen) w a.makes) none) (λ u. refl) (λ u. refl) (λ u. refl) (λ u. refl)
+    let none : Each NoDeed (left_with (ways_of (view o log).chosen) (view o log).consumers.next_key w a.makes) = left_no_deed (ways_of (view o log).chosen) (view o log).consumers.next_key w a.makes in
+    simple_on o log (Answers w a) (follows_run o log r.0) r.1 (each_drop NoDeed (left_with (ways_of (view o log).chosen) (view o log).consumers.next_key w a.makes) none)
+    (λ u t. none_due u (left_with (ways_of (view o log).chosen) (view o log).consumers.next_key w a.makes) none) (λ u. refl) (λ u. refl) (λ u. refl) (λ u. refl)
 follows_run o (Then a ∷ log) r = simple_on o log a (follows_run o log r.0) r.1 tt (λ u t. refl) (λ u. refl) (λ u. refl) (λ u. refl) (λ u. refl)
 
 pub plans_follow_lem : PlansFollow

@@ -1,5 +1,5 @@
 -- What a plan has the turn of, and how it comes to it and leaves it: one step of a plan.
-use Rattle.std.proofs.Common.{◌≡◌, ◌⊎◌, inl, inr, ◌∙◌, sym, ℕ, refl, Bool, true, false, Option, Some, None, subst}
+use Rattle.std.proofs.Common.{◌≡◌, List, ◌⊎◌, inl, inr, ◌∙◌, sym, ℕ, refl, Bool, true, false, Option, Some, None, subst}
 use Rattle.pulsar_laws.proofs.ActWords.{Action, OfTopic, Outcome, PassTurn, Procedure, Share, TakeTurn}
 use Rattle.pulsar_laws.proofs.PlanWords.{action_of, Batches, Batching, begins, BuildingProducer as Build, Deed, Errand, Leaving, News, news_of, ProducerOrder, Plan, Producing, Reporting, Sending as Send, told, Visiting, Ways}
 use Rattle.pulsar_laws.proofs.LinkWords.{Failure}
@@ -11,12 +11,17 @@ use Rattle.pulsar_producer.specs.declared.sending.Sending.TheVariants as send
 use Rattle.pulsar_calls.specs.declared.act.Outcome.TheVariants as outcome
 use Rattle.pulsar_plans.specs.declared.plan.At.{At as Spot}
 use Rattle.pulsar_plans.specs.declared.plan.At.TheVariants as at
-use Rattle.pulsar_plans.specs.declared.plan.Plan.TheVariants.{Sending}
+use Rattle.pulsar_plans.specs.declared.plan.Plan.TheVariants.{Copying, MultiSending, Sending}
 use Rattle.pulsar_producer.specs.Batching.{is_sent_send}
 use Rattle.pulsar_laws.proofs.Cases.{none_some}
 use Rattle.pulsar_laws.specs.ProducerLaws.{turn_in, turn_of}
-use Rattle.pulsar_plans.proofs.Arcs.{Arc, BatchArc, Begun, StaysSo, answered_turns, asked_passes, asks_not, batch_cuts, batch_halts, batch_sends, batches_go, begins_by, begins_checks, begins_send, builds_on, finds_not, found_asks, line_passes, part_fails, part_halts, part_sends, part_tells, reports_on, sends, settled_turns, stays_by, taken_starts, turned_finds}
+use Rattle.pulsar_plans.proofs.Arcs.{Arc, BatchArc, Begun, StaysSo, answered_turns, asked_passes, asks_not, batch_cuts, batch_halts, batch_sends, batches_go, begins_by, begins_checks, begins_send, builds_on, copies_go, finds_not, found_asks, line_passes, part_fails, part_halts, part_sends, part_tells, reports_on, sends, settled_turns, stays_by, taken_starts, turned_finds, multi_goes, multi_sends}
 use Rattle.pulsar_laws.proofs.plans.Natures.{is_leaving}
+use Rattle.pulsar_laws.proofs.plans.Doing.{IsCommon, multi_does}
+use Rattle.pulsar_outgoing.specs.declared.multi_topic.Multi.TheVariants.{Own}
+use Rattle.pulsar_plans.proofs.CopyArcs.{CopyArc, asked_rests, copy_fails, copy_sent, due_takes, handed_sends, handed_stores, handing_fails, handing_goes, letter_hands, no_letter_rests, resting_rests, sending_goes, settled_asks, settled_rests, settling_rests, taking_rests}
+use Rattle.pulsar_plans.specs.declared.copying.CopyState.{CopyState}
+use Rattle.pulsar_plans.specs.declared.copying.CopyState.TheVariants as copy
 use Rattle.pulsar_producer.proofs.Arcs.{BuildArc, SendArc, asked_ends, drawn_ends, draws, looked_ends, made_ends, naming_rests, queued, recalled_ends, remade_ends, sent_rests}
 
 -- what one has the turn of; a part of a call that is queued has it until it has told so
@@ -45,11 +50,16 @@ abbrev pub holds_batch : Errand → Batches → Option ℕ
 holds_batch e (batching.Sending ms c s) = holds_in e s
 holds_batch e _ = None
 
+abbrev pub holds_copy : CopyState → Option ℕ
+holds_copy (copy.Sending e s) = holds_in e s
+holds_copy _ = None
+
 abbrev pub holds : Plan → Option ℕ
 holds (Sending w e share s) = holds_as e share s
 holds (Batching w e b) = holds_batch e b
 holds (Reporting w e) = Some e.producer
 holds (Visiting r n left x) = holds_at n x
+holds (Copying w t s) = holds_copy s
 holds _ = None
 
 abbrev pub is_turn_news : News → Bool
@@ -60,10 +70,11 @@ abbrev pub is_turn_told : Outcome → Bool
 is_turn_told (outcome.Granted n) = is_turn_news n
 is_turn_told _ = false
 
--- a plan that leaves, and that of batches, which the stop of the client overrides
+-- a plan that leaves, that of batches, which the stop of the client overrides, and that of copies, which goes on with the next one
 abbrev pub is_past : Plan → Bool
 is_past (Leaving f) = true
 is_past (Batching w e b) = true
+is_past (Copying w t s) = true
 is_past _ = false
 
 -- one comes to a turn where it is told so, passes on what it has, and takes one where it waits for none and has none
@@ -155,6 +166,35 @@ batch_goes {w} {e} u y (batch_sends {ms} {c} {s} {q = r} {y = z} {d} k) i =
 batch_goes u y taken_starts i = record { has = λ m h. absurd (none_some h); waits = λ m h t. refl; passes = (refl, refl, refl, refl) }
 batch_goes u y _ i = record { has = λ m h. absurd (none_some h); waits = λ m h t. refl; passes = tt }
 
+-- COPIES OF DEAD LETTERS, AND SENDS BY PRODUCERS OF MANY TOPICS
+
+common_idle : (p x : Plan) → IsCommon (PassesSo p x)
+common_idle p x =
+    record { gets = λ at. tt; asks = λ l request. tt; waits = λ delay. tt; numbers = tt; rests = tt; builds = λ k. build_idle p x k }
+
+idle : {p x : Plan} {u : Outcome} {a : Action} → holds x ≡ None → turn_of p ≡ None → PassesSo p x a → GoesSo p u x a
+idle hx tp k = record { has = λ m h. absurd (none_some (sym hx ∙ h)); waits = λ m h t. absurd (none_some (sym tp ∙ h)); passes = k }
+
+copy_goes : {w : Ways} {t : List ℕ} {s q : CopyState} {u : Outcome} {a : Action} → CopyArc w t s u q a → GoesSo (Copying w t s) u (Copying w t q) a
+copy_goes resting_rests = idle refl refl tt
+copy_goes taking_rests = idle refl refl tt
+copy_goes settling_rests = idle refl refl tt
+copy_goes due_takes = idle refl refl tt
+copy_goes letter_hands = idle refl refl tt
+copy_goes no_letter_rests = idle refl refl tt
+copy_goes {w} {t} (handing_goes {s} {q} d k) =
+    idle refl refl (multi_does (PassesSo (Copying w t (copy.Handing s)) (Copying w t (copy.Handing q))) (common_idle _ _) Own (λ ask. tt) k)
+copy_goes (handed_sends k) = idle refl refl (refl, refl, refl, refl)
+copy_goes (handed_stores k) = idle refl refl tt
+copy_goes (handing_fails k) = idle refl refl tt
+copy_goes {w} {t} {u = u} (sending_goes {e} {s} {q} d k) =
+    goes_as (Copying w t (copy.Sending e s)) (Copying w t (copy.Sending e q)) u e s q d refl refl refl (send_goes k)
+copy_goes (copy_sent k) = record { has = λ m h. absurd (none_some h); waits = λ m h t. refl; passes = tt }
+copy_goes (copy_fails k) = record { has = λ m h. absurd (none_some h); waits = λ m h t. refl; passes = tt }
+copy_goes settled_asks = idle refl refl tt
+copy_goes settled_rests = idle refl refl tt
+copy_goes asked_rests = idle refl refl tt
+
 -- ALL
 
 arc_goes : {p q : Plan} {u : Outcome} {a : Action} → Arc p u q a → GoesSo p u q a
@@ -182,6 +222,11 @@ arc_goes finds_not = record { has = λ m h. absurd (none_some h); waits = λ m h
 arc_goes asked_passes = record { has = λ m h. absurd (none_some h); waits = λ m h t. absurd (none_some h); passes = (refl, refl) }
 arc_goes line_passes = record { has = λ m h. absurd (none_some h); waits = λ m h t. absurd (none_some h); passes = (refl, refl) }
 arc_goes asks_not = record { has = λ m h. absurd (none_some h); waits = λ m h t. absurd (none_some h); passes = (refl, refl) }
+arc_goes (multi_goes {w} {m} {share} {s} {q} d k) =
+    idle refl refl (multi_does (PassesSo (MultiSending w m share s) (MultiSending w m share q)) (common_idle _ _) m (λ ask. tt) k)
+arc_goes (multi_sends {share = None} k) = idle refl refl (refl, refl, refl, refl)
+arc_goes (multi_sends {share = Some h} k) = idle refl refl (refl, refl, refl, refl)
+arc_goes (copies_go k) = copy_goes k
 arc_goes _ = record { has = λ m h. absurd (none_some h); waits = λ m h t. absurd (none_some h); passes = tt }
 
 pub told_holds : (p : Plan) (u : Outcome) → StaysSo (GoesSo p u) (told p u)

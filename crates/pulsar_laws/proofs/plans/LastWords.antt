@@ -173,6 +173,8 @@ module _ (P : ℕ → Type 0) where
   last_told (Reporting w e) u is c k = absurd cc
   last_told (Batching w e b) outcome.Cut is c k = batch_last w e b k
   last_told (Batching w e b) outcome.Stopped is c k = batch_last w e b k
+  last_told (MultiSending w m share s) outcome.Cut is c k = halted_last share (OfConnection (fault_of outcome.Cut))
+  last_told (MultiSending w m share s) outcome.Stopped is c k = halted_last share (OfConnection (fault_of outcome.Stopped))
   last_told plan outcome.Cut is c k = refl
   last_told plan outcome.Stopped is c k = refl
   last_told plan u is c k = absurd cc

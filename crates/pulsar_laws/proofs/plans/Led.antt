@@ -71,7 +71,7 @@ module _ (o : Options) (older : List Entry) (w : Who) (d : Deed) where
   once_led (Told n) ys h = told_so n (v.stand n.who) ys refl h
   once_led (Does who action) ys h = absurd (not_deed w d (performs v who action) ys (performs_none v who action) h)
   once_led (Answers who verdict) ys h =
-      absurd (not_deed w d (left_with (ways_of v.chosen) who verdict.makes) ys (left_no_deed (ways_of v.chosen) who verdict.makes) h)
+      absurd (not_deed w d (left_with (ways_of v.chosen) v.consumers.next_key who verdict.makes) ys (left_no_deed (ways_of v.chosen) v.consumers.next_key who verdict.makes) h)
   once_led _ ys h = absurd cc
 
   head_led : (a : Act) (xs ys zs : List Act) → xs ≡ at_once v a → Each NoDeed ys → xs ++ ys ≡ act_of w d ∷ zs → IsLedBy a

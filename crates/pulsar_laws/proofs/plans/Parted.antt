@@ -19,7 +19,9 @@ use Rattle.pulsar_calls.specs.declared.act.Says.TheVariants as says
 use Rattle.pulsar_calls.specs.Content as content
 use Rattle.pulsar_laws.proofs.Cases.{none_some}
 use Rattle.pulsar_producer_table.specs.Producers.{Producers, advice, batches_in, errand_of, numbers_at, routed, why_not}
-use Rattle.pulsar_acts.specs.Rules.{call_part}
+use Rattle.pulsar_outgoing.specs.declared.multi_topic.Multi.{Multi}
+use Rattle.pulsar_outgoing.specs.declared.multi_topic.Multi.TheVariants.{Made, Own}
+use Rattle.pulsar_acts.specs.Rules.{call_part, multi_closes, multi_gathers, multi_sends, multi_sends_by, multi_shares_of, multi_shares_unless, posts, why_no_multi, why_no_multi_sends}
 use Rattle.pulsar_laws.proofs.plans.Follow.{same_is}
 use Rattle.pulsar_laws.proofs.plans.Granted.{in_each}
 use Rattle.pulsar_laws.proofs.calls.Made.{calls_are_made_lem}
@@ -35,17 +37,21 @@ is_plain (procedure.Batch w e) = false
 is_plain (procedure.FailShare s r) = false
 is_plain (procedure.Gather first count) = false
 is_plain (procedure.Serve w n) = false
+is_plain (procedure.Copy w topic) = false
+is_plain (procedure.MultiSend w m (Some s) topic x) = false
 is_plain _ = true
 
--- the plan of batches is that of no call, and neither is one that serves a consumer
+-- the plan of batches is that of no call, and neither is one that serves a consumer or copies its dead letters
 abbrev pub is_batches : Procedure → Bool
 is_batches (procedure.Batch w e) = true
 is_batches (procedure.Serve w n) = true
+is_batches (procedure.Copy w topic) = true
 is_batches _ = false
 
 plain_batches : (p : Procedure) → is_plain p ≡ true → is_batches p ≡ false
 plain_batches (procedure.Batch w e) h = absurd cc
 plain_batches (procedure.Serve w n) h = absurd cc
+plain_batches (procedure.Copy w topic) h = absurd cc
 plain_batches _ h = refl
 
 abbrev pub is_store : Procedure → Bool
@@ -68,6 +74,8 @@ plain_share (procedure.Send w e None m) h = refl
 plain_share (procedure.Send w e (Some s) m) h = absurd cc
 plain_share (procedure.Store n share e) h = absurd cc
 plain_share (procedure.FailShare s r) h = absurd cc
+plain_share (procedure.MultiSend w m None topic x) h = refl
+plain_share (procedure.MultiSend w m (Some s) topic x) h = absurd cc
 plain_share _ h = refl
 
 plain_of : (d c u : ℕ) (p : Procedure) → is_plain p ≡ true → IsOf d c u p
@@ -120,6 +128,10 @@ module _ (d c u : ℕ) where
       either_of d c u b (stores_as e.producer None (entry_of m)) (procedure.Send w e None m) (stores_of e.producer (entry_of m) same none)
       (plain_of d c u (procedure.Send w e None m) refl)
 
+  multi_of : (w : Option Ways) (m : Multi) (t : List ℕ) (x : ProducerMessageValues) → IsOf d c u (multi_sends_by w m None t x)
+  multi_of None m t x = plain_of d c u (procedure.Refuse refusal.NoAddress) refl
+  multi_of (Some w) m t x = plain_of d c u (procedure.MultiSend w m None t x) refl
+
   may_of : (b : Bool) (p : Procedure) → IsOf d c u p → IsOf d c u (unless_refused b p)
   may_of b p x = either_of d c u b p (procedure.Refuse refusal.Shutdown) x (plain_of d c u (procedure.Refuse refusal.Shutdown) refl)
 
@@ -128,11 +140,13 @@ abbrev is_gather : Procedure → Bool
 is_gather (procedure.Gather first count) = true
 is_gather (procedure.Batch w e) = true
 is_gather (procedure.Serve w n) = true
+is_gather (procedure.Copy w topic) = true
 is_gather _ = false
 
 no_batches : (p : Procedure) → is_gather p ≡ false → is_batches p ≡ false
 no_batches (procedure.Batch w e) h = absurd cc
 no_batches (procedure.Serve w n) h = absurd cc
+no_batches (procedure.Copy w topic) h = absurd cc
 no_batches _ h = refl
 
 part_is : (d c u : ℕ) (s : Share) (p : Procedure) → share_in p ≡ Some s → is_gather p ≡ false → s.ticket ≡ u → s.of ≡ d → d < u → u < d + 1 + c → IsOf d c u p
@@ -158,6 +172,11 @@ part_send d c u s t m (Some w) (Some e) a b x y =
     either_of d c u t (stores_as e.producer (Some s) (entry_of m)) (procedure.Send w e (Some s) m)
     (part_stores d c u s e.producer (entry_of m) a b x y) (part_is d c u s (procedure.Send w e (Some s) m) refl refl a b x y)
 
+part_multi : (d c u : ℕ) (s : Share) (w : Option Ways) (m : Multi) (t : List ℕ) (x : ProducerMessageValues) → s.ticket ≡ u → s.of ≡ d → d < u →
+    u < d + 1 + c → IsOf d c u (multi_sends_by w m (Some s) t x)
+part_multi d c u s None m t x a b lt le = part_is d c u s (procedure.FailShare s refusal.NoAddress) refl refl a b lt le
+part_multi d c u s (Some w) m t x a b lt le = part_is d c u s (procedure.MultiSend w m (Some s) t x) refl refl a b lt le
+
 abbrev pub StartSo : (d c : ℕ) → Act → Type 0
 StartSo d c (Starts (Call u) p) = IsOf d c u p
 StartSo d c _ = Unit {0}
@@ -172,6 +191,20 @@ parts_so d c o ps k advised t (m ∷ ms) x y = (
   parts_so d c o (routed t m ps) (k + 1) (drop 1 advised) t ms (omega (arith, x)) (omega (arith, y)),
 )
 
+multi_parts_so : (d c : ℕ) (o : Chosen) (k : ℕ) (m : Multi) (t : List ℕ) (ms : List ProducerMessageValues) → d < k → k + length ms ≤ d + 1 + c →
+    Each (StartSo d c) (multi_shares_of o d k m t ms)
+multi_parts_so d c o k m t [] x y = tt
+multi_parts_so d c o k m t (z ∷ zs) x y = (
+  part_multi d c k (record { of = d; ticket = k }) (ways_of o) m t z refl refl x (omega (arith, y)),
+  multi_parts_so d c o (k + 1) m t zs (omega (arith, x)) (omega (arith, y)),
+)
+
+multi_unless_so : (v : View) (t : ℕ) (topic : List ℕ) (ms : List ProducerMessageValues) (r : Option CallRefusal) →
+    Each (StartSo v.calls.drawn (length ms)) (multi_shares_unless r v t topic ms)
+multi_unless_so v t topic ms (Some r) = tt
+multi_unless_so v t topic ms None =
+    multi_parts_so v.calls.drawn (length ms) v.chosen (v.calls.drawn + 1) (Made t) topic ms (omega arith) (omega arith)
+
 unless_so : (v : View) (advised : List (Option ℕ)) (t : ℕ) (ms : List ProducerMessageValues) (r : Option CallRefusal) →
     Each (StartSo v.calls.drawn (length ms)) (shares_unless r v advised t ms)
 unless_so v advised t ms (Some r) = tt
@@ -179,6 +212,7 @@ unless_so v advised t ms None = parts_so v.calls.drawn (length ms) v.chosen v.pr
 
 all_parts : (v : View) (advised : List (Option ℕ)) (asked : Asked) → Each (StartSo v.calls.drawn (shares asked)) (parts_of v advised asked)
 all_parts v advised (content.SendAll t ms) = unless_so v advised t ms (why_no_sends v.calls v.producers t)
+all_parts v advised (content.MultiSendAll t topic ms) = multi_unless_so v t topic ms (why_no_multi_sends v.calls v.producers.multis t)
 all_parts v advised _ = tt
 
 gathers_of : (d u c : ℕ) (ms : List ProducerMessageValues) → u ≡ d → c ≡ length ms → IsOf d c u (procedure.Gather (d + 1) (length ms))
@@ -218,6 +252,24 @@ head_of v advised (content.Partitions topic) =
 head_of v advised (content.Brokers topic) =
     may_of v.calls.drawn 0 v.calls.drawn (may_call v.calls) (searches (ways_of v.chosen) (sought.Name topic))
     (search_of v.calls.drawn 0 v.calls.drawn (ways_of v.chosen) (sought.Name topic))
+head_of v advised (content.Post topic m) =
+    may_of v.calls.drawn 0 v.calls.drawn (may_call v.calls) (posts v.chosen topic m)
+    (multi_of v.calls.drawn 0 v.calls.drawn (ways_of v.chosen) Own topic m)
+head_of v advised (content.MultiProducer wanted) =
+    may_of v.calls.drawn 0 v.calls.drawn (may_call v.calls) (procedure.MakeMulti wanted.name wanted.options)
+    (plain_of v.calls.drawn 0 v.calls.drawn (procedure.MakeMulti wanted.name wanted.options) refl)
+head_of v advised (content.MultiSend t topic m) =
+    may_of v.calls.drawn 0 v.calls.drawn (may_call v.calls) (multi_sends v.chosen v.producers.multis t topic m)
+    (unless_of v.calls.drawn 0 v.calls.drawn (why_no_multi v.producers.multis t) (multi_sends_by (ways_of v.chosen) (Made t) None topic m)
+    (multi_of v.calls.drawn 0 v.calls.drawn (ways_of v.chosen) (Made t) topic m))
+head_of v advised (content.MultiSendAll t topic ms) =
+    may_of v.calls.drawn (length ms) v.calls.drawn (may_call v.calls) (multi_gathers v.calls v.producers.multis t ms)
+    (unless_of v.calls.drawn (length ms) v.calls.drawn (why_no_multi v.producers.multis t) (procedure.Gather (v.calls.drawn + 1) (length ms))
+    (gathers_of v.calls.drawn v.calls.drawn (length ms) ms refl refl))
+head_of v advised (content.MultiClose t topic) =
+    may_of v.calls.drawn 0 v.calls.drawn (may_call v.calls) (multi_closes v.producers.multis t topic)
+    (unless_of v.calls.drawn 0 v.calls.drawn (why_no_multi v.producers.multis t) (procedure.MultiClose (Made t) topic)
+    (plain_of v.calls.drawn 0 v.calls.drawn (procedure.MultiClose (Made t) topic) refl))
 head_of v advised (content.Producer wanted) =
     may_of v.calls.drawn 0 v.calls.drawn (may_call v.calls) (produces v.chosen wanted)
     (produce_of v.calls.drawn 0 v.calls.drawn (ways_of v.chosen) wanted.topic wanted)

@@ -43,8 +43,8 @@ no_flow _ h = cc
 takes_by : (t : PlanTransition) (p q : Plan) (u : Outcome) → TurnSo p u t → t ≡ Stays q (OfConsumer TakeFlow) → is_server p ≡ true
 takes_by t p q u k e = (subst (TurnSo p u) e k).2
 
-pub flow_takers : (o : Options) (log : List Entry) (w : Who) → IsRun o (Then (Does w (OfConsumer TakeFlow)) ∷ log) → (n t : ℕ) × (w ≡ Consumer n t)
-flow_takers o log (Consumer n t) run = (n, t, refl)
+pub flow_takers : (o : Options) (log : List Entry) (w : Who) → IsRun o (Then (Does w (OfConsumer TakeFlow)) ∷ log) → (n t : ℕ) × (w ≡ Consumer n t 0)
+flow_takers o log (Consumer n t key) run = (n, t, refl)
 flow_takers o log (Producer n) run = let k = batcher_does o log n (OfConsumer TakeFlow) run in absurd (no_flow k.0 k.1)
 flow_takers o log (Call t) run = elim (does_from o log (Call t) (OfConsumer TakeFlow) run) [ inl k ↦ absurd (begun k) | inr k ↦ absurd (led k) ]
   where
@@ -128,8 +128,8 @@ is_revived o log w l run = elim (does_from o log w (OfConsumer (Revive l)) run) 
 no_revive : (l : ℕ) (d : Deed) → OfConsumer (Revive l) ≡ action_of d → ⊥
 no_revive l d h = deed_not d (sym (ap is_revive h))
 
-pub revivers : (o : Options) (log : List Entry) (w : Who) (l : ℕ) → IsRun o (Then (Does w (OfConsumer (Revive l))) ∷ log) → (n t : ℕ) × (w ≡ Consumer n t)
-revivers o log (Consumer n t) l run = (n, t, refl)
+pub revivers : (o : Options) (log : List Entry) (w : Who) (l : ℕ) → IsRun o (Then (Does w (OfConsumer (Revive l))) ∷ log) → (n t : ℕ) × (w ≡ Consumer n t 0)
+revivers o log (Consumer n t key) l run = (n, t, refl)
 revivers o log (Producer n) l run = let k = batcher_does o log n (OfConsumer (Revive l)) run in absurd (no_revive l k.0 k.1)
 revivers o log (Call t) l run =
     let k : IsRevived o log (Call t) l = is_revived o log (Call t) l run in

@@ -6,7 +6,7 @@ use Rattle.pulsar_calls.specs.declared.act.Outcome.TheVariants as outcome
 use Rattle.pulsar_plans.specs.declared.plan.Plan.TheVariants.{Copying, MultiSending, Sending}
 use Rattle.pulsar_laws.proofs.Cases.{none_some}
 pub use Rattle.pulsar_laws.specs.CauseLaws.{share_in}
-use Rattle.pulsar_plans.proofs.Arcs.{Arc, BatchArc, Begun, StaysSo, batch_sends, batches_go, begins_by, begins_leaving, begins_send, begins_storing, builds_on, copies_go, multi_goes, multi_halts, multi_leaves, multi_sends, multi_stores, part_fails, part_halts, part_sends, part_stores, part_tells, sends, stays_by}
+use Rattle.pulsar_plans.proofs.Arcs.{Arc, BatchArc, Begun, StaysSo, batch_sends, batches_go, begins_by, begins_leaving, begins_multi_send, begins_send, begins_storing, builds_on, copies_go, multi_goes, multi_halts, multi_leaves, multi_sends, multi_stores, part_fails, part_halts, part_sends, part_stores, part_tells, sends, stays_by}
 use Rattle.pulsar_laws.proofs.plans.Doing.{IsCommon, copy_does, multi_does}
 use Rattle.pulsar_outgoing.specs.declared.multi_topic.Multi.{Multi}
 use Rattle.pulsar_plans.proofs.CopyArcs.{CopyArc}
@@ -97,6 +97,7 @@ told_shares p u = stays_by (SharesSo (shares_of p)) p u (λ q a k. arc_shares k)
 begun_shares : {p : Procedure} {q : Plan} {a : Action} → Begun p q a → SharesSo (share_in p) q a
 begun_shares begins_send = record { keeps = λ x h. h; tells = tt }
 begun_shares begins_storing = record { keeps = λ x h. h; tells = tt }
+begun_shares begins_multi_send = record { keeps = λ x h. h; tells = tt }
 begun_shares (begins_leaving {h}) = record { keeps = λ x i. absurd (none_some i); tells = (h, refl, refl, refl, refl) }
 begun_shares _ = record { keeps = λ x h. absurd (none_some h); tells = tt }
 

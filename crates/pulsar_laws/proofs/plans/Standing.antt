@@ -1,6 +1,6 @@
 -- What begins for a consumer is the plan that serves it, and for a topic producer that of its own batches. And what the plan of one is and does,
 -- where its procedure begins so and each outcome keeps it.
-use Rattle.std.proofs.Common.{◌≡◌, inl, inr, ◌∙◌, sym, ap, subst, ℕ, ◌≤◌, arith, List, [], ◌∷◌, refl, Bool, true, false, cond, Option, Some, None}
+use Rattle.std.proofs.Common.{◌≡◌, ◌⊎◌, inl, inr, ◌∙◌, sym, ap, subst, ℕ, ◌≤◌, arith, List, [], ◌∷◌, refl, Bool, true, false, cond, Option, Some, None}
 use Rattle.std.proofs.lemmas.Bool.{cases_Bool}
 use Rattle.pulsar_laws.proofs.ActWords.{Act, Action, Answers, Call, Consumer, is_same, Outcome, Procedure, Producer, Starts, Told, Who}
 use Rattle.pulsar_laws.proofs.PlanWords.{begins, Gives, Plan, PlanTransition, Stays, told, Ways}
@@ -8,6 +8,7 @@ use Rattle.pulsar_laws.proofs.RunWords.{agenda, at_once, Begins, begun_same, cou
 use Rattle.pulsar_calls.specs.declared.act.Procedure.TheVariants as procedure
 use Rattle.pulsar_client.proofs.Raising.{IsRaised, raises}
 use Rattle.pulsar_laws.proofs.Cases.{none_some}
+use Rattle.pulsar_laws.proofs.plans.Drawn.{next, positive}
 use Rattle.pulsar_laws.proofs.plans.Left.{left_each}
 use Rattle.pulsar_laws.proofs.calls.Same.{same_self, same_who}
 
@@ -16,9 +17,14 @@ use Rattle.pulsar_laws.proofs.calls.Same.{same_self, same_who}
 abbrev pub OwnBatches : ℕ → Procedure → Type 0
 OwnBatches n p = (w : Ways) × (block : Bool) × (p ≡ procedure.Batch w (record { producer = n; block = block }))
 
+-- of a consumer: the one with no key serves it, and the others copy its dead letters
+abbrev pub OwnService : (number key : ℕ) → Procedure → Type 0
+OwnService n key p =
+    ((key ≡ 0) × (w : Ways) × (p ≡ procedure.Serve w n)) ⊎ ((1 ≤ key) × (w : Ways) × (topic : List ℕ) × (p ≡ procedure.Copy w topic))
+
 abbrev pub IsOwn : Act → Type 0
 IsOwn (Starts (Producer n) p) = OwnBatches n p
-IsOwn (Starts (Consumer n t) p) = (w : Ways) × (p ≡ procedure.Serve w n)
+IsOwn (Starts (Consumer n t key) p) = OwnService n key p
 IsOwn _ = Unit {0}
 
 served_own : (a : Act) → is_served a ≡ true → IsOwn a
@@ -32,19 +38,21 @@ is_verdict _ = false
 raised_own : (a b : Act) → is_verdict a ≡ false → IsRaised a b → IsOwn b
 raised_own (Answers who verdict) b other h = absurd cc
 raised_own a (Starts (Producer n) p) other h = absurd cc
-raised_own a (Starts (Consumer n t) p) other h = absurd cc
+raised_own a (Starts (Consumer n t key) p) other h = absurd cc
 raised_own a _ other h = tt
 
-once_own : (v : View) (a : Act) → Each IsOwn (at_once v a)
-once_own v (Answers who verdict) = left_each IsOwn (ways_of v.chosen) who verdict.makes (λ w e s. (w, e.block, refl)) (λ w n t s. (w, refl))
-once_own v a = each_map (IsRaised a) IsOwn (at_once v a) (λ b. raised_own a b refl) (raises v a)
+once_own : (v : View) (a : Act) → 1 ≤ next v → Each IsOwn (at_once v a)
+once_own v (Answers who verdict) key =
+    left_each IsOwn (ways_of v.chosen) (next v) who verdict.makes (λ w e s. (w, e.block, refl)) (λ w n t s. inl (refl, w, refl))
+    (λ w n t topic s. inr (key, w, topic, refl))
+once_own v a key = each_map (IsRaised a) IsOwn (at_once v a) (λ b. raised_own a b refl) (raises v a)
 
 own_due : (o : Options) (log : List Entry) → IsRun o log → Each IsOwn (agenda o log).now
 own_due o [] run = tt
 own_due o (Begins e ∷ log) run = tt
 own_due o (Then a ∷ log) run =
     let g = agenda o log in
-    each_append IsOwn (at_once (view o log) a) (rest g).now (once_own (view o log) a) (each_rest IsOwn g.now g.here g.behind g.parts (own_due o log run.0))
+    each_append IsOwn (at_once (view o log) a) (rest g).now (once_own (view o log) a (positive o log)) (each_rest IsOwn g.now g.here g.behind g.parts (own_due o log run.0))
 
 pub starts_so : (o : Options) (log : List Entry) (who : Who) (p : Procedure) → IsRun o (Then (Starts who p) ∷ log) → IsOwn (Starts who p)
 starts_so o log who p run =

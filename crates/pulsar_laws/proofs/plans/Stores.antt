@@ -22,8 +22,15 @@ use Rattle.pulsar_producer_table.specs.Producers.{Producers, advice, batches_in,
 use Rattle.pulsar_acts.specs.Rules.{call_part}
 use Rattle.pulsar_laws.proofs.plans.Granted.{BeginsSo, does_from, in_each}
 use Rattle.pulsar_laws.proofs.calls.Made.{calls_are_made_lem}
-use Rattle.pulsar_plans.proofs.Arcs.{Arc, BatchArc, Begun, StaysSo, batch_sends, batches_go, begins_storing, builds_on, by_begun, copies_go, multi_goes, part_sends, sends as sends_on, stays_by}
+use Rattle.pulsar_plans.proofs.Arcs.{Arc, BatchArc, Begun, StaysSo, batch_sends, batches_go, begins_storing, builds_on, by_begun, copies_go, multi_goes, multi_stores, part_sends, sends as sends_on, stays_by}
 use Rattle.pulsar_laws.proofs.plans.Doing.{IsCommon, copy_does, multi_does}
+use Rattle.pulsar_outgoing.specs.declared.multi_topic.Dispatch.TheVariants as dispatch
+use Rattle.pulsar_outgoing.specs.declared.multi_topic.Multi.{Multi}
+use Rattle.pulsar_outgoing.specs.declared.multi_topic.Multi.TheVariants.{Made, Own}
+use Rattle.pulsar_plans.proofs.MultiArcs.{passed_gives}
+use Rattle.pulsar_plans.specs.declared.plan.Plan.TheVariants.{MultiSending}
+use Rattle.pulsar_producer.specs.declared.multi_topic.sending.MultiSending.TheVariants as multi_send
+use Rattle.pulsar_acts.specs.Rules.{multi_closes, multi_gathers, multi_sends, multi_sends_by, multi_shares_of, multi_shares_unless, posts, why_no_multi, why_no_multi_sends}
 use Rattle.pulsar_producer.proofs.Arcs.{BuildArc, SendArc, draws, naming_rests}
 use Rattle.pulsar_laws.proofs.plans.Consuming.{humble_call, is_humble}
 
@@ -31,8 +38,14 @@ abbrev is_store : Action → Bool
 is_store (OfTopic n (Store e)) = true
 is_store _ = false
 
-abbrev NoStore : Plan → Action → Type 0
-NoStore p a = is_store a ≡ false
+-- it stores nothing, or what a producer of many topics has handed on
+abbrev HandsOn : Plan → Action → Type 0
+HandsOn p a =
+    (w : Ways) × (m : Multi) × (share : Option Share) × (n : ℕ) × (x : EntryValues) × (p ≡ MultiSending w m share (multi_send.Passing (Ok (dispatch.Store n x))))
+    × (a ≡ OfTopic n (Store x))
+
+abbrev StoresSo : Plan → Plan → Action → Type 0
+StoresSo p q a = (is_store a ≡ false) ⊎ HandsOn p a
 
 send_none : {w : Ways} {e : Errand} {s q : Send} {y : News} {d : Deed} → SendArc w e s y q d → is_store (action_of d) ≡ false
 send_none draws = refl
@@ -49,24 +62,26 @@ batch_none _ = refl
 common_none : IsCommon (λ a. is_store a ≡ false)
 common_none = record { gets = λ at. refl; asks = λ l request. refl; waits = λ delay. refl; numbers = refl; rests = refl; builds = λ k. build_none k }
 
-arc_none : {p q : Plan} {u : Outcome} {a : Action} → Arc p u q a → is_store a ≡ false
-arc_none (builds_on d k) = build_none k
-arc_none (sends_on d k) = send_none k
-arc_none (part_sends d k b) = send_none k
-arc_none (batches_go d k) = batch_none k
-arc_none (multi_goes {m} d k) = multi_does (λ a. is_store a ≡ false) common_none m (λ ask. refl) k
-arc_none (copies_go k) = copy_does (λ a. is_store a ≡ false) common_none (λ ask. refl) (λ ask. refl) (λ n. refl) (λ x. send_none x) k
-arc_none _ = refl
+arc_stores : {p q : Plan} {u : Outcome} {a : Action} → Arc p u q a → StoresSo p q a
+arc_stores (builds_on d k) = inl (build_none k)
+arc_stores (sends_on d k) = inl (send_none k)
+arc_stores (part_sends d k b) = inl (send_none k)
+arc_stores (batches_go d k) = inl (batch_none k)
+arc_stores (multi_goes {m} d k) = inl (multi_does (λ a. is_store a ≡ false) common_none m (λ ask. refl) k)
+arc_stores (multi_stores {w} {m} {share} {n = n} {x = x} passed_gives) = inr (w, m, share, n, x, refl, refl)
+arc_stores (copies_go k) = inl (copy_does (λ a. is_store a ≡ false) common_none (λ ask. refl) (λ ask. refl) (λ n. refl) (λ x. send_none x) k)
+arc_stores _ = inl refl
 
-pub told_none : (plan : Plan) (u : Outcome) → StaysSo NoStore (told plan u)
-told_none plan u = stays_by NoStore plan u (λ q a k. arc_none k)
+told_stores : (plan : Plan) (u : Outcome) → StaysSo (StoresSo plan) (told plan u)
+told_stores plan u = stays_by (StoresSo plan) plan u (λ q a k. arc_stores k)
 
 abbrev action_in : Action → PlanTransition → Action
 action_in a (Stays p b) = b
 action_in a (Gives verdict) = a
 
-none_stores : (t : PlanTransition) (plan : Plan) (n : ℕ) (x : EntryValues) → StaysSo NoStore t → t ≡ Stays plan (OfTopic n (Store x)) → ⊥
-none_stores t plan n x k h = let f : true ≡ false = subst (StaysSo NoStore) h k in cc
+stores_by : (t : PlanTransition) (p plan : Plan) (n : ℕ) (x : EntryValues) → StaysSo (StoresSo p) t → t ≡ Stays plan (OfTopic n (Store x)) →
+    HandsOn p (OfTopic n (Store x))
+stores_by t p plan n x k h = elim (subst (StaysSo (StoresSo p)) h k) [ inl f ↦ absurd (let g : true ≡ false = f in cc) | inr is ↦ is ]
 
 -- WHO STORES
 
@@ -152,8 +167,23 @@ humble_one ms (procedure.Acknowledge link request) h = tt
 humble_one ms (procedure.Leave t n) h = tt
 humble_one ms p h = absurd cc
 
+multi_one : (ws : Option Ways) (m : Multi) (s : Option Share) (t : List ℕ) (x : ProducerMessageValues) → IsOne [] (multi_sends_by ws m s t x)
+multi_one None m s t x = fails_one [] s refusal.NoAddress
+multi_one (Some w) m s t x = tt
+
+multi_parts_one : (o : Chosen) (of ticket : ℕ) (m : Multi) (t : List ℕ) (ms : List ProducerMessageValues) →
+    Each (StartsOne []) (multi_shares_of o of ticket m t ms)
+multi_parts_one o of ticket m t [] = tt
+multi_parts_one o of ticket m t (x ∷ xs) = (multi_one (ways_of o) m (share of ticket) t x, multi_parts_one o of (ticket + 1) m t xs)
+
+multi_unless_one : (v : View) (t : ℕ) (topic : List ℕ) (ms : List ProducerMessageValues) (r : Option CallRefusal) →
+    Each (StartsOne []) (multi_shares_unless r v t topic ms)
+multi_unless_one v t topic ms (Some r) = tt
+multi_unless_one v t topic ms None = multi_parts_one v.chosen v.calls.drawn (v.calls.drawn + 1) (Made t) topic ms
+
 all_parts : (v : View) (advised : List (Option ℕ)) (asked : Asked) → Each (StartsOne (messages_in (sent_by asked))) (parts_of v advised asked)
 all_parts v advised (content.SendAll t ms) = unless_parts ms v advised t (why_no_sends v.calls v.producers t)
+all_parts v advised (content.MultiSendAll t topic ms) = multi_unless_one v t topic ms (why_no_multi_sends v.calls v.producers.multis t)
 all_parts v advised _ = tt
 
 head_one : (v : View) (advised : List (Option ℕ)) (asked : Asked) →
@@ -171,6 +201,18 @@ head_one v advised (content.Partitions topic) =
     may_one [] (may_call v.calls) (searches (ways_of v.chosen) (sought.CountPartitions topic)) (search_one [] (ways_of v.chosen) (sought.CountPartitions topic))
 head_one v advised (content.Brokers topic) =
     may_one [] (may_call v.calls) (searches (ways_of v.chosen) (sought.Name topic)) (search_one [] (ways_of v.chosen) (sought.Name topic))
+head_one v advised (content.Post topic m) = may_one [] (may_call v.calls) (posts v.chosen topic m) (multi_one (ways_of v.chosen) Own None topic m)
+head_one v advised (content.MultiProducer wanted) = may_one [] (may_call v.calls) (procedure.MakeMulti wanted.name wanted.options) tt
+head_one v advised (content.MultiSend t topic m) =
+    may_one [] (may_call v.calls) (multi_sends v.chosen v.producers.multis t topic m)
+    (unless_one [] (why_no_multi v.producers.multis t) (multi_sends_by (ways_of v.chosen) (Made t) None topic m)
+    (multi_one (ways_of v.chosen) (Made t) None topic m))
+head_one v advised (content.MultiSendAll t topic ms) =
+    may_one [] (may_call v.calls) (multi_gathers v.calls v.producers.multis t ms)
+    (unless_one [] (why_no_multi v.producers.multis t) (procedure.Gather (v.calls.drawn + 1) (length ms)) tt)
+head_one v advised (content.MultiClose t topic) =
+    may_one [] (may_call v.calls) (multi_closes v.producers.multis t topic)
+    (unless_one [] (why_no_multi v.producers.multis t) (procedure.MultiClose (Made t) topic) tt)
 head_one v advised (content.Producer wanted) =
     may_one [] (may_call v.calls) (produces v.chosen wanted) (produce_one [] (ways_of v.chosen) wanted.topic wanted)
 head_one v advised (content.Send t m) =
@@ -222,8 +264,8 @@ step_more P Q (Then a ∷ log) f (inr h) = inr (step_more P Q log f h)
 
 pub stored_at_once_lem : StoredAtOnce
 stored_at_once_lem o log t n x run = elim (does_from o log (Call t) (OfTopic n (Store x)) run) [
-  | inl b ↦ begun b
-  | inr l ↦ absurd (none_stores (told l.before l.outcome) l.plan n x (told_none l.before l.outcome) l.leads)
+  | inl b ↦ inl (begun b)
+  | inr l ↦ inr (handed l (stores_by (told l.before l.outcome) l.before l.plan n x (told_stores l.before l.outcome) l.leads))
 ]
   where
     brought : (share : Option Share) (older : List Entry) → IsRun o (Then (Starts (Call t) (procedure.Store n share x)) ∷ older) →
@@ -252,3 +294,11 @@ stored_at_once_lem o log t n x run = elim (does_from o log (Call t) (OfTopic n (
         let there : log ≡ Then (Starts (Call t) (procedure.Store n k.0 x)) ∷ b.older =
         b.is_there ∙ ap (λ (p : Procedure). Then (Starts (Call t) p) ∷ b.older) k.1 in
         (k.0, b.older, there, brought k.0 b.older (subst (IsRun o) there run.0))
+
+    handed : (l : IsLedSo o log (Call t) (OfTopic n (Store x))) → HandsOn l.before (OfTopic n (Store x)) → IsHandedOn o t n x log
+    handed l (w, m, share, k, y, is, same) =
+        let number : k ≡ n = cc in
+        let entry : y ≡ x = cc in
+        (l.outcome, l.older, w, m, share, l.is_there,
+        l.stood ∙ ap Some is ∙ ap (λ z. Some (MultiSending w m share (multi_send.Passing (Ok (dispatch.Store z y))))) number
+        ∙ ap (λ z. Some (MultiSending w m share (multi_send.Passing (Ok (dispatch.Store n z))))) entry)

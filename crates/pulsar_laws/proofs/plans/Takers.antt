@@ -11,7 +11,7 @@ use Rattle.pulsar_laws.proofs.plans.Natures.{is_batching}
 use Rattle.pulsar_laws.proofs.plans.Doing.{IsCommon, copy_does, multi_does}
 use Rattle.pulsar_producer.proofs.Arcs.{BuildArc, SendArc, draws, naming_rests}
 use Rattle.pulsar_laws.proofs.plans.Unbatched.{calls_unbatched}
-use Rattle.pulsar_laws.proofs.plans.Consuming.{is_modest}
+use Rattle.pulsar_laws.proofs.plans.Consuming.{is_discreet}
 use Rattle.pulsar_laws.proofs.plans.Servers.{server_does}
 
 abbrev is_taker : Action → Bool
@@ -69,7 +69,7 @@ call_takes o log t a is run = elim (does_from o log (Call t) a run) [
 -- a batch is taken by its own topic producer
 pub taken_by_own : (o : Options) (log : List Entry) (who : Who) (m : ℕ) → IsRun o (Then (Does who (OfTopic m TakeBatch)) ∷ log) → who ≡ Producer m
 taken_by_own o log (Call t) m run = absurd (call_takes o log t (OfTopic m TakeBatch) refl run)
-taken_by_own o log (Consumer n t) m run = (let f : is_modest (OfTopic m TakeBatch) ≡ true = server_does o log n t (OfTopic m TakeBatch) run in absurd cc)
+taken_by_own o log (Consumer n t key) m run = (let f : is_discreet (OfTopic m TakeBatch) ≡ true = server_does o log n t key (OfTopic m TakeBatch) run in absurd cc)
 taken_by_own o log (Producer n) m run = elim (deed_at o log n (OfTopic m TakeBatch) run (batched_run o log run.0)) [
   | inl d ↦
       (let t = takes_where d.was.ways d.was.errand d.was.state d.outcome d.state m d.step in
@@ -82,5 +82,5 @@ taken_by_own o log (Producer n) m run = elim (deed_at o log n (OfTopic m TakeBat
 pub told_by_own : (o : Options) (log : List Entry) (who : Who) (ns : List Notice) → IsRun o (Then (Does who (TellAll ns)) ∷ log) →
     (k : ℕ) × (who ≡ Producer k)
 told_by_own o log (Call t) ns run = absurd (call_takes o log t (TellAll ns) refl run)
-told_by_own o log (Consumer n t) ns run = (let f : is_modest (TellAll ns) ≡ true = server_does o log n t (TellAll ns) run in absurd cc)
+told_by_own o log (Consumer n t key) ns run = (let f : is_discreet (TellAll ns) ≡ true = server_does o log n t key (TellAll ns) run in absurd cc)
 told_by_own o log (Producer k) ns run = (k, refl)

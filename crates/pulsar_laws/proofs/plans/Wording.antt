@@ -1,18 +1,22 @@
 -- What is told of consumers to those whom an act serves is a word, or that the client is stopped.
 use Rattle.std.proofs.Common.{◌≡◌, ℕ, List, [], ◌∷◌, refl, map, Bool, true, false, Option, Some, None}
 use Rattle.std.specs.Option.{option_map, option_to_list}
-use Rattle.pulsar_laws.proofs.ActWords.{Act, Answers, Ask, Comes, Does, End, FailConsumer, Makes, Notice, Outcome, Polls, Revive, ticket_of, Who, Word, OfConsumer}
+use Rattle.pulsar_laws.proofs.ActWords.{Act, Answers, Ask, Comes, Does, End, FailConsumer, FindConsumer, Makes, Notice, OfConsumer, Outcome, Polls, RecallConsumer, Revive, TakeFlow, ticket_of, Who, Word}
 use Rattle.pulsar_laws.proofs.RunWords.{Each, each_append, each_flat, joins, lost_on, member_on, setup_of, stopped_on, View}
-use Rattle.pulsar_laws.proofs.LinkWords.{answer_at, arrival_at, closed_consumer, closing, is_asked, Seat, url_at}
-use Rattle.url.specs.Parts.{Parts}
+use Rattle.pulsar_laws.proofs.LinkWords.{answer_at, arrival_at, closed_consumer, closing, is_asked, Seat}
 use Rattle.pulsar_consumer.specs.Topic as reader
 use Rattle.pulsar_calls.specs.declared.act.Makes.TheVariants as makes
 use Rattle.pulsar_calls.specs.declared.act.Outcome.TheVariants as outcome
 use Rattle.pulsar_calls.specs.declared.act.Word.TheVariants as word
 use Rattle.pulsar_consumer_table.specs.Consumers as consumer
-use Rattle.pulsar_consumer_table.specs.Consumers.{Consumers, Member, at_row, over_rows}
+use Rattle.pulsar_consumer_table.specs.Consumers.{Consumers, Copied, CopyLost, Member, at_row, member_by, over_rows}
 use Rattle.pulsar_calls.specs.Notices.{stopped_one}
-use Rattle.pulsar_consumer_table.specs.Notices.{again, again_at, due_at, due_to, heard_at, lost_at, stopped_seekers, word_to}
+use Rattle.pulsar_calls.specs.Who.{key_of}
+use Rattle.pulsar_calls.specs.declared.act.ConsumerAsk.{ConsumerAsk}
+use Rattle.pulsar_calls.specs.declared.act.ConsumerAsk.TheVariants.{CopyFailed, CopySent, TakeCopy}
+use Rattle.pulsar_consumer_table.specs.Asks.{Around, given, link_asked, ticket_asked}
+use Rattle.pulsar_consumer_table.specs.Notices.{again, again_at, asks_word, copy_if, due_at, due_to, goes_on_at, goes_on_to, heard_at, lost_at, redelivered_at, redelivered_to, stopped_seekers, word_to}
+use Rattle.pulsar_acts.specs.View.{url_on}
 use Rattle.pulsar_acts.specs.Reading.{closed_at, heard_on, made_due}
 
 -- whatever each consumer gives
@@ -34,47 +38,72 @@ due_word : (t : ℕ) (row : Option Member) → Each IsWord (due_at t row)
 due_word t row =
     each_flat IsWord (due_to t) (option_to_list row) (λ m. one_word t m (consumer.word_if (reader.is_due m.seen) word.Due))
 
+copy_word : (is_so : Bool) (t : ℕ) (m : Member) → Each IsWord (copy_if is_so t m)
+copy_word true t m = (refl, tt)
+copy_word false t m = tt
+
+goes_on_word : (t : ℕ) (row : Option Member) → Each IsWord (goes_on_at t row)
+goes_on_word t row =
+    each_flat IsWord (goes_on_to t) (option_to_list row)
+    (λ m. each_append IsWord (due_to t m) (copy_if (consumer.is_copy_due m.seen) t m)
+    (one_word t m (consumer.word_if (reader.is_due m.seen) word.Due)) (copy_word (consumer.is_copy_due m.seen) t m))
+
+pub redelivered_words : (now t : ℕ) (row : Option Member) → Each IsWord (redelivered_at now t row)
+redelivered_words now t row =
+    each_flat IsWord (redelivered_to now t) (option_to_list row)
+    (λ m. one_word t m (option_map asks_word (consumer.redelivers now (Some m))))
+
 again_words : (ws : List Who) → Each IsWord (map again ws)
 again_words [] = tt
 again_words (w ∷ ws) = (refl, again_words ws)
 
-made_word : (live : ℕ → Option Seat) (key : ℕ) (who : Who) (m : Makes) → Each IsWord (made_due live key who m)
-made_word live key who (makes.Consumer j) =
-    one_word (ticket_of who) (member_on live j.link (setup_of key j))
-    (consumer.word_if (reader.is_due (member_on live j.link (setup_of key j)).seen) word.Due)
-made_word live key who _ = tt
+-- whom it serves that something is asked of a consumer
+given_words : (x : Around) (ask : ConsumerAsk) (row : Option Member) → Each IsWord (given x ask row).serves
+given_words x (FindConsumer t) row = tt
+given_words x TakeFlow row = tt
+given_words x RecallConsumer row = tt
+given_words x (Revive l) row =
+    let revived : Option Member = option_map (consumer.revived x.now l x.url) row in
+    each_append IsWord (again_at row) (due_at x.ticket revived) (again_words (consumer.seekers_at row)) (due_word x.ticket revived)
+given_words x (FailConsumer f) row = again_words (consumer.seekers_at row)
+given_words x TakeCopy row = tt
+given_words x CopySent row = goes_on_word x.ticket (option_map (member_by (Copied (key_of x.who) x.now)) row)
+given_words x CopyFailed row = goes_on_word x.ticket (option_map (member_by (CopyLost (key_of x.who) x.now)) row)
+
+made_word : (live : ℕ → Option Seat) (clock key : ℕ) (who : Who) (m : Makes) → Each IsWord (made_due live clock key who m)
+made_word live clock key who (makes.Consumer j) =
+    let m : Member = member_on live clock j.link (setup_of key j) in one_word (ticket_of who) m (consumer.word_if (reader.is_due m.seen) word.Due)
+made_word live clock key who _ = tt
 
 pub heard_words : (v : View) (l : ℕ) → Each IsWord (heard_on v l)
 heard_words v l =
     let a = arrival_at (v.links.live l) in
-    rows_each IsWord (heard_at l a) v.consumers (λ t m. one_word t m (consumer.word_of l a m))
+    rows_each IsWord (heard_at v.now l a) v.consumers
+    (λ t m. each_append IsWord (word_to t m (consumer.word_of v.now l a m)) (copy_if (consumer.copy_of v.now l a m) t m)
+    (one_word t m (consumer.word_of v.now l a m)) (copy_word (consumer.copy_of v.now l a m) t m))
 
 pub lost_words : (v : View) (l : ℕ) (end : End) → Each IsWord (lost_on v l end)
 lost_words v l end =
     let c = closing end v.now (v.links.live l) in
     rows_each IsWord (lost_at l c) v.consumers (λ t m. one_word t m (consumer.word_of_loss l c m))
 
--- those who join a cause: a consumer of which this is so, and those who look for its link once more
+-- those who join a cause: a consumer of which this is so, its copies, and those who look for its link once more
 abbrev pub is_worded : Act → Bool
 is_worded (Comes (Polls t)) = true
 is_worded (Does who (Ask l request)) = true
-is_worded (Does who (OfConsumer (Revive l))) = true
-is_worded (Does who (OfConsumer (FailConsumer f))) = true
+is_worded (Does who (OfConsumer ask)) = true
 is_worded (Answers who verdict) = true
 is_worded _ = false
 
 pub joins_words : (v : View) (a : Act) → is_worded a ≡ true → Each IsWord (joins v a)
-joins_words v (Comes (Polls t)) h = due_word t (option_map (consumer.member_after (reader.Polls v.now)) (v.consumers.rows t))
+joins_words v (Comes (Polls t)) h = goes_on_word t (option_map (consumer.member_after (reader.Polls v.now)) (v.consumers.rows t))
 joins_words v (Does who (Ask l request)) h =
     let asked : Bool = is_asked (answer_at v.now request (v.links.live l)) in
     rows_each IsWord (closed_at v l request) v.consumers (λ t m. one_word t m (consumer.word_of_close (closed_consumer request) l asked m))
-joins_words v (Does who (OfConsumer (Revive l))) h =
-    let row : Option Member = v.consumers.rows (ticket_of who) in
-    let url : Option Parts = url_at (v.links.live l) in
-    each_append IsWord (again_at row) (due_at (ticket_of who) (option_map (consumer.revived l url) row)) (again_words (consumer.seekers_at row))
-    (due_word (ticket_of who) (option_map (consumer.revived l url) row))
-joins_words v (Does who (OfConsumer (FailConsumer f))) h = again_words (consumer.seekers_at (v.consumers.rows (ticket_of who)))
-joins_words v (Answers who verdict) h = made_word v.links.live v.consumers.next_key who verdict.makes
+joins_words v (Does who (OfConsumer ask)) h =
+    given_words (record { ticket = ticket_asked who ask; who = who; now = v.now; url = url_on v.links.live (link_asked ask) }) ask
+    (v.consumers.rows (ticket_asked who ask))
+joins_words v (Answers who verdict) h = made_word v.links.live v.now v.consumers.next_key who verdict.makes
 joins_words v a h = absurd cc
 
 -- THE STOP

@@ -226,7 +226,7 @@ made_next v who _ = refl
 
 left_next : (who : Who) (ps : Producers) → (producers_left who ps).next ≡ ps.next
 left_next (one.Call t) ps = refl
-left_next (one.Consumer n t) ps = refl
+left_next (one.Consumer n t key) ps = refl
 left_next (one.Producer n) ps = refl
 
 next_more : (ps : Producers) → ps.next ≤ (numbered ps).next
@@ -489,16 +489,16 @@ no_producer o log m verdict b makes run = elim (answers_from o log (one.Producer
 
 -- and no consumer does
 no_consumer : (o : Options) (log : List Entry) (n t : ℕ) (verdict : Verdict) (b : BuiltProducer) → verdict.makes ≡ Producer b →
-    IsRun o (Then (Answers (one.Consumer n t) verdict) ∷ log) → ⊥
-no_consumer o log n t verdict b makes run = elim (answers_from o log (one.Consumer n t) verdict run) [
+    IsRun o (Then (Answers (one.Consumer n t 0) verdict) ∷ log) → ⊥
+no_consumer o log n t verdict b makes run = elim (answers_from o log (one.Consumer n t 0) verdict run) [
   | inl k ↦
-      (let r : IsRun o (Then (Told (notice (one.Consumer n t) k.outcome)) ∷ k.older) = subst (IsRun o) k.is_there run.0 in
+      (let r : IsRun o (Then (Told (notice (one.Consumer n t 0) k.outcome)) ∷ k.older) = subst (IsRun o) k.is_there run.0 in
       let f : Nothing ≡ Producer b =
       sym (server_gives k.before k.outcome verdict (server_stands o k.older n t k.before r.0 k.stood) k.leads) ∙ makes in
       absurd cc)
   | inr x ↦ elim x [
     | inl k ↦
-        (let r : IsRun o (Then (Starts (one.Consumer n t) k.procedure) ∷ k.older) = subst (IsRun o) k.is_there run.0 in
+        (let r : IsRun o (Then (Starts (one.Consumer n t 0) k.procedure) ∷ k.older) = subst (IsRun o) k.is_there run.0 in
         serve_goes_on o k.older n t k.procedure verdict r k.leads)
     | inr e ↦ (let f : (fails Exhausted).makes ≡ Producer b = sym (ap (λ y. y.makes) e) ∙ makes in absurd cc)
   ]
@@ -507,7 +507,7 @@ no_consumer o log n t verdict b makes run = elim (answers_from o log (one.Consum
 pub who_call : (o : Options) (log : List Entry) (w : Who) (verdict : Verdict) (b : BuiltProducer) → verdict.makes ≡ Producer b →
     IsRun o (Then (Answers w verdict) ∷ log) → w ≡ Call (rank w).1
 who_call o log (Call t) verdict b makes run = refl
-who_call o log (one.Consumer n t) verdict b makes run = absurd (no_consumer o log n t verdict b makes run)
+who_call o log (one.Consumer n t key) verdict b makes run = absurd (no_consumer o log n t verdict b makes run)
 who_call o log (one.Producer m) verdict b makes run = absurd (no_producer o log m verdict b makes run)
 
 topics_on : (o : Options) (log : List Entry) → Every (Drawn o) log → (a : Act) → IsRun o (Then a ∷ log) → (n : ℕ) (row : Topic) →

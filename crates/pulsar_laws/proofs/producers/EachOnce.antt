@@ -312,7 +312,7 @@ module _ (t : ℕ) where
       batched_at o t log w x.outcome
       ≤ cond (is_same (Producer m) w && (is_queued x.outcome && asks_batch ((view o log).stand (Producer m)))) (times_under t (under_way o m log)) 0
   told_one o m log x run h (Call u) e = omega arith
-  told_one o m log x run h (Consumer n u) e = omega arith
+  told_one o m log x run h (Consumer n u key) e = omega arith
   told_one o m log x run h (Producer n) e = elim (cases_Bool (n == m)) [
     | inl s ↦
         (let same : m ≡ n = sym (eqb-true n m s) in
@@ -370,7 +370,7 @@ module _ (t : ℕ) where
 
   stores_call : (o : Options) (log : List Entry) (who : Who) (n : ℕ) (e : EntryValues) → IsRun o (Then (Does who (OfTopic n (Store e))) ∷ log) → (u : ℕ) × (who ≡ Call u)
   stores_call o log (Call u) n e run = (u, refl)
-  stores_call o log (Consumer k u) n e run = let f : is_modest (OfTopic n (Store e)) ≡ true = server_does o log k u (OfTopic n (Store e)) run in absurd cc
+  stores_call o log (Consumer k u key) n e run = let f : is_modest (OfTopic n (Store e)) ≡ true = server_does o log k u (OfTopic n (Store e)) run in absurd cc
   stores_call o log (Producer k) n e run = let d = batcher_does o log k (OfTopic n (Store e)) run in absurd (no_store d.0 n e d.1)
 
   own_store : (o : Options) (log : List Entry) (n : ℕ) (e : EntryValues) → IsRun o (Then (Does (Call t) (OfTopic n (Store e))) ∷ log) → Every (Once o) log →

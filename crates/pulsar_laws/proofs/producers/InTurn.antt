@@ -158,7 +158,7 @@ pub record IsTaking (o : Options) (log : List Entry) (t n : ℕ) : Type 0 where
 
 pub who_same : (w : Who) → is_same w w ≡ true
 who_same (Call t) = self_same t
-who_same (Consumer n t) = same_self (Consumer n t)
+who_same (Consumer n t key) = same_self (Consumer n t key)
 who_same (Producer m) = same_self (Producer m)
 
 pub stand_told : (o : Options) (older : List Entry) (w : Who) (u : Outcome) (p q : Plan) (a : Action) → (view o older).stand w ≡ Some p →
@@ -365,5 +365,5 @@ own_passing o log m n k run =
 pub passing : (o : Options) (log : List Entry) (who : Who) (n : ℕ) → Every (AllTurns o) log → IsRun o (Then (Does who (OfTopic n PassTurn)) ∷ log) →
     IsPassing o log who n
 passing o log (Call t) n k run = call_passing o log t n k run
-passing o log (Consumer m t) n k run = (let f : is_modest (OfTopic n PassTurn) ≡ true = server_does o log m t (OfTopic n PassTurn) run in absurd cc)
+passing o log (Consumer m t key) n k run = (let f : is_modest (OfTopic n PassTurn) ≡ true = server_does o log m t (OfTopic n PassTurn) run in absurd cc)
 passing o log (Producer m) n k run = own_passing o log m n k run

@@ -119,7 +119,7 @@ none_stored v n a h = acts_each NoStore v n a none
 stored_by : (o : Options) (log : List Entry) (ticket n : ℕ) (entry : EntryValues) (who : Who) → IsRun o (Then (Does who (OfTopic n (Store entry))) ∷ log) →
     ticket ≡ turn_of who → Keeps o log ticket
 stored_by o log ticket n entry (Call t) run is = let same : ticket ≡ t = is in subst (Keeps o log) (sym same) (store_keeps o log t n entry run)
-stored_by o log ticket n entry (Consumer k t) run is =
+stored_by o log ticket n entry (Consumer k t key) run is =
     let f : is_modest (OfTopic n (Store entry)) ≡ true = server_does o log k t (OfTopic n (Store entry)) run in absurd cc
 stored_by o log ticket n entry (Producer k) run is =
     let d = batcher_does o log k (OfTopic n (Store entry)) run in absurd (no_store d.0 n entry d.1)

@@ -181,7 +181,7 @@ called_built v asked advice t p h =
 
 left_built : (who : Who) (ps : Producers) → (producers_left who ps).built ≡ ps.built
 left_built (one.Call t) ps = refl
-left_built (one.Consumer n t) ps = refl
+left_built (one.Consumer n t key) ps = refl
 left_built (one.Producer n) ps = refl
 
 made_options : (name : List ℕ) (options : ProducerOptionsValues) (qs : List Partition) (last : ℕ) (p : producer.Seen) →

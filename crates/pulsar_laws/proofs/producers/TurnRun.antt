@@ -56,7 +56,7 @@ is_taker o log (Call t) n k run = record {
   is_own = λ u x y. subst (λ z. is_same (Call z) (Call t) ≡ true) (sym y) (self_same t);
   producers = λ m s. absurd cc;
 }
-is_taker o log (Consumer j t) n k run = (let f : is_modest (OfTopic n TakeTurn) ≡ true = server_does o log j t (OfTopic n TakeTurn) run in absurd cc)
+is_taker o log (Consumer j t key) n k run = (let f : is_modest (OfTopic n TakeTurn) ≡ true = server_does o log j t (OfTopic n TakeTurn) run in absurd cc)
 is_taker o log (Producer j) n k run = record {
   calls = λ u s. absurd cc;
   is_own = λ u x y. absurd (not_all u x y);
@@ -757,7 +757,7 @@ server_turn p h = absurd cc
 
 pub told_in_turn_lem : ToldInTurn
 told_in_turn_lem o log (Call t) n version p run s w = told_call o log t n version p run s w
-told_in_turn_lem o log (Consumer m t) n version p run s w =
+told_in_turn_lem o log (Consumer m t key) n version p run s w =
     absurd (none_some (sym (server_turn p (server_stands o log m t p run.0 s)) ∙ w))
 told_in_turn_lem o log (Producer m) n version p run s w = told_producer o log m n version p run s w
 

@@ -106,7 +106,7 @@ module _ (T P : ℕ → Type 0) where
 
   abbrev WhoSo : Who → Type 0
   WhoSo (Call t) = P t
-  WhoSo (Consumer n t) = Unit {0}
+  WhoSo (Consumer n t 0) = Unit {0}
   WhoSo (Producer n) = Unit {0}
 
   abbrev pub NoticeSo : Notice → Type 0

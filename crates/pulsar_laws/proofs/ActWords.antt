@@ -10,7 +10,7 @@ pub use Rattle.pulsar_calls.specs.declared.act.Alarm.{Alarm}
 pub use Rattle.pulsar_calls.specs.declared.act.Alarm.TheVariants.{Batch, CheckIdle, KeepAlive, Retry, Wake}
 pub use Rattle.pulsar_calls.specs.declared.act.Arrival.{Arrival}
 pub use Rattle.pulsar_calls.specs.declared.act.ConsumerAsk.{ConsumerAsk}
-pub use Rattle.pulsar_calls.specs.declared.act.ConsumerAsk.TheVariants.{Fail as FailConsumer, Find as FindConsumer, Recall as RecallConsumer, Revive, TakeFlow}
+pub use Rattle.pulsar_calls.specs.declared.act.ConsumerAsk.TheVariants.{CopyFailed, CopySent, Fail as FailConsumer, Find as FindConsumer, Recall as RecallConsumer, Revive, TakeCopy, TakeFlow}
 pub use Rattle.pulsar_calls.specs.declared.act.End.{End}
 pub use Rattle.pulsar_calls.specs.declared.act.End.TheVariants.{Idles, Overdue, Stops}
 pub use Rattle.pulsar_calls.specs.declared.act.LinkAct.{LinkAct}

@@ -14,9 +14,9 @@ use Rattle.pulsar_frame.specs.Items.{Item, Given, Faulty}
 use Rattle.pulsar_exchange.specs.Messages.{Reply, is_body}
 use Rattle.pulsar_consumer.specs.Frames.{frame_in}
 use Rattle.pulsar_consumer.specs.Items.{Item as Arrived, handed}
-use Rattle.pulsar_consumer.specs.Laws.{ArePlaced, arrivals, asked_since, begun, items_of, weighed_before, weights}
+use Rattle.pulsar_consumer.specs.Laws.{IsFinished, arrivals, asked_since, begun, is_pending_in, items_of, ready, weighed_before, weights}
 use Rattle.pulsar_consumer.specs.Topic as reader
-use Rattle.pulsar_consumer.specs.Topic.{Act as Done, Lives, Hears, Loses, Fails, Ends as Over, Polls as Polled, Asks, IsAt, TakesCopy, IsCopied, FailsCopy, Forgets, Checks, Stops, Live, Seen, Setup, batch_size, first_of, half, is_ended, link_of, lives_on, of_raw, polled_from}
+use Rattle.pulsar_consumer.specs.Topic.{Act as Done, Lives, Hears, Loses, Fails, Ends as Over, Polls as Polled, Asks, IsAt, TakesCopy, IsCopied, FailsCopy, Forgets, Checks, Stops, Live, Seen, Setup, batch_size, first_of, half, is_ended, link_of, lives_on, of_raw, over, polled_from}
 use Rattle.pulsar_incoming.specs.declared.polled.Ending.{Ending}
 use Rattle.pulsar_incoming.specs.declared.polled.Ending.TheVariants.{Closed, TopicEnded, Stopped}
 use Rattle.pulsar_calls.specs.declared.act.Act.{Act}
@@ -196,15 +196,18 @@ shows_next t topic (Faulty fault ∷ left) ended = Faults t fault
 shows_next t topic [] (Some why) = FindsEnd t
 shows_next t topic [] None = FindsNothing t
 
--- The polls of a consumer give just the items of its arrivals, in order, each once and without gap: behind what they gave stands what is left. What
--- arrives are the messages that come for its number on the link of its live subscription, and why it could not be subscribed again. Its next
--- poll gives the first that is left; where none is left it gives the end if it has ended, and else nothing.
+-- The polls of a consumer give just the items of its arrivals, in order, each once and without gap, up to the first entry of a dead letter that is
+-- pending: behind what they gave stands what is left. What arrives are the messages that come for its number on the link of its live subscription,
+-- and why it could not be subscribed again. Its next poll gives the first that is left; where none is left it gives the end if it has ended and no
+-- entry is pending, and else nothing. Where no dead letters are asked for, these are all items of its arrivals, and no entry is pending.
 abbrev pub PollsFollow : Type 0
 PollsFollow = (o : Options) (log : List Entry) (t : ℕ) (m : Member) → IsRun o log → (view o log).consumers.rows t ≡ Some m →
     (s : Setup) × (left : List Arrived) × (made_with o t log ≡ Some s)
-    × (items_given t (steps o log) ++ map handed left ≡ map handed (items_of (arrivals s (done_to o t log))))
-    × (reader.polled m.seen ≡ polled_from (first_of left) m.seen.ended)
-    × (consumer.polled t m ≡ shows_next t m.seen.topic (map handed left) m.seen.ended)
+    × (items_given t (steps o log) ++ map handed left ≡ map handed (ready s (done_to o t log)))
+    × (reader.polled m.seen ≡ polled_from (first_of left) (over (is_pending_in s (done_to o t log)) m.seen.ended))
+    × (consumer.polled t m ≡ shows_next t m.seen.topic (map handed left) (over (is_pending_in s (done_to o t log)) m.seen.ended))
+    × (m.seen.config.dead_letter_policy ≡ None →
+    (ready s (done_to o t log) ≡ items_of (arrivals s (done_to o t log))) × (is_pending_in s (done_to o t log) ≡ false))
 
 -- A consumer is polled where the user asks for it, and that is the one effect of that step.
 abbrev pub PollsAreAnswered : Type 0
@@ -307,7 +310,7 @@ abbrev pub PermitsAreKept : Type 0
 PermitsAreKept = (o : Options) (log : List Entry) (t : ℕ) (m : Member) (l : Live) → IsRun o log → (view o log).consumers.rows t ≡ Some m →
     m.seen.is_raw ≡ false → m.seen.engine.live ≡ Some l →
     (s : Setup) × (made_with o t log ≡ Some s) × (l.level - l.weight ≤ batch_size m.seen.config)
-    × (ArePlaced s (done_to o t log) → half (batch_size m.seen.config) + l.weight ≤ l.level)
+    × (IsFinished s (done_to o t log) → half (batch_size m.seen.config) + l.weight ≤ l.level)
     × (l.level + weights (begun s (done_to o t log))
     ≡ l.weight + (asked_since s (done_to o t log) + sum l.due) + weighed_before s (done_to o t log))
 
@@ -403,7 +406,7 @@ PermitsAreGranted = (o : Options) (log : List Entry) (t : ℕ) (m : Member) (l :
     m.seen.is_raw ≡ false → m.seen.engine.live ≡ Some l →
     (s : Setup) × (made_with o t log ≡ Some s)
     × (permits_of (flows_since o t log) + weighed_before s (done_to o t log) ≤ batch_size m.seen.config + weights (begun s (done_to o t log)))
-    × (ArePlaced s (done_to o t log) → half (batch_size m.seen.config) + weights (begun s (done_to o t log))
+    × (IsFinished s (done_to o t log) → half (batch_size m.seen.config) + weights (begun s (done_to o t log))
     ≤ permits_of (flows_since o t log) + weighed_before s (done_to o t log))
 
 -- Half of a batch size, rounded up, is just that: twice as much is the batch size, or one more.

@@ -18,7 +18,7 @@ use Rattle.pulsar_messages.specs.Content.{ConsumerOptionsValues, Property, empty
 use Rattle.pulsar_incoming.specs.Content.{ConsumerWanted, DeadLetterValues, also_reads, no_consumer}
 use Rattle.pulsar_grammar.specs.ConsumerWords.{Draft, all, blank, consumer, level, one, subscriber_in, who_subscribes, with_meta, with_options}
 use Rattle.pulsar_printing.specs.WordText.{word}
-use Rattle.pulsar_script.specs.WrittenRaw.{CanBeLeft, CanConsume, CanSubscribe, IsCount, IsId, IsNumber, IsProperty, IsSchema, IsText, IsUnsigned, Where, consumer_words, flag_word, id_word, meta_word, policy_word, position_words, signed_word, sub_type_word, subscriber_words}
+use Rattle.pulsar_script.specs.WrittenRaw.{CanBeLeft, CanConsume, CanSubscribe, IsCount, IsId, IsNumber, IsProperty, IsSchema, IsText, IsUnsigned, Where, consumer_words, flag_word, id_word, meta_word, dead_word, position_words, signed_word, sub_type_word, subscriber_words}
 use Rattle.pulsar_script.proofs.WrittenLines.{IsWithinWord, decimal-within, hex-within, number-decimal, same-some, text-word, word-within}
 use Rattle.pulsar_script.proofs.WrittenPolicies.{policy-reads, policy-within}
 use Rattle.pulsar_script.proofs.WrittenProducers.{meta-within, schema-read, small}
@@ -122,10 +122,10 @@ resend-said d (Some n) can none =
     (rw (cut-at (codes "resend") (decimal n) (tested-free (codes "resend") refl), none, number-decimal n can) refl)
 
 dead-said : (d : Draft) (o : Option DeadLetterValues) → Where CanBeLeft o → d.wanted.dead_letter_policy ≡ None →
-    Say (map policy_word (option_to_list o)) d (record d { wanted = record d.wanted { dead_letter_policy = o } })
+    Say (map dead_word (option_to_list o)) d (record d { wanted = record d.wanted { dead_letter_policy = o } })
 dead-said d None can none = record { is = ap (λ o. Some (record d { wanted = record d.wanted { dead_letter_policy = o } })) none; within = tt }
 dead-said d (Some p) can none =
-    say-word d _ (policy_word p) (policy-within p can)
+    say-word d _ (dead_word p) (policy-within p can)
     (rw (cut-at (codes "dead") (decimal p.max_redeliver_count ++ 58 ∷ word p.dead_letter_topic) (tested-free (codes "dead") refl), none, policy-reads p can) refl)
 
 queue-said : (d : Draft) (o : Option ℕ) → Where IsCount o → d.wanted.options.receiver_queue_size ≡ None →

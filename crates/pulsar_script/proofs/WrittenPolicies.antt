@@ -11,7 +11,7 @@ use Rattle.pulsar_incoming.specs.Content.{DeadLetterValues}
 use Rattle.pulsar_grammar.specs.ConsumerWords.{policy}
 use Rattle.pulsar_grammar.specs.Words.{number, text}
 use Rattle.pulsar_printing.specs.WordText.{word}
-use Rattle.pulsar_script.specs.WrittenRaw.{CanBeLeft, policy_word}
+use Rattle.pulsar_script.specs.WrittenRaw.{CanBeLeft, dead_word}
 use Rattle.pulsar_script.proofs.WrittenLines.{IsWithinWord, decimal-within, number-decimal, text-word, word-within}
 use Rattle.pulsar_script.proofs.WrittenRaw.{all-both, front-within}
 
@@ -56,7 +56,7 @@ policy-reads p can =
     (take-append_seam w (58 ∷ rest)) (drop-append-add w (58 ∷ rest) 1)
     ∙ rw (number-decimal p.max_redeliver_count can.max_redeliver_count, text-word p.dead_letter_topic can.dead_letter_topic.0 can.dead_letter_topic.1) refl
 
-pub policy-within : (p : DeadLetterValues) → CanBeLeft p → IsWithinWord (policy_word p)
+pub policy-within : (p : DeadLetterValues) → CanBeLeft p → IsWithinWord (dead_word p)
 policy-within p can =
     front-within (codes "dead=") (decimal p.max_redeliver_count ++ 58 ∷ word p.dead_letter_topic) refl
     (All-append (λ c. (c == 32) ≡ false) (decimal p.max_redeliver_count) (58 ∷ word p.dead_letter_topic)

@@ -124,8 +124,8 @@ subscriber_words name o =
     ++ map (λ s. codes "schema=" ++ encode_lower (spelling schema s)) (option_to_list o.schema)
 
 -- how often a message is given before it goes to which topic
-abbrev pub policy_word : DeadLetterValues → List ℕ
-policy_word p = codes "dead=" ++ decimal p.max_redeliver_count ++ 58 ∷ word p.dead_letter_topic
+abbrev pub dead_word : DeadLetterValues → List ℕ
+dead_word p = codes "dead=" ++ decimal p.max_redeliver_count ++ 58 ∷ word p.dead_letter_topic
 
 -- and what it reads
 abbrev pub consumer_words : ConsumerWanted → List (List ℕ)
@@ -137,7 +137,7 @@ consumer_words w =
     ++ map (λ n. codes "id=" ++ decimal n) (option_to_list w.consumer_id)
     ++ map (λ n. codes "batch=" ++ decimal n) (option_to_list w.batch_size)
     ++ map (λ n. codes "resend=" ++ decimal n) (option_to_list w.unacked_message_resend_delay)
-    ++ map policy_word (option_to_list w.dead_letter_policy)
+    ++ map dead_word (option_to_list w.dead_letter_policy)
     ++ map (λ n. codes "queue=" ++ decimal n) (option_to_list w.options.receiver_queue_size)
     ++ subscriber_words w.consumer_name w.options
 

@@ -16,16 +16,15 @@ use Rattle.pulsar_consumer.proofs.Checking.{same_after, setup_is}
 use Rattle.pulsar_consumer.proofs.Counted.{permits_are_counted}
 use Rattle.pulsar_consumer.proofs.Granting.{permits_in_bounds}
 use Rattle.pulsar_consumer.proofs.Histories.{counted_same, end_is_final}
-use Rattle.pulsar_consumer.proofs.Plain.{plain_gives_all}
 use Rattle.pulsar_calls.specs.declared.act.Arrival.TheVariants as arrivals
-use Rattle.pulsar_consumer_table.specs.Consumers.{Arrives, ClientStops, CloseAsked, Deed, FlowTaken, IsPolled, IsSought, LinkEnds, Member, NotRevived, Revived, is_closed_by, member_by, subscribed_on}
+use Rattle.pulsar_consumer_table.specs.Consumers.{Arrives, ClientStops, CloseAsked, Copied, CopyLost, CopyTaken, Deed, FlowTaken, IsChecked, IsForgotten, IsPolled, IsSought, LinkEnds, Member, NotRevived, Revived, is_closed_by, member_by, subscribed_on}
 use Rattle.pulsar_run.specs.Things.{along}
 use Rattle.pulsar_acts.specs.View.{member_acts}
 use Rattle.pulsar_laws.proofs.Cases.{none_some, some_is}
 use Rattle.pulsar_laws.proofs.calls.Ticketed.{consumer_ticket, older_ticket}
 use Rattle.pulsar_laws.specs.ConsumerLaws.{ConsumersEnd, ConsumersRemain, PermitsAreKept, arrival_does, arrival_ends, does_to, done_to, ends_at, ends_by, frame_does, frame_ends, has_ended, loss_does, made_with, subscription_does}
 use Rattle.pulsar_laws.proofs.consumers.Deeds.{deed_does, deed_ends, deeds_do, deeds_end, same_does, same_ends}
-use Rattle.pulsar_laws.proofs.consumers.Lone.{IsKept, IsMade, IsNone, RowFrom, applied, applied_append, begun_rows, consumers_alone_lem, deeds_did, made_plain, row_from}
+use Rattle.pulsar_laws.proofs.consumers.Lone.{IsKept, IsMade, IsNone, RowFrom, applied, applied_append, begun_rows, consumers_alone_lem, deeds_did, row_from}
 
 or_false : (b : Bool) → b ≡ (b || false)
 or_false true = refl
@@ -114,38 +113,51 @@ when_ends : (c : Bool) (xs : List Done) (s : Seen) → EndsSo xs s true → Ends
 when_ends true xs s p = p
 when_ends false xs s p = none_ends s
 
-frame_end : (l : ℕ) (r : Reply) (s : Seen) → EndsSo (frame_does l r s) s (frame_ends l r s)
-frame_end l r s =
-    either_ends (is_body 9 r.content.body) (Hears l (frame_in r) ∷ []) _ s false _ (after_ends (Hears l (frame_in r)) s)
+-- a message is heard at its moment
+hears_end : (now l : ℕ) (r : Reply) (s : Seen) (b : Bool) → EndsSo (cond b (Hears l (frame_in r) ∷ IsAt now ∷ []) []) s false
+hears_end now l r s true =
+    after_ends (Hears l (frame_in r)) (after (IsAt now) s) ∙ ap (λ b. b || false) (after_ends (IsAt now) s) ∙ sym (or_false (is_ended s || false))
+hears_end now l r s false = none_ends s
+
+frame_end : (now l : ℕ) (r : Reply) (s : Seen) → EndsSo (frame_does now l r s) s (frame_ends l r s)
+frame_end now l r s =
+    either_ends (is_body 9 r.content.body) (cond (lives_on l s) (Hears l (frame_in r) ∷ IsAt now ∷ []) []) _ s false _ (hears_end now l r s (lives_on l s))
     (either_ends (is_body 27 r.content.body) (cond (lives_on l s) (Over TopicEnded ∷ []) []) _ s (lives_on l s) _
     (when_ends (lives_on l s) (Over TopicEnded ∷ []) s (after_ends (Over TopicEnded) s))
     (either_ends (is_body 16 r.content.body) (Loses l ∷ []) [] s (lives_on l s && s.is_raw) false (after_ends (Loses l) s) (none_ends s)))
 
-arrival_end : (l : ℕ) (a : Arrival) (s : Seen) → EndsSo (arrival_does l a s) s (arrival_ends l a s)
-arrival_end l (arrivals.Gives n r) s = either_ends (s.number == n) (frame_does l r s) [] s (frame_ends l r s) false (frame_end l r s) (none_ends s)
-arrival_end l arrivals.Nothing s = none_ends s
-arrival_end l arrivals.Readied s = none_ends s
-arrival_end l arrivals.Settles s = none_ends s
-arrival_end l arrivals.Passes s = none_ends s
-arrival_end l (arrivals.Bad cause) s = none_ends s
+arrival_end : (now l : ℕ) (a : Arrival) (s : Seen) → EndsSo (arrival_does now l a s) s (arrival_ends l a s)
+arrival_end now l (arrivals.Gives n r) s =
+    either_ends (s.number == n) (frame_does now l r s) [] s (frame_ends l r s) false (frame_end now l r s) (none_ends s)
+arrival_end now l arrivals.Nothing s = none_ends s
+arrival_end now l arrivals.Readied s = none_ends s
+arrival_end now l arrivals.Settles s = none_ends s
+arrival_end now l arrivals.Passes s = none_ends s
+arrival_end now l (arrivals.Bad cause) s = none_ends s
 
 loss_end : (l : ℕ) (cause : Option Fault) (s : Seen) → EndsSo (loss_does l cause) s (is_some cause && (lives_on l s && s.is_raw))
 loss_end l None s = none_ends s
 loss_end l (Some cause) s = after_ends (Loses l) s
 
-subscription_end : (l : ℕ) (url : Option Parts) (s : Seen) → EndsSo (subscription_does l url) s false
-subscription_end l None s = none_ends s
-subscription_end l (Some url) s = after_ends (Lives l url) s
+subscription_end : (now l : ℕ) (url : Option Parts) (s : Seen) → EndsSo (subscription_does now l url) s false
+subscription_end now l None s = none_ends s
+subscription_end now l (Some url) s =
+    after_ends (Lives l url) (after (IsAt now) s) ∙ ap (λ b. b || false) (after_ends (IsAt now) s) ∙ sym (or_false (is_ended s || false))
 
 deed_end : (d : Deed) (m : Member) → EndsSo (deed_does d m) m.seen (deed_ends d m)
-deed_end (Arrives l a) m = arrival_end l a m.seen
+deed_end (Arrives now l a) m = arrival_end now l a m.seen
 deed_end (LinkEnds l cause) m = loss_end l cause m.seen
 deed_end (CloseAsked closed l b) m = when_ends (b && is_closed_by closed l m) (Over Closed ∷ []) m.seen (after_ends (Over Closed) m.seen)
 deed_end (IsPolled clock) m = after_ends (Polled clock) m.seen
 deed_end (IsSought who) m = none_ends m.seen
 deed_end FlowTaken m = after_ends Asks m.seen
-deed_end (Revived l url) m = subscription_end l url m.seen
+deed_end (Revived now l url) m = subscription_end now l url m.seen
 deed_end (NotRevived f) m = after_ends (Fails f) m.seen
+deed_end CopyTaken m = after_ends TakesCopy m.seen
+deed_end (Copied key now) m = after_ends (IsCopied key now) m.seen
+deed_end (CopyLost key now) m = after_ends (FailsCopy key now) m.seen
+deed_end (IsForgotten id) m = after_ends (Forgets id) m.seen
+deed_end (IsChecked now) m = after_ends (Checks now) m.seen
 deed_end ClientStops m = after_ends (Over Stopped) m.seen
 
 or_next : (a b c : Bool) → ((a || b) || c) ≡ (a || (b || c))
@@ -161,9 +173,9 @@ deeds_ended (d ∷ ds) m =
     ∙ ap (λ b. b || deed_ends d n) (deeds_ended ds m)
     ∙ or_next (is_ended m.seen) (deeds_end ds m) (deed_ends d n)
 
-pub does_end : (v : View) (t : ℕ) (m : Member) (a : Act) → EndsSo (does_to v t m a) m.seen (ends_by v t m a)
-does_end v t m a =
-    ap (λ xs. is_ended (applied xs m.seen)) (same_does v t m a)
+pub does_end : (v : View) (t : ℕ) (m : Member) (a : Act) → v.consumers.rows t ≡ Some m → EndsSo (does_to v t m a) m.seen (ends_by v t m a)
+does_end v t m a e =
+    ap (λ xs. is_ended (applied xs m.seen)) (same_does v t m a e)
     ∙ deeds_ended (member_acts v t a) m
     ∙ ap (λ b. is_ended m.seen || b) (sym (same_ends v t m a))
 
@@ -173,9 +185,9 @@ abbrev EndedAt : Options → List Entry → (ticket : ℕ) → Option Member →
 EndedAt o log t None = has_ended o t log ≡ false
 EndedAt o log t (Some m) = is_ended m.seen ≡ has_ended o t log
 
-made_open : (l : ℕ) (url : Option Parts) (s : Setup) → is_ended (subscribed_on l url (record { seen = fresh s; seekers = [] })).seen ≡ false
-made_open l None s = refl
-made_open l (Some url) s = refl
+made_open : (now l : ℕ) (url : Option Parts) (s : Setup) → is_ended (subscribed_on now l url (record { seen = fresh s; seekers = [] })).seen ≡ false
+made_open now l None s = refl
+made_open now l (Some url) s = refl
 
 module _ (once : EndsOnce) (o : Options) (t : ℕ) (un : is_spent t ≡ false) where
   has_more : (log : List Entry) (a : Act) (row : Option Member) → (view o log).consumers.rows t ≡ row →
@@ -190,12 +202,12 @@ module _ (once : EndsOnce) (o : Options) (t : ℕ) (un : is_spent t ≡ false) w
   ended_on log a (IsMade s l e f how did) k =
       let was : has_ended o t log ≡ false = subst (EndedAt o log t) e k in
       subst (EndedAt o (Then a ∷ log) t) (sym f)
-      (made_open l (url_at ((view o log).links.live l)) s ∙ sym (has_more log a None e ∙ ap (λ b. b || false) was))
+      (made_open (view o log).now l (url_at ((view o log).links.live l)) s ∙ sym (has_more log a None e ∙ ap (λ b. b || false) was))
   ended_on log a (IsKept m e r how did) k =
       let was : is_ended m.seen ≡ has_ended o t log = subst (EndedAt o log t) e k in
       subst (EndedAt o (Then a ∷ log) t) (sym r.is_it)
       (ap is_ended r.seen
-      ∙ does_end (view o log) t m a
+      ∙ does_end (view o log) t m a e
       ∙ ap (λ b. b || ends_by (view o log) t m a) was
       ∙ sym (has_more log a (Some m) e))
 
@@ -295,6 +307,6 @@ permits_are_kept_lem once o log t m l run e raw live =
       k.0,
       k.1,
       subst (λ c. l.level - l.weight ≤ batch_size c) (sym config) (less l.level l.weight (batch_size k.0.config) b.0),
-      λ done. subst (λ c. half (batch_size c) + l.weight ≤ l.level) (sym config) (b.1 (done, (plain_gives_all k.0 h (made_plain o t log k.0 k.1)).1)),
+      λ done. subst (λ c. half (batch_size c) + l.weight ≤ l.level) (sym config) (b.1 done),
       permits_are_counted k.0 h l plain there,
     )

@@ -7,12 +7,12 @@ use Rattle.pulsar_laws.proofs.LinkWords.{Fault, is_body, Reply, url_at}
 use Rattle.url.specs.Parts.{Parts}
 use Rattle.pulsar_messages.specs.Claims.{is_spent}
 use Rattle.pulsar_consumer.specs.Frames.{frame_in}
-use Rattle.pulsar_consumer.specs.Topic.{Act as Done, Hears, Loses, Ends as Over, Seen, Setup, after, fresh, lives_on, of_raw, seen}
+use Rattle.pulsar_consumer.specs.Topic.{Act as Done, Hears, IsAt, Loses, Ends as Over, Seen, Setup, after, fresh, lives_on, of_raw, seen}
 use Rattle.pulsar_incoming.specs.declared.polled.Ending.TheVariants.{Closed, TopicEnded}
 use Rattle.pulsar_calls.specs.declared.act.Arrival.TheVariants as arrivals
 use Rattle.pulsar_calls.specs.declared.act.Makes.TheVariants as makes
 use Rattle.pulsar_consumer_table.specs.Consumers as consumer
-use Rattle.pulsar_consumer_table.specs.Consumers.{Arrives, ClientStops, CloseAsked, Deed, FlowTaken, IsPolled, IsSought, LinkEnds, Member, NotRevived, Revived, hears, hears_frame, loses_by, member_after, member_by, subscribed_on, waits_so}
+use Rattle.pulsar_consumer_table.specs.Consumers.{Arrives, ClientStops, CloseAsked, Copied, CopyLost, CopyTaken, Deed, FlowTaken, IsChecked, IsForgotten, IsPolled, IsSought, LinkEnds, Member, NotRevived, Revived, hears, hears_frame, hears_message, loses_by, member_after, member_by, subscribed_on, waits_so}
 use Rattle.pulsar_consumer_table.specs.declared.row.LinkAnswer.{LinkAnswer}
 use Rattle.pulsar_consumer_table.specs.declared.row.LinkAnswer.TheVariants.{Found, Gone, Later}
 use Rattle.pulsar_acts.specs.View.{member_acts, member_born, member_made, member_of}
@@ -43,29 +43,31 @@ either_done : (b : Bool) (m n : Member) (xs ys : List Done) (s : Seen) → IsDon
 either_done true m n xs ys s p q = p
 either_done false m n xs ys s p q = q
 
-frame_done : (l : ℕ) (r : Reply) (m : Member) → IsDone (hears_frame l r m) (frame_does l r m.seen) m.seen
-frame_done l r m =
+frame_done : (now l : ℕ) (r : Reply) (m : Member) → IsDone (hears_frame now l r m) (frame_does now l r m.seen) m.seen
+frame_done now l r m =
     let s : Seen = m.seen in
-    either_done (is_body 9 r.content.body) (member_after (Hears l (frame_in r)) m) _ (Hears l (frame_in r) ∷ []) _ s refl
+    either_done (is_body 9 r.content.body) (hears_message now l r m) _ _ _ s
+    (either_done (lives_on l s) (member_after (Hears l (frame_in r)) (member_after (IsAt now) m)) m (Hears l (frame_in r) ∷ IsAt now ∷ []) [] s refl refl)
     (either_done (is_body 27 r.content.body) _ _ _ _ s
     (either_done (lives_on l s) (member_after (Over TopicEnded) m) m (Over TopicEnded ∷ []) [] s refl refl)
     (either_done (is_body 16 r.content.body) (member_after (Loses l) m) m (Loses l ∷ []) [] s refl refl))
 
-pub arrival_done : (l : ℕ) (a : Arrival) (m : Member) → IsDone (hears l a m) (arrival_does l a m.seen) m.seen
-arrival_done l (arrivals.Gives n r) m = either_done (m.seen.number == n) (hears_frame l r m) m (frame_does l r m.seen) [] m.seen (frame_done l r m) refl
-arrival_done l arrivals.Nothing m = refl
-arrival_done l arrivals.Readied m = refl
-arrival_done l arrivals.Settles m = refl
-arrival_done l arrivals.Passes m = refl
-arrival_done l (arrivals.Bad cause) m = refl
+pub arrival_done : (now l : ℕ) (a : Arrival) (m : Member) → IsDone (hears now l a m) (arrival_does now l a m.seen) m.seen
+arrival_done now l (arrivals.Gives n r) m =
+    either_done (m.seen.number == n) (hears_frame now l r m) m (frame_does now l r m.seen) [] m.seen (frame_done now l r m) refl
+arrival_done now l arrivals.Nothing m = refl
+arrival_done now l arrivals.Readied m = refl
+arrival_done now l arrivals.Settles m = refl
+arrival_done now l arrivals.Passes m = refl
+arrival_done now l (arrivals.Bad cause) m = refl
 
 loss_done : (l : ℕ) (cause : Option Fault) (m : Member) → IsDone (loses_by l cause m) (loss_does l cause) m.seen
 loss_done l None m = refl
 loss_done l (Some cause) m = refl
 
-pub subscription_done : (l : ℕ) (url : Option Parts) (m : Member) → IsDone (subscribed_on l url m) (subscription_does l url) m.seen
-subscription_done l None m = refl
-subscription_done l (Some url) m = refl
+pub subscription_done : (now l : ℕ) (url : Option Parts) (m : Member) → IsDone (subscribed_on now l url m) (subscription_does now l url) m.seen
+subscription_done now l None m = refl
+subscription_done now l (Some url) m = refl
 
 waits_done : (x : LinkAnswer) (w : Who) (m : Member) → (waits_so x w m).seen ≡ m.seen
 waits_done (Found l) w m = refl
@@ -77,15 +79,20 @@ applied_append [] ys s = refl
 applied_append (x ∷ xs) ys s = ap (after x) (applied_append xs ys s)
 
 deed_did : (d : Deed) (m : Member) → IsDone (member_by d m) (deed_does d m) m.seen
-deed_did (Arrives l a) m = arrival_done l a m
+deed_did (Arrives now l a) m = arrival_done now l a m
 deed_did (LinkEnds l cause) m = loss_done l cause m
 deed_did (CloseAsked closed l b) m =
     either_done (b && consumer.is_closed_by closed l m) (member_after (Over Closed) m) m (Over Closed ∷ []) [] m.seen refl refl
 deed_did (IsPolled clock) m = refl
 deed_did (IsSought who) m = waits_done (consumer.sought (Some m)) who m
 deed_did FlowTaken m = refl
-deed_did (Revived l url) m = subscription_done l url m
+deed_did (Revived now l url) m = subscription_done now l url m
 deed_did (NotRevived f) m = refl
+deed_did CopyTaken m = refl
+deed_did (Copied key now) m = refl
+deed_did (CopyLost key now) m = refl
+deed_did (IsForgotten id) m = refl
+deed_did (IsChecked now) m = refl
 deed_did ClientStops m = refl
 
 pub deeds_did : (ds : List Deed) (m : Member) → IsDone (along member_by ds m) (deeds_do ds m) m.seen
@@ -97,8 +104,8 @@ deeds_did (d ∷ ds) m =
 -- so what is so of what each deed of an act does is so of all that the act does
 pub did_so : (Q : List Done → Seen → Type 0) → ((s : Seen) → Q [] s) →
     ((xs ys : List Done) (s : Seen) → Q ys s → Q xs (applied ys s) → Q (xs ++ ys) s) → (v : View) (t : ℕ) (a : Act) →
-    ((d : Deed) → CameFrom v t a d → (m : Member) → Q (deed_does d m) m.seen) → (m : Member) → Q (does_to v t m a) m.seen
-did_so Q none more v t a one m = subst (λ xs. Q xs m.seen) (sym (same_does v t m a)) (all (member_acts v t a) (came_from v t a))
+    ((d : Deed) → CameFrom v t a d → (m : Member) → Q (deed_does d m) m.seen) → (m : Member) → v.consumers.rows t ≡ Some m → Q (does_to v t m a) m.seen
+did_so Q none more v t a one m e = subst (λ xs. Q xs m.seen) (sym (same_does v t m a e)) (all (member_acts v t a) (came_from v t a))
   where
     all : (ds : List Deed) → Each (CameFrom v t a) ds → Q (deeds_do ds m) m.seen
     all [] c = none m.seen
@@ -121,7 +128,7 @@ apart_call t u h = elim (cases_Bool (t == u)) [ inl e ↦ (let f : true ≡ fals
 
 -- an act by which no call of this ticket ends makes none
 born_none : (v : View) (t : ℕ) (a : Act) → IsOther t a → member_born v t a ≡ None
-born_none v t (Answers who verdict) other = by (member_made v.links.live v.consumers.next_key verdict.makes) who (other who verdict refl)
+born_none v t (Answers who verdict) other = by (member_made v.links.live v.now v.consumers.next_key verdict.makes) who (other who verdict refl)
   where
     by : (m : Option Member) (who : Who) → is_same (Call t) who ≡ false → member_of m who t ≡ None
     by None who h = refl
@@ -145,7 +152,7 @@ row_after v t m h a other =
     record {
       row = along member_by (member_acts v t a) m;
       is_it = by_acts v t a (Some m) other h ∙ row_stays member_by (member_acts v t a) m;
-      seen = deeds_did (member_acts v t a) m ∙ ap (λ xs. applied xs m.seen) (sym (same_does v t m a));
+      seen = deeds_did (member_acts v t a) m ∙ ap (λ xs. applied xs m.seen) (sym (same_does v t m a h));
     }
 
 -- NO CONSUMER OF A CALL THAT HAS NOT ENDED
@@ -194,8 +201,8 @@ none_before once o t log who verdict unspent run e =
 pub data RowFrom (o : Options) (log : List Entry) (a : Act) (t : ℕ) : Type 0 where
   IsNone : (view o log).consumers.rows t ≡ None → (view o (Then a ∷ log)).consumers.rows t ≡ None → RowFrom o log a t
   IsMade : (s : Setup) (l : ℕ) → (view o log).consumers.rows t ≡ None →
-      (view o (Then a ∷ log)).consumers.rows t ≡ Some (member_on (view o log).links.live l s) → made_with o t (Then a ∷ log) ≡ Some s →
-      done_to o t (Then a ∷ log) ≡ subscription_does l (url_at ((view o log).links.live l)) → RowFrom o log a t
+      (view o (Then a ∷ log)).consumers.rows t ≡ Some (member_on (view o log).links.live (view o log).now l s) → made_with o t (Then a ∷ log) ≡ Some s →
+      done_to o t (Then a ∷ log) ≡ subscription_does (view o log).now l (url_at ((view o log).links.live l)) → RowFrom o log a t
   IsKept : (m : Member) → (view o log).consumers.rows t ≡ Some m → RowAfter (view o log) a t m → made_with o t (Then a ∷ log) ≡ made_with o t log →
       done_to o t (Then a ∷ log) ≡ does_to (view o log) t m a ++ done_to o t log → RowFrom o log a t
 
@@ -214,14 +221,14 @@ module _ (o : Options) (log : List Entry) (t : ℕ) where
   made_row who verdict m f none e = made_by m f
     where
       rows_are : (m : Makes) → verdict.makes ≡ m →
-          (view o (Then (Answers who verdict) ∷ log)).consumers.rows t ≡ row_made (member_made v.links.live v.consumers.next_key m) who t (v.consumers.rows t)
-      rows_are m f = ap (λ x. row_made (member_made v.links.live v.consumers.next_key x) who t (v.consumers.rows t)) f
+          (view o (Then (Answers who verdict) ∷ log)).consumers.rows t ≡ row_made (member_made v.links.live v.now v.consumers.next_key m) who t (v.consumers.rows t)
+      rows_are m f = ap (λ x. row_made (member_made v.links.live v.now v.consumers.next_key x) who t (v.consumers.rows t)) f
 
-      did : (m : Makes) → verdict.makes ≡ m → done_to o t (Then (Answers who verdict) ∷ log) ≡ making_does v.links.live m
+      did : (m : Makes) → verdict.makes ≡ m → done_to o t (Then (Answers who verdict) ∷ log) ≡ making_does v.links.live v.now m
       did m f =
           ap (λ r. done_since v t (Answers who verdict) r (done_to o t log)) none
-          ∙ ap (λ b. cond b (making_does v.links.live verdict.makes) (done_to o t log)) e
-          ∙ ap (making_does v.links.live) f
+          ∙ ap (λ b. cond b (making_does v.links.live v.now verdict.makes) (done_to o t log)) e
+          ∙ ap (making_does v.links.live v.now) f
 
       how : (m : Makes) → verdict.makes ≡ m → made_with o t (Then (Answers who verdict) ∷ log) ≡ made_as v.consumers.next_key m
       how m f = ap (λ b. cond b (made_as v.consumers.next_key verdict.makes) (made_with o t log)) e ∙ ap (made_as v.consumers.next_key) f
@@ -229,11 +236,11 @@ module _ (o : Options) (log : List Entry) (t : ℕ) where
       made_by : (m : Makes) → verdict.makes ≡ m → RowFrom o log (Answers who verdict) t
       made_by (makes.Consumer j) f =
           IsMade (setup_of v.consumers.next_key j) j.link none
-          (rows_are (makes.Consumer j) f ∙ joins_here who (member_on v.links.live j.link (setup_of v.consumers.next_key j)) (v.consumers.rows t) t e)
+          (rows_are (makes.Consumer j) f ∙ joins_here who (member_on v.links.live v.now j.link (setup_of v.consumers.next_key j)) (v.consumers.rows t) t e)
           (how (makes.Consumer j) f) (did (makes.Consumer j) f)
       made_by (makes.RawConsumer l made) f =
           IsMade (of_raw made) l none
-          (rows_are (makes.RawConsumer l made) f ∙ joins_here who (member_on v.links.live l (of_raw made)) (v.consumers.rows t) t e)
+          (rows_are (makes.RawConsumer l made) f ∙ joins_here who (member_on v.links.live v.now l (of_raw made)) (v.consumers.rows t) t e)
           (how (makes.RawConsumer l made) f) (did (makes.RawConsumer l made) f)
       made_by makes.Nothing f = IsNone none (rows_are makes.Nothing f ∙ none)
       made_by makes.Client f = IsNone none (rows_are makes.Client f ∙ none)
@@ -261,26 +268,6 @@ module _ (o : Options) (log : List Entry) (t : ℕ) where
   ]
   row_from once a un run = other_row a (λ w x f. absurd cc) (v.consumers.rows t) refl
 
--- no dead letters are asked for, and no message is asked for again
-pub made_plain : (o : Options) (t : ℕ) (log : List Entry) (s : Setup) → made_with o t log ≡ Some s → s.config.dead_letter_policy ≡ None
-made_plain o t [] s how = absurd (none_some how)
-made_plain o t (Begins e ∷ log) s how = made_plain o t log s how
-made_plain o t (Then (Answers who verdict) ∷ log) s how = by (is_same (Call t) who) (made_plain o t log s) how
-  where
-    made : (key : ℕ) (m : Makes) → made_as key m ≡ Some s → s.config.dead_letter_policy ≡ None
-    made key makes.Nothing e = absurd (none_some e)
-    made key makes.Client e = absurd (none_some e)
-    made key (makes.Consumer j) e = sym (ap (λ (x : Setup). x.config.dead_letter_policy) (some_is e))
-    made key (makes.RawConsumer l m) e = sym (ap (λ (x : Setup). x.config.dead_letter_policy) (some_is e))
-    made key (makes.Producer b) e = absurd (none_some e)
-    made key (makes.MultiProducer name settings) e = absurd (none_some e)
-
-    by : (b : Bool) → (made_with o t log ≡ Some s → s.config.dead_letter_policy ≡ None) →
-        cond b (made_as (view o log).consumers.next_key verdict.makes) (made_with o t log) ≡ Some s → s.config.dead_letter_policy ≡ None
-    by true before e = made (view o log).consumers.next_key verdict.makes e
-    by false before e = before e
-made_plain o t (Then a ∷ log) s how = made_plain o t log s how
-
 -- A CONSUMER IS WHAT WAS DONE TO IT
 
 abbrev pub StandsSo : Options → List Entry → (ticket : ℕ) → Member → Type 0
@@ -290,13 +277,14 @@ kept_so : (o : Options) (log : List Entry) (a : Act) (t : ℕ) (n : Member) → 
     ((u : Member) → (view o log).consumers.rows t ≡ Some u → StandsSo o log t u) → StandsSo o (Then a ∷ log) t n
 kept_so o log a t n (IsNone e f) h more = absurd (none_some (sym f ∙ h))
 kept_so o log a t n (IsMade s l e f how did) h more =
+    let now = (view o log).now in
     let url : Option Parts = url_at ((view o log).links.live l) in
-    let same : member_on (view o log).links.live l s ≡ n = (let g : Some (member_on (view o log).links.live l s) ≡ Some n = sym f ∙ h in cc) in (
+    let same : member_on (view o log).links.live now l s ≡ n = (let g : Some (member_on (view o log).links.live now l s) ≡ Some n = sym f ∙ h in cc) in (
       s,
       how,
       sym (ap (λ x. x.seen) same)
-          ∙ subscription_done l url (record { seen = fresh s; seekers = [] })
-          ∙ sym (seen_first s (subscription_does l url))
+          ∙ subscription_done now l url (record { seen = fresh s; seekers = [] })
+          ∙ sym (seen_first s (subscription_does now l url))
           ∙ ap (seen s) (sym did),
     )
   where

@@ -3,25 +3,30 @@ use Rattle.std.proofs.Common.{◌≡◌, ◌∙◌, sym, ap, subst, ℕ, List, [
 use Rattle.std.proofs.lemmas.Bool.{cases_Bool, eqb-true}
 use Rattle.std.specs.List.{flat_map}
 use Rattle.std.specs.Option.{option_map, option_to_list, is_some}
-use Rattle.pulsar_laws.proofs.ActWords.{Act, Answers, Arrival, Ask, Call, Comes, Consumer, ConsumerAsk, Does, End, Ends, FailConsumer, FindConsumer, Notice, OfConsumer, Polls, Producer, Reads, RecallConsumer, Revive, StopAll, TakeFlow, ticket_of, ToLink, Verdict, Who}
-use Rattle.pulsar_laws.proofs.RunWords.{begun_same, consumers_after, Each, each_append, each_flat, each_when, In, rules, View}
+use Rattle.pulsar_laws.proofs.ActWords.{Act, Alarm, Answers, Arrival, Ask, Asked, Call, Calls, Comes, Consumer, ConsumerAsk, CopyFailed, CopySent, Does, End, Ends, FailConsumer, FindConsumer, Notice, OfConsumer, Polls, Producer, Reads, RecallConsumer, Revive, Rings, StopAll, TakeCopy, TakeFlow, ToLink, Verdict, Who, lacks_tickets, shares, ticket_of}
+use Rattle.pulsar_laws.proofs.RunWords.{begun_same, consumers_after, Each, each_append, each_either, each_flat, each_when, In, rules, View}
 use Rattle.pulsar_laws.proofs.LinkWords.{answer_at, arrival_at, closed_consumer, closing, Fault, is_asked, is_body, Reply, url_at, Words}
 use Rattle.pulsar_consumer.specs.Topic as reader
-use Rattle.pulsar_consumer.specs.Topic.{Act as Act', Hears, Loses, Live, Seen, first_of, gives, is_due, is_on, lives_on, first_due, counts_first, ends as reader_ends, loses as reader_loses, Ends as Over}
+use Rattle.pulsar_consumer.specs.Redelivery.{Id}
+use Rattle.pulsar_consumer.specs.Topic.{Act as Act', Hears, IsAt, Loses, Live, Seen, first_of, gives, is_due, is_on, lives_on, first_due, counts_first, ends as reader_ends, loses as reader_loses, Ends as Over}
 use Rattle.pulsar_consumer.specs.Frames.{frame_in}
 use Rattle.pulsar_incoming.specs.declared.polled.Ending.{Ending}
 use Rattle.pulsar_incoming.specs.declared.polled.Ending.TheVariants.{LinkLost, TopicEnded}
 use Rattle.pulsar_consumer.proofs.Checking.{same_after}
 use Rattle.pulsar_consumer.proofs.Histories.{counted_same}
 use Rattle.pulsar_consumer.proofs.Permits.{gives_dead}
+use Rattle.pulsar_calls.specs.Content as content
+use Rattle.pulsar_calls.specs.Who.{key_of}
+use Rattle.pulsar_calls.specs.declared.act.Alarm.TheVariants.{Redelivery}
 use Rattle.pulsar_calls.specs.declared.act.Arrival.TheVariants as arrivals
 use Rattle.pulsar_calls.specs.declared.act.Word.TheVariants as word
 use Rattle.pulsar_consumer_table.specs.Consumers as consumer
-use Rattle.pulsar_consumer_table.specs.Consumers.{Arrives, ClientStops, CloseAsked, Consumers, Deed, FlowTaken, IsPolled, IsSought, LinkEnds, Member, NotRevived, Revived, at_row, ends_on, hears, hears_frame, loses_by, member_after, member_by, over_rows}
+use Rattle.pulsar_consumer_table.specs.Consumers.{Arrives, ClientStops, CloseAsked, Consumers, Copied, CopyLost, CopyTaken, Deed, FlowTaken, IsChecked, IsForgotten, IsPolled, IsSought, LinkEnds, Member, NotRevived, Revived, at_row, ends_on, forgets_by, hears, hears_frame, hears_message, link_at, loses_by, member_after, member_by, only_live, over_rows}
 use Rattle.pulsar_consumer_table.specs.Notices.{due_at, due_to, lost_at, word_to}
 use Rattle.pulsar_consumer_table.specs.Asks.{ticket_asked}
 use Rattle.pulsar_acts.specs.Things.{members}
-use Rattle.pulsar_acts.specs.View.{consumer_asked, member_acts, member_born, member_made, member_of}
+use Rattle.pulsar_links.specs.Alarms.{rings}
+use Rattle.pulsar_acts.specs.View.{checked_by, consumer_asked, may_call, member_acts, member_born, member_made, member_of, member_rung}
 use Rattle.pulsar_run.specs.Things.{Keeps, along, row_after, row_by}
 use Rattle.url.specs.Parts.{Parts}
 use Rattle.pulsar_laws.proofs.Lists.{in_append}
@@ -44,12 +49,12 @@ members_keep = record {
 pub record Joins (v : View) (a : Act) (t : ℕ) (m : Member) : Type 0 where
   pub verdict : Verdict
   pub is_act : a ≡ Answers (Call t) verdict
-  pub makes : member_made v.links.live v.consumers.next_key verdict.makes ≡ Some m
+  pub makes : member_made v.links.live v.now v.consumers.next_key verdict.makes ≡ Some m
 
 pub born_joins : (v : View) (a : Act) (t : ℕ) (m : Member) → member_born v t a ≡ Some m → Joins v a t m
-born_joins v (Answers who verdict) t m h = by (member_made v.links.live v.consumers.next_key verdict.makes) refl who h
+born_joins v (Answers who verdict) t m h = by (member_made v.links.live v.now v.consumers.next_key verdict.makes) refl who h
   where
-    by : (r : Option Member) → member_made v.links.live v.consumers.next_key verdict.makes ≡ r → (who : Who) → member_of r who t ≡ Some m →
+    by : (r : Option Member) → member_made v.links.live v.now v.consumers.next_key verdict.makes ≡ r → (who : Who) → member_of r who t ≡ Some m →
         Joins v (Answers who verdict) t m
     by None e who k = absurd cc
     by (Some n) e (Call u) k = elim (cases_Bool (t == u)) [
@@ -65,7 +70,7 @@ born_joins v a t m h = absurd cc
 -- WHAT WAS DONE TO ONE, AND BY WHICH ACT
 
 abbrev pub CameFrom : View → (ticket : ℕ) → Act → Deed → Type 0
-CameFrom v t a (Arrives l x) = (a ≡ Comes (ToLink l Reads)) × (x ≡ arrival_at (v.links.live l))
+CameFrom v t a (Arrives now l x) = (a ≡ Comes (ToLink l Reads)) × (x ≡ arrival_at (v.links.live l)) × (now ≡ v.now)
 CameFrom v t a (LinkEnds l c) = (end : End) × (a ≡ Comes (ToLink l (Ends end))) × (c ≡ closing end v.now (v.links.live l))
 CameFrom v t a (CloseAsked closed l b) =
     (who : Who) × (request : Words) × (a ≡ Does who (Ask l request)) × (closed ≡ closed_consumer request)
@@ -73,8 +78,16 @@ CameFrom v t a (CloseAsked closed l b) =
 CameFrom v t a (IsPolled clock) = (a ≡ Comes (Polls t)) × (clock ≡ v.now)
 CameFrom v t a (IsSought who) = a ≡ Does who (OfConsumer (FindConsumer t))
 CameFrom v t a FlowTaken = (who : Who) × (a ≡ Does who (OfConsumer TakeFlow)) × (t ≡ ticket_of who)
-CameFrom v t a (Revived l url) = (who : Who) × (a ≡ Does who (OfConsumer (Revive l))) × (t ≡ ticket_of who) × (url ≡ url_at (v.links.live l))
+CameFrom v t a (Revived now l url) =
+    (who : Who) × (a ≡ Does who (OfConsumer (Revive l))) × (t ≡ ticket_of who) × (url ≡ url_at (v.links.live l)) × (now ≡ v.now)
 CameFrom v t a (NotRevived f) = (who : Who) × (a ≡ Does who (OfConsumer (FailConsumer f))) × (t ≡ ticket_of who)
+CameFrom v t a CopyTaken = (who : Who) × (a ≡ Does who (OfConsumer TakeCopy)) × (t ≡ ticket_of who)
+CameFrom v t a (Copied key now) =
+    (who : Who) × (a ≡ Does who (OfConsumer CopySent)) × (t ≡ ticket_of who) × (key ≡ key_of who) × (now ≡ v.now)
+CameFrom v t a (CopyLost key now) =
+    (who : Who) × (a ≡ Does who (OfConsumer CopyFailed)) × (t ≡ ticket_of who) × (key ≡ key_of who) × (now ≡ v.now)
+CameFrom v t a (IsForgotten id) = (asked : Asked) × (advice : List (Option ℕ)) × (a ≡ Comes (Calls asked advice))
+CameFrom v t a (IsChecked now) = (n : ℕ) × (a ≡ Comes (Rings (Redelivery n t))) × (now ≡ v.now)
 CameFrom v t a ClientStops = (who : Who) × (a ≡ Does who StopAll)
 
 ask_came : (v : View) (who : Who) (t : ℕ) (ask : ConsumerAsk) → t ≡ ticket_asked who ask →
@@ -82,11 +95,37 @@ ask_came : (v : View) (who : Who) (t : ℕ) (ask : ConsumerAsk) → t ≡ ticket
 ask_came v who t (FindConsumer u) e = (ap (λ x. Does who (OfConsumer (FindConsumer x))) (sym e), tt)
 ask_came v who t TakeFlow e = ((who, refl, e), tt)
 ask_came v who t RecallConsumer e = tt
-ask_came v who t (Revive l) e = ((who, refl, e, refl), tt)
+ask_came v who t (Revive l) e = ((who, refl, e, refl, refl), tt)
 ask_came v who t (FailConsumer f) e = ((who, refl, e), tt)
+ask_came v who t TakeCopy e = ((who, refl, e), tt)
+ask_came v who t CopySent e = ((who, refl, e, refl, refl), tt)
+ask_came v who t CopyFailed e = ((who, refl, e, refl, refl), tt)
+
+-- a call does nothing to one but that it forgets a message
+live_only : (P : Deed → Type 0) → ((id : Id) → P (IsForgotten id)) → (l : Option ℕ) (id : Id) → Each P (only_live l id)
+live_only P h None id = tt
+live_only P h (Some l) id = (h id, tt)
+
+forgets_only : (P : Deed → Type 0) → ((id : Id) → P (IsForgotten id)) → (asked : Asked) (t : ℕ) (row : Option Member) → Each P (forgets_by asked t row)
+forgets_only P h (content.Ack u name id cumulative) t row = each_either P (t == u) (IsForgotten id ∷ []) [] (h id, tt) tt
+forgets_only P h (content.Nack u name id) t row = each_either P (t == u) (only_live (link_at row) id) [] (live_only P h (link_at row) id) tt
+forgets_only P h asked t row = tt
+
+rung_came : (v : View) (t : ℕ) (a : Alarm) → Each (CameFrom v t (Comes (Rings a))) (member_rung v.now (rings v.now a v.alarms) a t)
+rung_came v t (Redelivery n u) =
+    each_when (CameFrom v t (Comes (Rings (Redelivery n u)))) (t == u) (checked_by v.now (rings v.now (Redelivery n u) v.alarms)) []
+    (λ e. each_either (CameFrom v t (Comes (Rings (Redelivery n u)))) (rings v.now (Redelivery n u) v.alarms) (IsChecked v.now ∷ []) []
+    ((n, ap (λ x. Comes (Rings (Redelivery n x))) (sym (eqb-true t u e)), refl), tt) tt)
+    (λ e. tt)
+rung_came v t a = tt
 
 pub came_from : (v : View) (t : ℕ) (a : Act) → Each (CameFrom v t a) (member_acts v t a)
-came_from v t (Comes (ToLink l Reads)) = ((refl, refl), tt)
+came_from v t (Comes (Calls asked advice)) =
+    let P : Deed → Type 0 = CameFrom v t (Comes (Calls asked advice)) in
+    each_either P (lacks_tickets v.calls.drawn (shares asked)) [] _ tt
+    (each_either P (may_call v.calls) (forgets_by asked t (v.consumers.rows t)) [] (forgets_only P (λ id. (asked, advice, refl)) asked t (v.consumers.rows t)) tt)
+came_from v t (Comes (Rings a)) = rung_came v t a
+came_from v t (Comes (ToLink l Reads)) = ((refl, refl, refl), tt)
 came_from v t (Comes (ToLink l (Ends end))) = ((end, refl, refl), tt)
 came_from v t (Comes (Polls u)) =
     each_when (CameFrom v t (Comes (Polls u))) (t == u) (IsPolled v.now ∷ []) []
@@ -152,11 +191,6 @@ pub lost_gone : (v : Seen) → (reader_loses v).engine.live ≡ None
 lost_gone v = elim v.is_raw as (λ b. (cond b (reader_ends LinkLost v) (record v { engine = record v.engine { live = None } })).engine.live ≡ None)
     [ true ↦ refl | false ↦ refl ]
 
-hears_gone_at : (l : ℕ) (r : Reply) (m : Member) → IsGone m → IsGone (member_after (Hears l (frame_in r)) m)
-hears_gone_at l r m k =
-    let off : lives_on l m.seen ≡ false = not_on l m.seen.engine.live k in
-    ap (λ b. (cond b (reader.heard (frame_in r) m.seen) m.seen).engine.live) off ∙ k
-
 loses_gone_at : (l : ℕ) (m : Member) → IsGone m → IsGone (member_after (Loses l) m)
 loses_gone_at l m k = cond_so (λ z. z.engine.live ≡ None) (lives_on l m.seen) (reader_loses m.seen) m.seen (lost_gone m.seen) k
 
@@ -164,15 +198,21 @@ ends_gone_at : (l : ℕ) (why : Ending) (m : Member) → IsGone m → IsGone (en
 ends_gone_at l why m k =
     elim (lives_on l m.seen) as (λ b. (cond b (member_after (Over why) m) m).seen.engine.live ≡ None) [ true ↦ refl | false ↦ k ]
 
-frame_gone : (l : ℕ) (r : Reply) (m : Member) → IsGone m → IsGone (hears_frame l r m)
-frame_gone l r m k =
-    cond_so IsGone (is_body 9 r.content.body) (member_after (Hears l (frame_in r)) m) _ (hears_gone_at l r m k)
+-- one of which none is live hears no message
+message_gone : (clock l : ℕ) (r : Reply) (m : Member) → IsGone m → IsGone (hears_message clock l r m)
+message_gone clock l r m k =
+    let off : lives_on l m.seen ≡ false = not_on l m.seen.engine.live k in
+    ap (λ b. (cond b (member_after (Hears l (frame_in r)) (member_after (IsAt clock) m)) m).seen.engine.live) off ∙ k
+
+frame_gone : (clock l : ℕ) (r : Reply) (m : Member) → IsGone m → IsGone (hears_frame clock l r m)
+frame_gone clock l r m k =
+    cond_so IsGone (is_body 9 r.content.body) (hears_message clock l r m) _ (message_gone clock l r m k)
     (cond_so IsGone (is_body 27 r.content.body) (ends_on l TopicEnded m) _ (ends_gone_at l TopicEnded m k)
     (cond_so IsGone (is_body 16 r.content.body) (member_after (Loses l) m) m (loses_gone_at l m k) k))
 
-pub heard_gone : (l : ℕ) (a : Arrival) (m : Member) → IsGone m → IsGone (hears l a m)
-heard_gone l (arrivals.Gives n r) m k = cond_so IsGone (m.seen.number == n) (hears_frame l r m) m (frame_gone l r m k) k
-heard_gone l _ m k = k
+pub heard_gone : (clock l : ℕ) (a : Arrival) (m : Member) → IsGone m → IsGone (hears clock l a m)
+heard_gone clock l (arrivals.Gives n r) m k = cond_so IsGone (m.seen.number == n) (hears_frame clock l r m) m (frame_gone clock l r m k) k
+heard_gone clock l _ m k = k
 
 pub loss_gone : (l : ℕ) (cause : Option Fault) (m : Member) → IsGone m → IsGone (loses_by l cause m)
 loss_gone l None m k = k
@@ -204,12 +244,12 @@ no_due P t (Some m) k =
 pub after_number : (act : Act') (s : Seen) → (reader.after act s).number ≡ s.number
 after_number act s = ap (λ x. x.number) (same_after act s)
 
-pub subscribed_number : (l : ℕ) (url : Option Parts) (m : Member) → (consumer.subscribed_on l url m).seen.number ≡ m.seen.number
-subscribed_number l None m = refl
-subscribed_number l (Some url) m = after_number (reader.Lives l url) m.seen
+pub subscribed_number : (clock l : ℕ) (url : Option Parts) (m : Member) → (consumer.subscribed_on clock l url m).seen.number ≡ m.seen.number
+subscribed_number clock l None m = refl
+subscribed_number clock l (Some url) m = after_number (reader.Lives l url) (member_after (IsAt clock) m).seen
 
-pub revived_number : (l : ℕ) (url : Option Parts) (m : Member) → (consumer.revived l url m).seen.number ≡ m.seen.number
-revived_number l url m = subscribed_number l url m
+pub revived_number : (clock l : ℕ) (url : Option Parts) (m : Member) → (consumer.revived clock l url m).seen.number ≡ m.seen.number
+revived_number clock l url m = subscribed_number clock l url m
 
 -- WHAT IS IN WHAT ALL GIVE
 

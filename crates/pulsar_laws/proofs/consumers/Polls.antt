@@ -32,16 +32,17 @@ use Rattle.pulsar_consumer.specs.Frames.{frame_in}
 use Rattle.pulsar_consumer.specs.Topic.{Act as Done, Lives, Hears, Loses, Fails, Ends as Over, Polls as Polled, Asks, IsAt, TakesCopy, IsCopied, FailsCopy, Stops, Forgets, Checks, Seen, Setup, first_of as first_item, is_pending, lives_on, over, polled_from, seen}
 use Rattle.pulsar_consumer.specs.Items as arrived
 use Rattle.pulsar_consumer.specs.Items.{Item as Arrived, handed}
-use Rattle.pulsar_consumer.specs.Laws.{given, given_by as given_in, left}
+use Rattle.pulsar_consumer.specs.Laws.{given, given_by as given_in, is_pending_in, left}
 use Rattle.pulsar_incoming.specs.declared.polled.Ending.{Ending}
 use Rattle.pulsar_incoming.specs.declared.polled.Ending.TheVariants.{Closed, TopicEnded}
 use Rattle.pulsar_incoming.specs.declared.polled.Polled.{Polled as Answer}
+use Rattle.pulsar_consumer.proofs.Checking.{setup_is}
 use Rattle.pulsar_consumer.proofs.Histories.{polls_give_arrivals, polls_give_the_next}
 use Rattle.pulsar_consumer.proofs.Plain.{plain_gives_all}
-use Rattle.pulsar_consumer_table.specs.Consumers.{Arrives, ClientStops, CloseAsked, Deed, FlowTaken, IsPolled, IsSought, LinkEnds, Member, NotRevived, Revived, is_closed_by, polled, polled_so}
+use Rattle.pulsar_consumer_table.specs.Consumers.{Arrives, ClientStops, CloseAsked, Copied, CopyLost, CopyTaken, Deed, FlowTaken, IsChecked, IsForgotten, IsPolled, IsSought, LinkEnds, Member, NotRevived, Revived, is_closed_by, polled, polled_so}
 use Rattle.pulsar_laws.specs.ConsumerLaws.{PollsAreAnswered, PollsFollow, arrival_does, does_to, done_to, frame_does, given_by, items_given, loss_does, made_with, shows_next, subscription_does}
 use Rattle.pulsar_laws.proofs.consumers.Deeds.{deed_does}
-use Rattle.pulsar_laws.proofs.consumers.Lone.{IsKept, IsMade, IsNone, RowFrom, StandsSo, begun_rows, consumers_alone_lem, did_so, made_plain, row_from}
+use Rattle.pulsar_laws.proofs.consumers.Lone.{IsKept, IsMade, IsNone, RowFrom, StandsSo, begun_rows, consumers_alone_lem, did_so, row_from}
 use Rattle.pulsar_laws.proofs.consumers.Members.{CameFrom}
 use Rattle.pulsar_consumer.specs.Topic as reader
 use Rattle.pulsar_incoming.specs.declared.polled.Polled.TheVariants as poll
@@ -220,46 +221,52 @@ mutes_give s [] h k = refl
 mutes_give s (x ∷ xs) h k =
     ap (λ items. given s (xs ++ h) ++ items) (mute_gives x (seen s (xs ++ h)) k.0) ∙ append-nil (given s (xs ++ h)) ∙ mutes_give s xs h k.1
 
-frame_mute : (l : ℕ) (r : Reply) (s : Seen) → Each IsMute (frame_does l r s)
-frame_mute l r s =
-    each_either IsMute (is_body 9 r.content.body) (Hears l (frame_in r) ∷ []) _ (tt, tt)
+frame_mute : (now l : ℕ) (r : Reply) (s : Seen) → Each IsMute (frame_does now l r s)
+frame_mute now l r s =
+    each_either IsMute (is_body 9 r.content.body) (cond (lives_on l s) (Hears l (frame_in r) ∷ IsAt now ∷ []) []) _
+    (each_either IsMute (lives_on l s) (Hears l (frame_in r) ∷ IsAt now ∷ []) [] (tt, (tt, tt)) tt)
     (each_either IsMute (is_body 27 r.content.body) (cond (lives_on l s) (Over TopicEnded ∷ []) []) _
     (each_either IsMute (lives_on l s) (Over TopicEnded ∷ []) [] (tt, tt) tt)
     (each_either IsMute (is_body 16 r.content.body) (Loses l ∷ []) [] (tt, tt) tt))
 
-arrival_mute : (l : ℕ) (a : Arrival) (s : Seen) → Each IsMute (arrival_does l a s)
-arrival_mute l (arrivals.Gives n r) s = each_either IsMute (s.number == n) (frame_does l r s) [] (frame_mute l r s) tt
-arrival_mute l arrivals.Nothing s = tt
-arrival_mute l arrivals.Readied s = tt
-arrival_mute l arrivals.Settles s = tt
-arrival_mute l arrivals.Passes s = tt
-arrival_mute l (arrivals.Bad cause) s = tt
+arrival_mute : (now l : ℕ) (a : Arrival) (s : Seen) → Each IsMute (arrival_does now l a s)
+arrival_mute now l (arrivals.Gives n r) s = each_either IsMute (s.number == n) (frame_does now l r s) [] (frame_mute now l r s) tt
+arrival_mute now l arrivals.Nothing s = tt
+arrival_mute now l arrivals.Readied s = tt
+arrival_mute now l arrivals.Settles s = tt
+arrival_mute now l arrivals.Passes s = tt
+arrival_mute now l (arrivals.Bad cause) s = tt
 
 loss_mute : (l : ℕ) (cause : Option Fault) → Each IsMute (loss_does l cause)
 loss_mute l None = tt
 loss_mute l (Some cause) = (tt, tt)
 
-subscription_mute : (l : ℕ) (url : Option Parts) → Each IsMute (subscription_does l url)
-subscription_mute l None = tt
-subscription_mute l (Some url) = (tt, tt)
+subscription_mute : (now l : ℕ) (url : Option Parts) → Each IsMute (subscription_does now l url)
+subscription_mute now l None = tt
+subscription_mute now l (Some url) = (tt, (tt, tt))
 
 abbrev pub is_poll : Act → Bool
 is_poll (Comes (Polls t)) = true
 is_poll _ = false
 
-does_mute : (v : View) (t : ℕ) (m : Member) (a : Act) → is_poll a ≡ false → Each IsMute (does_to v t m a)
-does_mute v t m a h = did_so (λ xs s. Each IsMute xs) (λ s. tt) (λ xs ys s q p. each_append IsMute xs ys p q) v t a one m
+does_mute : (v : View) (t : ℕ) (m : Member) (a : Act) → v.consumers.rows t ≡ Some m → is_poll a ≡ false → Each IsMute (does_to v t m a)
+does_mute v t m a e h = did_so (λ xs s. Each IsMute xs) (λ s. tt) (λ xs ys s q p. each_append IsMute xs ys p q) v t a one m e
   where
     one : (d : Deed) → CameFrom v t a d → (n : Member) → Each IsMute (deed_does d n)
-    one (Arrives l x) c n = arrival_mute l x n.seen
+    one (Arrives now l x) c n = arrival_mute now l x n.seen
     one (LinkEnds l cause) c n = loss_mute l cause
     one (CloseAsked closed l b) c n = each_either IsMute (b && is_closed_by closed l n) (Over Closed ∷ []) [] (tt, tt) tt
     one (IsPolled clock) c n = let f : true ≡ false = sym (ap is_poll c.0) ∙ h in absurd cc
     one (IsSought who) c n = tt
     one FlowTaken c n = (tt, tt)
-    one (Revived l url) c n = subscription_mute l url
+    one (Revived now l url) c n = subscription_mute now l url
     one (NotRevived f) c n = (tt, tt)
-    one ClientStops c n = (tt, tt)
+    one CopyTaken c n = (tt, tt)
+    one (Copied key now) c n = (tt, tt)
+    one (CopyLost key now) c n = (tt, tt)
+    one (IsForgotten id) c n = (tt, tt)
+    one (IsChecked now) c n = (tt, tt)
+    one ClientStops c n = (tt, (tt, tt))
 
 -- an effect of a poll gives what the poll gives
 poll_item : (t : ℕ) (topic : List ℕ) (item : Option Arrived) (why : Option Ending) →
@@ -313,7 +320,7 @@ module _ (once : EndsOnce) (o : Options) (t : ℕ) (un : is_spent t ≡ false) w
       items_given t (steps o (Then a ∷ log)) ≡ map handed (given s (does_to (view o log) t m a ++ done_to o t log))
   kept_given a log m e run s is before false h =
       given_same_at a log h ∙ before
-      ∙ ap (map handed) (sym (mutes_give s (does_to (view o log) t m a) (done_to o t log) (does_mute (view o log) t m a h)))
+      ∙ ap (map handed) (sym (mutes_give s (does_to (view o log) t m a) (done_to o t log) (does_mute (view o log) t m a e h)))
   kept_given (Comes (Polls u)) log m e run s is before true h =
       let w = given_at_poll u log run in
       elim (cases_Bool (t == u)) [
@@ -357,9 +364,9 @@ module _ (once : EndsOnce) (o : Options) (t : ℕ) (un : is_spent t ≡ false) w
   none_given a log e run before true h = absurd cc
 
   -- a new one has given nothing
-  made_given : (s : Setup) (l : ℕ) (url : Option Parts) → given s (subscription_does l url) ≡ []
-  made_given s l None = refl
-  made_given s l (Some url) = refl
+  made_given : (s : Setup) (now l : ℕ) (url : Option Parts) → given s (subscription_does now l url) ≡ []
+  made_given s now l None = refl
+  made_given s now l (Some url) = refl
 
   some_is : {A : Type 0} {x y : A} → Some x ≡ Some y → x ≡ y
   some_is {A} {x} {y} e = cc
@@ -372,7 +379,7 @@ module _ (once : EndsOnce) (o : Options) (t : ℕ) (un : is_spent t ≡ false) w
   gives_on a log (IsMade s l e f how did) run g stands =
       subst (Given' o (Then a ∷ log) t) (sym f)
       (λ r how'. none_given a log e run (subst (Given' o log t) e g) (is_poll a) refl
-      ∙ sym (ap (λ h. map handed (given r h)) did ∙ ap (map handed) (made_given r l (url_at ((view o log).links.live l)))))
+      ∙ sym (ap (λ h. map handed (given r h)) did ∙ ap (map handed) (made_given r (view o log).now l (url_at ((view o log).links.live l)))))
   gives_on a log (IsKept m e r how did) run g stands =
       let k = stands m e in
       let was : (s : Setup) → made_with o t log ≡ Some s → items_given t (steps o log) ≡ map handed (given s (done_to o t log)) =
@@ -408,18 +415,18 @@ polls_follow_lem once o log t m run e =
     let h : List Done = done_to o t log in
     let g : (s : Setup) → made_with o t log ≡ Some s → items_given t (steps o log) ≡ map handed (given s h) =
     subst (Given' o log t) e (gives once o t (consumer_ticket o log t m run e) log run) in
-    let plain = plain_gives_all k.0 h (made_plain o t log k.0 k.1) in
-    let next : reader.polled m.seen ≡ polled_from (first_item (left k.0 h)) m.seen.ended =
+    let why : Option Ending = over (is_pending_in k.0 h) m.seen.ended in
+    let next : reader.polled m.seen ≡ polled_from (first_item (left k.0 h)) why =
     ap reader.polled k.2
     ∙ polls_give_the_next k.0 h
-    ∙ (λ i. polled_from (first_item (left k.0 h)) (over (plain.1 i) (seen k.0 h).ended))
-    ∙ ap (λ x. polled_from (first_item (left k.0 h)) x.ended) (sym k.2) in (
+    ∙ ap (λ x. polled_from (first_item (left k.0 h)) (over (is_pending_in k.0 h) x.ended)) (sym k.2) in (
       k.0,
       left k.0 h,
       k.1,
       ap (λ x. x ++ map handed (left k.0 h)) (g k.0 k.1)
           ∙ sym (map-append handed (given k.0 h) (left k.0 h))
-          ∙ ap (map handed) (polls_give_arrivals k.0 h ∙ plain.0),
+          ∙ ap (map handed) (polls_give_arrivals k.0 h),
       next,
-      ap (polled_so t m.seen.topic) next ∙ shows_left t m.seen.topic (left k.0 h) m.seen.ended,
+      ap (polled_so t m.seen.topic) next ∙ shows_left t m.seen.topic (left k.0 h) why,
+      λ none. plain_gives_all k.0 h (sym (ap (λ x. x.config.dead_letter_policy) (k.2 ∙ setup_is k.0 h)) ∙ none),
     )

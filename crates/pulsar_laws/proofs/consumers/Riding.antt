@@ -10,8 +10,10 @@ use Rattle.pulsar_session.specs.Link.{is_ready}
 use Rattle.pulsar_messages.specs.Claims.{is_spent}
 use Rattle.pulsar_consumer.specs.Frames.{Frame, failed, frame_in}
 use Rattle.pulsar_consumer.specs.Items.{Item}
+use Rattle.pulsar_consumer.specs.DeadLetters.{Letter, lost_letter}
+use Rattle.pulsar_consumer.specs.Redelivery.{Id, due_before, forget_all, forget_one}
 use Rattle.pulsar_consumer.specs.Topic as reader
-use Rattle.pulsar_consumer.specs.Topic.{Act as Done, Lives, Hears, Loses, Fails, Ends as Over, Polls as Polled, Asks, Engine, Live, Seen, Setup, asked, begins, finish, finishes, first_of, fresh, gives, gives_from, goes_on, half, hears as hears', is_ended, is_on, link_of, lives_on, is_finished, places, subscribed}
+use Rattle.pulsar_consumer.specs.Topic.{Act as Done, Lives, Hears, Loses, Fails, Ends as Over, Polls as Polled, Asks, IsAt, TakesCopy, IsCopied, FailsCopy, Stops, Forgets, Checks, Engine, Live, Seen, Setup, acked_by, advances, asked, begins, checks, copied, copy_failed, finish, finishes, first_of, fresh, gives, gives_from, gives_up, goes_on, half, hears as hears', is_ended, is_finished, is_on, is_pending, link_of, lives_on, places, stops, subscribed, takes_copy, takes_copy_from}
 use Rattle.pulsar_incoming.specs.declared.polled.Ending.{Ending}
 use Rattle.pulsar_incoming.specs.declared.polled.Ending.TheVariants.{Closed, LinkLost, NotSubscribed, Stopped, TopicEnded}
 use Rattle.pulsar_consumer.proofs.Held.{next_of}
@@ -19,7 +21,7 @@ use Rattle.pulsar_consumer.proofs.Histories.{counted_same}
 use Rattle.pulsar_calls.specs.declared.act.Arrival.TheVariants as arrivals
 use Rattle.pulsar_calls.specs.declared.act.Makes.TheVariants as makes
 use Rattle.pulsar_calls.specs.declared.content.Joining.{Joining}
-use Rattle.pulsar_consumer_table.specs.Consumers.{Arrives, ClientStops, CloseAsked, Deed, FlowTaken, IsPolled, IsSought, LinkEnds, Member, NotRevived, Revived, is_closed_by, subscribed_on}
+use Rattle.pulsar_consumer_table.specs.Consumers.{Arrives, ClientStops, CloseAsked, Copied, CopyLost, CopyTaken, Deed, FlowTaken, IsChecked, IsForgotten, IsPolled, IsSought, LinkEnds, Member, NotRevived, Revived, is_closed_by, subscribed_on}
 use Rattle.pulsar_laws.proofs.Cases.{none_some, some_is}
 use Rattle.pulsar_laws.proofs.calls.Ticketed.{consumer_ticket}
 use Rattle.pulsar_laws.specs.ConsumerLaws.{arrival_does, does_to, done_since, done_to, frame_does, loss_does, made_as, made_with, making_does, subscription_does}
@@ -27,7 +29,7 @@ use Rattle.pulsar_laws.proofs.consumers.Ended.{after_made}
 use Rattle.pulsar_laws.proofs.consumers.Deeds.{deed_does}
 use Rattle.pulsar_laws.proofs.consumers.Lone.{IsKept, IsMade, IsNone, RowFrom, applied, applied_append, begun_rows, did_so, is_revival, none_after, row_from}
 use Rattle.pulsar_laws.proofs.consumers.Members.{CameFrom}
-use Rattle.pulsar_laws.proofs.links.Ready.{IsAt, IsReady, WasReady, more_ready}
+use Rattle.pulsar_laws.proofs.links.Ready.{IsAt as IsAt', IsReady, WasReady, more_ready}
 use Rattle.pulsar_laws.proofs.consumers.Reached.{makes_ready, revives_ready}
 use Rattle.pulsar_laws.proofs.links.Rows.{after_holds as after_links, begun_holds as begun_links}
 
@@ -67,12 +69,46 @@ goes_link (f ∷ fs) e =
     by true all = all
     by false all = refl
 
+advances_link : (e : Engine) → link_in (advances e).live ≡ link_in e.live
+advances_link e = goes_link e.waiting (places e)
+
 hears_link : (f : Frame) (e : Engine) → link_in (hears' f e).live ≡ link_in e.live
-hears_link f e = goes_link (e.waiting ++ f ∷ []) (places (record e { waiting = e.waiting ++ f ∷ [] }))
+hears_link f e = advances_link (record e { waiting = e.waiting ++ f ∷ [] })
 
 gives_from_link : (us : List Item) (e : Engine) → link_in (gives_from us e).live ≡ link_in e.live
 gives_from_link [] e = refl
-gives_from_link (x ∷ xs) e = goes_link e.waiting (places (record e { unread = xs }))
+gives_from_link (x ∷ xs) e = advances_link (record e { unread = xs })
+
+-- and what becomes of copies, and a check, leaves it
+either_link : (b : Bool) (x y e : Engine) → link_in x.live ≡ link_in e.live → link_in y.live ≡ link_in e.live → link_in (cond b x y).live ≡ link_in e.live
+either_link true x y e p q = p
+either_link false x y e p q = q
+
+takes_from_link : (ls : List Letter) (e : Engine) → link_in (takes_copy_from ls e).live ≡ link_in e.live
+takes_from_link [] e = refl
+takes_from_link (l ∷ ls) e = refl
+
+takes_link : (e : Engine) → link_in (takes_copy e).live ≡ link_in e.live
+takes_link e = either_link (is_some e.copying) e (takes_copy_from e.letters e) e refl (takes_from_link e.letters e)
+
+copied_link : (e : Engine) → link_in (copied e).live ≡ link_in e.live
+copied_link e =
+    let x : Engine = record e { copying = None; kept = forget_one (acked_by e) e.kept } in
+    either_link (is_some e.copying) (advances x) e e (advances_link x) refl
+
+gives_up_link : (e : Engine) → link_in (gives_up e).live ≡ link_in e.live
+gives_up_link e = advances_link (record e { rest = e.rest ++ lost_letter ∷ []; letters = []; copying = None })
+
+failed_link : (e : Engine) → link_in (copy_failed e).live ≡ link_in e.live
+failed_link e = either_link (is_some e.copying) (gives_up e) e e (gives_up_link e) refl
+
+stops_link : (e : Engine) → link_in (stops e).live ≡ link_in e.live
+stops_link e =
+    let x : Engine = record e { stopped = true } in
+    either_link (is_pending e) (gives_up x) x e (gives_up_link x) refl
+
+checks_link : (clock : ℕ) (e : Engine) → link_in (checks clock e).live ≡ link_in e.live
+checks_link clock e = either_link (is_some e.live) (record e { kept = forget_all (due_before clock e.kept) e.kept }) e e refl refl
 
 -- a consumer that was on no other link before
 abbrev Tame : List Done → Seen → Type 0
@@ -125,20 +161,47 @@ tame_polled clock s k h =
 tame_asks : (s : Seen) → Tame (Asks ∷ []) s
 tame_asks s k h = sym (asked_link s.engine.live) ∙ h
 
-tame_frame : (l : ℕ) (r : Reply) (s : Seen) → Tame (frame_does l r s) s
-tame_frame l r s =
-    tame_either (is_body 9 r.content.body) (Hears l (frame_in r) ∷ []) _ s (tame_hears l (frame_in r) s)
+tame_takes : (s : Seen) → Tame (TakesCopy ∷ []) s
+tame_takes s k h = sym (takes_link s.engine) ∙ h
+
+-- what is told for a key
+tame_told : (b : Bool) (e : Engine) (s : Seen) → link_in e.live ≡ link_of s → (k : ℕ) → link_of (cond b (record s { engine = e }) s) ≡ Some k →
+    link_of s ≡ Some k
+tame_told true e s same k h = sym same ∙ h
+tame_told false e s same k h = h
+
+tame_copied : (key clock : ℕ) (s : Seen) → Tame (IsCopied key clock ∷ []) s
+tame_copied key clock s =
+    tame_told (s.key == key) (copied (reader.clocked clock s.engine)) s (copied_link (reader.clocked clock s.engine))
+
+tame_failed : (key clock : ℕ) (s : Seen) → Tame (FailsCopy key clock ∷ []) s
+tame_failed key clock s =
+    tame_told (s.key == key) (copy_failed (reader.clocked clock s.engine)) s (failed_link (reader.clocked clock s.engine))
+
+tame_stops : (s : Seen) → Tame (Stops ∷ []) s
+tame_stops s k h = sym (stops_link s.engine) ∙ h
+
+tame_forgets : (id : Id) (s : Seen) → Tame (Forgets id ∷ []) s
+tame_forgets id s k h = h
+
+tame_checks : (clock : ℕ) (s : Seen) → Tame (Checks clock ∷ []) s
+tame_checks clock s k h = sym (checks_link clock s.engine) ∙ h
+
+tame_frame : (now l : ℕ) (r : Reply) (s : Seen) → Tame (frame_does now l r s) s
+tame_frame now l r s =
+    tame_either (is_body 9 r.content.body) (cond (lives_on l s) (Hears l (frame_in r) ∷ IsAt now ∷ []) []) _ s
+    (tame_either (lives_on l s) (Hears l (frame_in r) ∷ IsAt now ∷ []) [] s (tame_hears l (frame_in r) (reader.after (IsAt now) s)) (tame_none s))
     (tame_either (is_body 27 r.content.body) (cond (lives_on l s) (Over TopicEnded ∷ []) []) _ s
     (tame_either (lives_on l s) (Over TopicEnded ∷ []) [] s (tame_over TopicEnded s) (tame_none s))
     (tame_either (is_body 16 r.content.body) (Loses l ∷ []) [] s (tame_loses l s) (tame_none s)))
 
-tame_arrival : (l : ℕ) (a : Arrival) (s : Seen) → Tame (arrival_does l a s) s
-tame_arrival l (arrivals.Gives n r) s = tame_either (s.number == n) (frame_does l r s) [] s (tame_frame l r s) (tame_none s)
-tame_arrival l arrivals.Nothing s = tame_none s
-tame_arrival l arrivals.Readied s = tame_none s
-tame_arrival l arrivals.Settles s = tame_none s
-tame_arrival l arrivals.Passes s = tame_none s
-tame_arrival l (arrivals.Bad cause) s = tame_none s
+tame_arrival : (now l : ℕ) (a : Arrival) (s : Seen) → Tame (arrival_does now l a s) s
+tame_arrival now l (arrivals.Gives n r) s = tame_either (s.number == n) (frame_does now l r s) [] s (tame_frame now l r s) (tame_none s)
+tame_arrival now l arrivals.Nothing s = tame_none s
+tame_arrival now l arrivals.Readied s = tame_none s
+tame_arrival now l arrivals.Settles s = tame_none s
+tame_arrival now l arrivals.Passes s = tame_none s
+tame_arrival now l (arrivals.Bad cause) s = tame_none s
 
 tame_loss : (l : ℕ) (cause : Option Fault) (s : Seen) → Tame (loss_does l cause) s
 tame_loss l None s = tame_none s
@@ -147,20 +210,26 @@ tame_loss l (Some cause) s = tame_loses l s
 tame_append : (xs ys : List Done) (s : Seen) → Tame ys s → Tame xs (applied ys s) → Tame (xs ++ ys) s
 tame_append xs ys s q p k h = q k (p k (ap link_of (sym (applied_append xs ys s)) ∙ h))
 
-tame_other : (v : View) (t : ℕ) (a : Act) → is_revival a ≡ false → (m : Member) → Tame (does_to v t m a) m.seen
+tame_other : (v : View) (t : ℕ) (a : Act) → is_revival a ≡ false → (m : Member) → v.consumers.rows t ≡ Some m → Tame (does_to v t m a) m.seen
 tame_other v t a h = did_so Tame tame_none tame_append v t a one
   where
     one : (d : Deed) → CameFrom v t a d → (m : Member) → Tame (deed_does d m) m.seen
-    one (Arrives l x) c m = tame_arrival l x m.seen
+    one (Arrives now l x) c m = tame_arrival now l x m.seen
     one (LinkEnds l cause) c m = tame_loss l cause m.seen
     one (CloseAsked closed l b) c m =
         tame_either (b && is_closed_by closed l m) (Over Closed ∷ []) [] m.seen (tame_over Closed m.seen) (tame_none m.seen)
     one (IsPolled clock) c m = tame_polled clock m.seen
     one (IsSought who) c m = tame_none m.seen
     one FlowTaken c m = tame_asks m.seen
-    one (Revived l url) c m = let f : true ≡ false = sym (ap is_revival c.1) ∙ h in absurd cc
+    one (Revived now l url) c m = let f : true ≡ false = sym (ap is_revival c.1) ∙ h in absurd cc
     one (NotRevived f) c m = tame_fails f m.seen
-    one ClientStops c m = tame_over Stopped m.seen
+    one CopyTaken c m = tame_takes m.seen
+    one (Copied key now) c m = tame_copied key now m.seen
+    one (CopyLost key now) c m = tame_failed key now m.seen
+    one (IsForgotten id) c m = tame_forgets id m.seen
+    one (IsChecked now) c m = tame_checks now m.seen
+    one ClientStops c m =
+        tame_append (Stops ∷ []) (Over Stopped ∷ []) m.seen (tame_over Stopped m.seen) (tame_stops (reader.after (Over Stopped) m.seen))
 
 -- a subscription is made on a link that has not ended
 lives_link : (l : ℕ) (url : Parts) (s : Seen) (k : ℕ) → link_of (applied (Lives l url ∷ []) s) ≡ Some k → (link_of s ≡ Some k) ⊎ (k ≡ l)
@@ -175,10 +244,11 @@ lives_link l url s k h = by (is_ended s) h
     by true g = inl g
     by false g = inr (sym (some_is g) ∙ on s.engine.batch)
 
-subscription_link : (l : ℕ) (row : Option Seat) (s : Seen) (k : ℕ) → link_of (applied (subscription_does l (url_at row)) s) ≡ Some k →
+subscription_link : (now l : ℕ) (row : Option Seat) (s : Seen) (k : ℕ) → link_of (applied (subscription_does now l (url_at row)) s) ≡ Some k →
     (link_of s ≡ Some k) ⊎ ((k ≡ l) × (is_some row ≡ true))
-subscription_link l None s k h = inl h
-subscription_link l (Some seat) s k h = elim (lives_link l seat.address.url s k h) [ inl e ↦ inl e | inr e ↦ inr (e, refl) ]
+subscription_link now l None s k h = inl h
+subscription_link now l (Some seat) s k h =
+    elim (lives_link l seat.address.url (reader.after (IsAt now) s) k h) [ inl e ↦ inl e | inr e ↦ inr (e, refl) ]
 
 -- LINKS THAT HAVE NOT ENDED
 
@@ -261,21 +331,22 @@ module _ (o : Options) (log : List Entry) (a : Act) (t : ℕ) (m n : Member) (wa
 -- a consumer that is made
 made_rides : (o : Options) (log : List Entry) (a : Act) (t l : ℕ) (s : Setup) (n : Member) →
     ((r : s.is_raw ≡ false) → IsLive (view o log) l → WasReady (view o log) l) →
-    ((end : End) (k : ℕ) → a ≡ Comes (ToLink k (Ends end)) → ⊥) → member_on (view o log).links.live l s ≡ n → Rides o (Then a ∷ log) n
+    ((end : End) (k : ℕ) → a ≡ Comes (ToLink k (Ends end)) → ⊥) →
+    member_on (view o log).links.live (view o log).now l s ≡ n → Rides o (Then a ∷ log) n
 made_rides o log a t l s n ready other is k h =
     by ((view o log).links.live l) refl (ap (λ (m : Member). link_of m.seen) is ∙ h)
   where
-    fresh_on : (row : Option Seat) → link_of (subscribed_on l (url_at row) (record { seen = fresh s; seekers = [] })).seen ≡ Some k →
+    fresh_on : (row : Option Seat) → link_of (subscribed_on (view o log).now l (url_at row) (record { seen = fresh s; seekers = [] })).seen ≡ Some k →
         (k ≡ l) × (is_some row ≡ true)
     fresh_on None g = absurd (none_some g)
-    fresh_on (Some seat) g = elim (lives_link l seat.address.url (fresh s) k g) [ inl e ↦ absurd (none_some e) | inr e ↦ (e, refl) ]
+    fresh_on (Some seat) g = elim (lives_link l seat.address.url (reader.after (IsAt (view o log).now) (fresh s)) k g) [ inl e ↦ absurd (none_some e) | inr e ↦ (e, refl) ]
 
-    raw_of : (row : Option Seat) → (subscribed_on l (url_at row) (record { seen = fresh s; seekers = [] })).seen.is_raw ≡ s.is_raw
+    raw_of : (row : Option Seat) → (subscribed_on (view o log).now l (url_at row) (record { seen = fresh s; seekers = [] })).seen.is_raw ≡ s.is_raw
     raw_of None = refl
     raw_of (Some seat) = refl
 
     by : (row : Option Seat) → (view o log).links.live l ≡ row →
-        link_of (member_on (view o log).links.live l s).seen ≡ Some k →
+        link_of (member_on (view o log).links.live (view o log).now l s).seen ≡ Some k →
         IsLive (view o (Then a ∷ log)) k × (n.seen.is_raw ≡ false → WasReady (view o (Then a ∷ log)) k)
     by row e g =
         let x = fresh_on ((view o log).links.live l) g in
@@ -291,40 +362,41 @@ abbrev first_link : List Done → Option ℕ
 first_link (Lives l url ∷ xs) = Some l
 first_link _ = None
 
-row_link : (l : ℕ) (row : Option Seat) → is_some row ≡ true → first_link (subscription_does l (url_at row)) ≡ Some l
-row_link l None h = absurd cc
-row_link l (Some seat) h = refl
+row_link : (now l : ℕ) (row : Option Seat) → is_some row ≡ true → first_link (subscription_does now l (url_at row)) ≡ Some l
+row_link now l None h = absurd cc
+row_link now l (Some seat) h = refl
 
-link_row : (k : ℕ) (row : Option Seat) (l : ℕ) → first_link (subscription_does k (url_at row)) ≡ Some l → k ≡ l
-link_row k None l h = absurd (none_some h)
-link_row k (Some seat) l h = some_is h
+link_row : (now k : ℕ) (row : Option Seat) (l : ℕ) → first_link (subscription_does now k (url_at row)) ≡ Some l → k ≡ l
+link_row now k None l h = absurd (none_some h)
+link_row now k (Some seat) l h = some_is h
 
-made_link : (live : ℕ → Option Seat) (key : ℕ) (m : Makes) (s : Setup) (l : ℕ) → made_as key m ≡ Some s →
-    making_does live m ≡ subscription_does l (url_at (live l)) →
+made_link : (live : ℕ → Option Seat) (now key : ℕ) (m : Makes) (s : Setup) (l : ℕ) → made_as key m ≡ Some s →
+    making_does live now m ≡ subscription_does now l (url_at (live l)) →
     s.is_raw ≡ false → is_some (live l) ≡ true → (j : Joining) × (m ≡ makes.Consumer j) × (j.link ≡ l)
-made_link live key (makes.Consumer j) s l how did raw alive =
-    (j, refl, link_row j.link (live j.link) l (ap first_link did ∙ row_link l (live l) alive))
-made_link live key (makes.RawConsumer k made) s l how did raw alive =
+made_link live now key (makes.Consumer j) s l how did raw alive =
+    (j, refl, link_row now j.link (live j.link) l (ap first_link did ∙ row_link now l (live l) alive))
+made_link live now key (makes.RawConsumer k made) s l how did raw alive =
     let f : true ≡ s.is_raw = ap (λ (x : Setup). x.is_raw) (some_is how) in let g : true ≡ false = f ∙ raw in absurd cc
-made_link live key makes.Nothing s l how did raw alive = absurd (none_some how)
-made_link live key makes.Client s l how did raw alive = absurd (none_some how)
-made_link live key (makes.Producer b) s l how did raw alive = absurd (none_some how)
-made_link live key (makes.MultiProducer name settings) s l how did raw alive = absurd (none_some how)
+made_link live now key makes.Nothing s l how did raw alive = absurd (none_some how)
+made_link live now key makes.Client s l how did raw alive = absurd (none_some how)
+made_link live now key (makes.Producer b) s l how did raw alive = absurd (none_some how)
+made_link live now key (makes.MultiProducer name settings) s l how did raw alive = absurd (none_some how)
 
 module _ (o : Options) (log : List Entry) (t : ℕ) where
   -- only the verdict of its call makes it
   made_by : (a : Act) (s : Setup) (l : ℕ) (n : Member) → IsRun o (Then a ∷ log) → (view o log).consumers.rows t ≡ None →
       (view o (Then a ∷ log)).consumers.rows t ≡ Some n → made_with o t (Then a ∷ log) ≡ Some s →
-      done_to o t (Then a ∷ log) ≡ subscription_does l (url_at ((view o log).links.live l)) → s.is_raw ≡ false → IsLive (view o log) l → WasReady (view o log) l
+      done_to o t (Then a ∷ log) ≡ subscription_does (view o log).now l (url_at ((view o log).links.live l)) → s.is_raw ≡ false → IsLive (view o log) l → WasReady (view o log) l
   made_by (Answers who verdict) s l n run none is how did raw alive = elim (cases_Bool (is_same (Call t) who)) [
     | inl e ↦
         (let how2 : made_as (view o log).consumers.next_key verdict.makes ≡ Some s =
         sym (ap (λ b. cond b (made_as (view o log).consumers.next_key verdict.makes) (made_with o t log)) e) ∙ how in
-        let did2 : making_does (view o log).links.live verdict.makes ≡ subscription_does l (url_at ((view o log).links.live l)) =
+        let did2 : making_does (view o log).links.live (view o log).now verdict.makes ≡
+        subscription_does (view o log).now l (url_at ((view o log).links.live l)) =
         sym (ap (λ r. done_since (view o log) t (Answers who verdict) r (done_to o t log)) none
-        ∙ ap (λ b. cond b (making_does (view o log).links.live verdict.makes) (done_to o t log)) e)
+        ∙ ap (λ b. cond b (making_does (view o log).links.live (view o log).now verdict.makes) (done_to o t log)) e)
         ∙ did in
-        let x = made_link (view o log).links.live (view o log).consumers.next_key verdict.makes s l how2 did2 raw alive in
+        let x = made_link (view o log).links.live (view o log).now (view o log).consumers.next_key verdict.makes s l how2 did2 raw alive in
         subst (WasReady (view o log)) x.2 (makes_ready o log who verdict x.0 run x.1))
     | inr e ↦
         absurd (none_some (sym (none_after (view o log) t (Answers who verdict)
@@ -341,37 +413,37 @@ module _ (o : Options) (log : List Entry) (t : ℕ) where
   abbrev Revives : Act → Type 0
   Revives a = (who : Who) × (l : ℕ) × (a ≡ Does who (OfConsumer (Revive l))) × ((t == ticket_of who && is_some ((view o log).links.live l)) ≡ true)
 
-  tame_by : (a : Act) (m : Member) → Tame (does_to (view o log) t m a) m.seen ⊎ Revives a
-  tame_by (Does who (OfConsumer (Revive l))) m = elim (cases_Bool (t == ticket_of who)) [
+  tame_by : (a : Act) (m : Member) → (view o log).consumers.rows t ≡ Some m → Tame (does_to (view o log) t m a) m.seen ⊎ Revives a
+  tame_by (Does who (OfConsumer (Revive l))) m there = elim (cases_Bool (t == ticket_of who)) [
     | inl e ↦ on_row ((view o log).links.live l) refl e
     | inr e ↦
-        inl (subst (λ b. Tame (cond b (subscription_does l (url_at ((view o log).links.live l))) []) m.seen) (sym e) (tame_none m.seen))
+        inl (subst (λ b. Tame (cond b (subscription_does (view o log).now l (url_at ((view o log).links.live l))) []) m.seen) (sym e) (tame_none m.seen))
   ]
     where
-      none : (b : Bool) → Tame (cond b (subscription_does l None) []) m.seen
+      none : (b : Bool) → Tame (cond b (subscription_does (view o log).now l None) []) m.seen
       none true = tame_none m.seen
       none false = tame_none m.seen
 
       on_row : (row : Option Seat) → (view o log).links.live l ≡ row → (t == ticket_of who) ≡ true →
-          Tame (cond (t == ticket_of who) (subscription_does l (url_at ((view o log).links.live l))) []) m.seen
+          Tame (cond (t == ticket_of who) (subscription_does (view o log).now l (url_at ((view o log).links.live l))) []) m.seen
           ⊎ Revives (Does who (OfConsumer (Revive l)))
       on_row None f e =
-          inl (subst (λ r. Tame (cond (t == ticket_of who) (subscription_does l (url_at r)) []) m.seen) (sym f) (none (t == ticket_of who)))
+          inl (subst (λ r. Tame (cond (t == ticket_of who) (subscription_does (view o log).now l (url_at r)) []) m.seen) (sym f) (none (t == ticket_of who)))
       on_row (Some seat) f e = inr (who, l, refl, (λ i. e i && is_some (f i)))
-  tame_by a m = inl (tame_other (view o log) t a refl m)
+  tame_by a m there = inl (tame_other (view o log) t a refl m there)
 
-  kept_by : (a : Act) (m n : Member) → IsRun o (Then a ∷ log) → Rides o log m → n.seen ≡ applied (does_to (view o log) t m a) m.seen → Rides o (Then a ∷ log) n
-  kept_by (Comes (ToLink l (Ends end))) m n run was is =
+  kept_by : (a : Act) (m n : Member) → (view o log).consumers.rows t ≡ Some m → IsRun o (Then a ∷ log) → Rides o log m → n.seen ≡ applied (does_to (view o log) t m a) m.seen → Rides o (Then a ∷ log) n
+  kept_by (Comes (ToLink l (Ends end))) m n there run was is =
       ended_rides o log (Comes (ToLink l (Ends end))) t m n was is l end (closing end (view o log).now ((view o log).links.live l)) refl refl refl
-  kept_by (Does who (OfConsumer (Revive l))) m n run was is =
+  kept_by (Does who (OfConsumer (Revive l))) m n there run was is =
       again_rides o log (Does who (OfConsumer (Revive l))) t m n was is l (revives_ready o log who l run) (λ end k at. absurd cc) (λ k h. by
       (t == ticket_of who) k h)
     where
-      by : (b : Bool) (k : ℕ) → link_of (applied (cond b (subscription_does l (url_at ((view o log).links.live l))) []) m.seen) ≡ Some k →
+      by : (b : Bool) (k : ℕ) → link_of (applied (cond b (subscription_does (view o log).now l (url_at ((view o log).links.live l))) []) m.seen) ≡ Some k →
           (link_of m.seen ≡ Some k) ⊎ ((k ≡ l) × IsLive (view o log) l)
-      by true k h = subscription_link l ((view o log).links.live l) m.seen k h
+      by true k h = subscription_link (view o log).now l ((view o log).links.live l) m.seen k h
       by false k h = inl h
-  kept_by a m n run was is = elim (tame_by a m) [
+  kept_by a m n there run was is = elim (tame_by a m there) [
     | inl tame ↦ tame_rides o log a t m n was is tame (λ k end at. absurd cc)
     | inr k ↦ absurd (let e : a ≡ Does k.0 (OfConsumer (Revive k.1)) = k.2 in cc)
   ]
@@ -381,7 +453,7 @@ module _ (o : Options) (log : List Entry) (t : ℕ) where
   row_rides a run was (IsMade s l e f how did) n h =
       made_rides o log a t l s n (λ raw alive. made_by a s l n run e h how did raw alive) (made_open a e n h) (some_is (sym f ∙ h))
   row_rides a run was (IsKept m e r how did) n h =
-      subst (Rides o (Then a ∷ log)) (some_is (sym r.is_it ∙ h)) (kept_by a m r.row run (was m e) r.seen)
+      subst (Rides o (Then a ∷ log)) (some_is (sym r.is_it ∙ h)) (kept_by a m r.row e run (was m e) r.seen)
 
 -- a consumer is on the link on which it was before, unless it is made, or subscribed again
 abbrev pub IsFresh : Options → List Entry → Act → (ticket : ℕ) → Type 0
@@ -399,7 +471,7 @@ link_from once o log a t k n run h on = by (row_from o log t once a (consumer_ti
     by : RowFrom o log a t → LinkFrom o log a t k
     by (IsNone e f) = absurd (none_some (sym f ∙ h))
     by (IsMade s l e f how did) = inr (inl e)
-    by (IsKept m e r how did) = elim (tame_by o log t a m) [
+    by (IsKept m e r how did) = elim (tame_by o log t a m e) [
       | inl tame ↦ inl (m, e, tame k (sym (ap link_of r.seen) ∙ ap (λ (x : Member). link_of x.seen) (some_is (sym r.is_it ∙ h)) ∙ on))
       | inr k ↦ inr (inr k)
     ]
@@ -445,7 +517,7 @@ rides once o log t m k run h there plain =
     let x = rides_run once o log t (consumer_ticket o log t m run h) run m h k there in
     by ((view o log).links.live k) refl x.0 (x.1 plain).now
   where
-    by : (row : Option Seat) → (view o log).links.live k ≡ row → is_some row ≡ true → IsAt IsReady row →
+    by : (row : Option Seat) → (view o log).links.live k ≡ row → is_some row ≡ true → IsAt' IsReady row →
         (seat : Seat) × ((view o log).links.live k ≡ Some seat) × (is_ready seat.seen.stage ≡ true)
     by None e some ready = absurd cc
     by (Some seat) e some ready = (seat, e, ready)

@@ -1,4 +1,4 @@
--- What neither starts, does nor ends anything: all that arises but from plans and calls.
+-- What does and ends nothing, and begins at most the plan of a topic producer's batches: all that arises but from plans and calls.
 use Rattle.std.proofs.Common.{◌≡◌, refl, Bool, true, false}
 use Rattle.pulsar_laws.proofs.ActWords.{Act, Action, Answers, Call, Calls, Comes, Consumer, Dials, Does, Part, Producer, Starts, Told, ToLink, Who}
 use Rattle.pulsar_laws.proofs.RunWords.{at_once, Each, each_map, performs, View}
@@ -8,6 +8,7 @@ abbrev pub is_quiet : Act → Bool
 is_quiet (Comes (ToLink l x)) = true
 is_quiet (Told n) = true
 is_quiet (Dials p starter retries) = true
+is_quiet (Starts (Producer n) p) = true
 is_quiet _ = false
 
 abbrev pub IsQuiet : Act → Type 0
@@ -18,8 +19,8 @@ done_quiet who action (Comes (ToLink l x)) h = refl
 done_quiet who action (Told n) h = refl
 done_quiet who action (Dials p starter retries) h = refl
 done_quiet who action (Starts (Call t) p) h = absurd cc
-done_quiet who action (Starts (Producer n) p) h = absurd cc
-done_quiet who action (Starts (Consumer n t) p) h = absurd cc
+done_quiet who action (Starts (Producer n) p) h = refl
+done_quiet who action (Starts (Consumer n t k) p) h = absurd cc
 done_quiet who action _ h = absurd cc
 
 pub performs_quiet : (v : View) (who : Who) (action : Action) → Each IsQuiet (performs v who action)
@@ -43,8 +44,8 @@ part_quiet p h (Comes (ToLink l x)) k = refl
 part_quiet p h (Told n) k = refl
 part_quiet p h (Dials q starter retries) k = refl
 part_quiet p h (Starts (Call t) q) k = no_start p h k
-part_quiet p h (Starts (Producer n) q) k = absurd cc
-part_quiet p h (Starts (Consumer n t) q) k = absurd cc
+part_quiet p h (Starts (Producer n) q) k = refl
+part_quiet p h (Starts (Consumer n t key) q) k = absurd cc
 part_quiet p h (Answers who verdict) k = no_verdict p h k
 part_quiet p h _ k = absurd cc
 

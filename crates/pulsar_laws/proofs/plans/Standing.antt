@@ -2,18 +2,15 @@
 -- where its procedure begins so and each outcome keeps it.
 use Rattle.std.proofs.Common.{◌≡◌, ◌⊎◌, inl, inr, ◌∙◌, sym, ap, subst, ℕ, ◌≤◌, arith, List, [], ◌∷◌, refl, Bool, true, false, cond, Option, Some, None}
 use Rattle.std.proofs.lemmas.Bool.{cases_Bool}
-use Rattle.pulsar_laws.proofs.ActWords.{Act, Action, Answers, Call, Consumer, Does, is_same, Outcome, Procedure, Producer, Starts, Told, Who}
+use Rattle.pulsar_laws.proofs.ActWords.{Act, Action, Answers, Call, Consumer, Does, is_same, OfMulti, Outcome, Procedure, Producer, Starts, Told, Who}
 use Rattle.pulsar_laws.proofs.PlanWords.{begins, Gives, Plan, PlanTransition, Stays, told, Ways}
 use Rattle.pulsar_laws.proofs.RunWords.{agenda, at_once, Begins, begun_same, counted, Each, each_append, each_first, each_map, each_rest, Entry, is_served, IsRun, notice, Options, rest, start_of, started, stays, stays_some, Then, told_some, view, View, ways_of}
 use Rattle.pulsar_calls.specs.declared.act.Procedure.TheVariants as procedure
 use Rattle.pulsar_client.proofs.Raising.{IsRaised, raises}
 use Rattle.pulsar_laws.proofs.Cases.{none_some}
 use Rattle.pulsar_laws.proofs.plans.Drawn.{next, positive}
-use Rattle.pulsar_laws.proofs.plans.Left.{joined_each, left_each}
-use Rattle.pulsar_acts.specs.Rules.{batches_joined, says_to}
-use Rattle.pulsar_acts.specs.View.{multi_asked_of, multi_at}
-use Rattle.pulsar_producer_table.specs.MultiAsks.{joined_by}
-use Rattle.pulsar_calls.specs.declared.act.Action.TheVariants.{OfMulti}
+use Rattle.pulsar_laws.proofs.plans.AtOnce.{once_each, performs_once}
+use Rattle.pulsar_laws.proofs.plans.Left.{left_each}
 use Rattle.pulsar_laws.proofs.calls.Same.{same_self, same_who}
 
 -- WHAT BEGINS
@@ -35,30 +32,24 @@ served_own : (a : Act) → is_served a ≡ true → IsOwn a
 served_own (Starts who p) h = absurd cc
 served_own _ h = tt
 
--- what makes topic producers or consumers
-abbrev makes_some : Act → Bool
-makes_some (Answers who verdict) = true
-makes_some (Does who (OfMulti m ask)) = true
-makes_some _ = false
+abbrev begins_others : Act → Bool
+begins_others (Answers who verdict) = true
+begins_others (Does who (OfMulti m ask)) = true
+begins_others _ = false
 
-raised_own : (a b : Act) → makes_some a ≡ false → IsRaised a b → IsOwn b
+raised_own : (a b : Act) → begins_others a ≡ false → IsRaised a b → IsOwn b
 raised_own (Answers who verdict) b other h = absurd cc
 raised_own (Does who (OfMulti m ask)) b other h = absurd cc
 raised_own a (Starts (Producer n) p) other h = absurd cc
 raised_own a (Starts (Consumer n t key) p) other h = absurd cc
 raised_own a _ other h = tt
 
-said_own : (who : Who) (u : Option Outcome) → Each IsOwn (says_to who u)
-said_own who None = tt
-said_own who (Some u) = (tt, tt)
-
 once_own : (v : View) (a : Act) → 1 ≤ next v → Each IsOwn (at_once v a)
 once_own v (Answers who verdict) key =
     left_each IsOwn (ways_of v.chosen) (next v) who verdict.makes (λ w e s. (w, e.block, refl)) (λ w n t s. inl (refl, w, refl))
     (λ w n t topic s. inr (key, w, topic, refl))
 once_own v (Does who (OfMulti m ask)) key =
-    each_append IsOwn (batches_joined (ways_of v.chosen) (joined_by ask (multi_at v m))) (says_to who (multi_asked_of v who m ask).says)
-    (joined_each IsOwn (ways_of v.chosen) (joined_by ask (multi_at v m)) (λ w e s. (w, e.block, refl))) (said_own who (multi_asked_of v who m ask).says)
+    once_each IsOwn (λ u k b. tt) (λ p. tt) (λ l. tt) (λ w e s. (w, e.block, refl)) (performs_once v who (OfMulti m ask))
 once_own v a key = each_map (IsRaised a) IsOwn (at_once v a) (λ b. raised_own a b refl) (raises v a)
 
 own_due : (o : Options) (log : List Entry) → IsRun o log → Each IsOwn (agenda o log).now

@@ -13,7 +13,7 @@ use Rattle.pulsar_searches.specs.declared.plan.Sought.TheVariants as sought
 use Rattle.pulsar_outgoing.specs.Batch.{entry_of}
 use Rattle.pulsar_outgoing.specs.Wanted.{ProducerWanted}
 use Rattle.pulsar_laws.proofs.Cases.{cond_so}
-use Rattle.pulsar_laws.specs.BatchLaws.{BringsEntry, StoredAtOnce}
+use Rattle.pulsar_laws.specs.BatchLaws.{IsHandedOn, BringsEntry, StoredAtOnce}
 use Rattle.pulsar_calls.specs.declared.act.CallRefusal.TheVariants as refusal
 use Rattle.pulsar_calls.specs.declared.act.Says.TheVariants as says
 use Rattle.pulsar_calls.specs.Content as content

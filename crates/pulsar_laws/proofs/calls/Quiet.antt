@@ -39,15 +39,27 @@ no_verdict : {X : Type 0} (p : Part) → is_call_part p ≡ false → may OfVerd
 no_verdict (Calls asked advice) h k = absurd cc
 no_verdict _ h k = absurd cc
 
-part_quiet : (p : Part) → is_call_part p ≡ false → (a : Act) → IsRaised (Comes p) a → IsQuiet a
-part_quiet p h (Comes (ToLink l x)) k = refl
-part_quiet p h (Told n) k = refl
-part_quiet p h (Dials q starter retries) k = refl
-part_quiet p h (Starts (Call t) q) k = no_start p h k
-part_quiet p h (Starts (Producer n) q) k = refl
-part_quiet p h (Starts (Consumer n t key) q) k = absurd cc
-part_quiet p h (Answers who verdict) k = no_verdict p h k
-part_quiet p h _ k = absurd cc
+-- what comes else begins nothing at all
+abbrev pub IsStill : Act → Type 0
+IsStill (Starts who p) = ⊥
+IsStill a = IsQuiet a
+
+part_still : (p : Part) → is_call_part p ≡ false → (a : Act) → IsRaised (Comes p) a → IsStill a
+part_still p h (Comes (ToLink l x)) k = refl
+part_still p h (Told n) k = refl
+part_still p h (Dials q starter retries) k = refl
+part_still p h (Starts (Call t) q) k = no_start p h k
+part_still p h (Starts (Producer n) q) k = absurd cc
+part_still p h (Starts (Consumer n t key) q) k = absurd cc
+part_still p h (Answers who verdict) k = no_verdict p h k
+part_still p h _ k = absurd cc
+
+pub comes_still : (v : View) (p : Part) → is_call_part p ≡ false → Each IsStill (at_once v (Comes p))
+comes_still v p h = each_map (IsRaised (Comes p)) IsStill (at_once v (Comes p)) (part_still p h) (raises v (Comes p))
+
+still_quiet : (a : Act) → IsStill a → IsQuiet a
+still_quiet (Starts who p) h = absurd h
+still_quiet a h = h
 
 pub comes_quiet : (v : View) (p : Part) → is_call_part p ≡ false → Each IsQuiet (at_once v (Comes p))
-comes_quiet v p h = each_map (IsRaised (Comes p)) IsQuiet (at_once v (Comes p)) (part_quiet p h) (raises v (Comes p))
+comes_quiet v p h = each_map IsStill IsQuiet (at_once v (Comes p)) still_quiet (comes_still v p h)

@@ -13,7 +13,7 @@ use Rattle.pulsar_laws.proofs.LinkWords.{address_key, Addresses, arrival_at, Bas
 use Rattle.pulsar_session.specs.Link.{ends}
 use Rattle.pulsar_calls.specs.declared.act.Alarm.TheVariants.{Redelivery}
 use Rattle.pulsar_calls.specs.declared.act.Makes.TheVariants.{Client, Consumer, MultiProducer, Producer, RawConsumer}
-use Rattle.pulsar_laws.proofs.consumers.Hushed.{Hushed, goes_on_none, hushed_map, loss_hushed, poll_hushed, stop_hushes}
+use Rattle.pulsar_laws.proofs.consumers.Hushed.{Hushed, goes_on_none, hushed_map, loss_hushed, poll_hushed, stop_cuts, stop_hushes}
 use Rattle.pulsar_links.specs.Alarms.{clear}
 use Rattle.pulsar_laws.proofs.Lists.{each_arranged, each_asker, each_made, each_opens, each_put_all, in_left, in_right, into_flat}
 use Rattle.pulsar_laws.specs.Laws.{stopped}
@@ -670,14 +670,11 @@ over_starts o log who run fits =
       is_stopped = refl;
       fine = λ w. calm_fine (v.stand w) (calm_stop o w who log run fits);
       bare = λ m. bare_halted (v.producers.topics m);
-      gone = λ t. gone_stopped (v.consumers.rows t);
+      gone = λ t. stop_cuts (v.consumers.rows t);
       hushed = λ t. stop_hushes (v.consumers.rows t);
       links = λ l. links_of l (v.links.live l) refl;
     }
   where
-    gone_stopped : (row : Option Member) → Gone (option_map consumer.stopped row)
-    gone_stopped None = tt
-    gone_stopped (Some m) = refl
 
     stopped_last : (u : Outcome) → is_stopped_word u ≡ true → is_last_word u ≡ true
     stopped_last outcome.Stopped h = refl

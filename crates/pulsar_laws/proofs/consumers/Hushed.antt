@@ -1,16 +1,17 @@
 -- Once the client is stopped no copy of a dead letter is due: what was pending has failed, and no copy is made any more.
-use Rattle.std.proofs.Common.{◌≡◌, ◌∙◌, ap, sym, subst, ℕ, List, [], ◌∷◌, refl, Bool, true, false, ◌||◌, not, cond, Option, Some, None}
+use Rattle.std.proofs.Common.{◌≡◌, ap, sym, subst, ℕ, List, [], ◌∷◌, ◌++◌, refl, Bool, true, false, ◌||◌, not, cond, Option, Some, None}
 use Rattle.std.specs.Option.{is_some, option_map}
 use Rattle.pulsar_wire.specs.Failures.{Fault}
 use Rattle.pulsar_incoming.specs.declared.polled.Ending.{Ending}
 use Rattle.pulsar_incoming.specs.declared.polled.Ending.TheVariants.{LinkLost, Stopped}
-use Rattle.pulsar_consumer.specs.DeadLetters.{Letter, lost_letter}
+use Rattle.pulsar_consumer.specs.DeadLetters.{Letter, copy_of, lost_letter}
 use Rattle.pulsar_consumer.specs.Frames.{Frame}
 use Rattle.pulsar_consumer.specs.Items.{Item}
 use Rattle.pulsar_consumer.specs.Redelivery.{Id}
 use Rattle.pulsar_consumer.specs.Topic as reader
-use Rattle.pulsar_consumer.specs.Topic.{Engine, Seen, advances, begin, clocked, copy_due, copy_of, counts_first, ends, finish, first_due, first_letter, first_of, gives, gives_from, gives_up, goes_on, is_due, is_finished, is_pending, lives_on, loses, no_letters, stops, to_copy}
+use Rattle.pulsar_consumer.specs.Topic.{Engine, Seen, advances, begin, clocked, counts_first, ends, finish, first_due, first_letter, first_of, gives, gives_from, gives_up, goes_on, is_due, is_finished, is_pending, lives_on, loses, no_letters, stops, to_copy}
 use Rattle.pulsar_consumer.proofs.Histories.{counted_same}
+use Rattle.pulsar_consumer.proofs.Permits.{advances_dead}
 use Rattle.pulsar_laws.proofs.ActWords.{Notice}
 use Rattle.pulsar_laws.proofs.RunWords.{Each, each_append}
 use Rattle.pulsar_laws.proofs.Cases.{cond_so}
@@ -69,6 +70,21 @@ Hushed (Some m) = IsHushed m
 pub hushed_map : (f : Member → Member) (row : Option Member) → ((m : Member) → IsHushed m → IsHushed (f m)) → Hushed row → Hushed (option_map f row)
 hushed_map f None h k = tt
 hushed_map f (Some m) h k = h m k
+
+-- and none of its subscriptions is live
+ends_dead : (e : Engine) → e.live ≡ None → (stops e).live ≡ None
+ends_dead e k = by (is_pending e)
+  where
+    e' : Engine
+    e' = record e { stopped = true }
+
+    by : (b : Bool) → (cond b (gives_up e') e').live ≡ None
+    by true = advances_dead (record e' { rest = e'.rest ++ lost_letter ∷ []; letters = []; copying = None }) k
+    by false = k
+
+pub stop_cuts : (row : Option Member) → Gone (option_map consumer.stopped row)
+stop_cuts None = tt
+stop_cuts (Some m) = ends_dead (ends Stopped m.seen).engine refl
 
 pub stop_hushes : (row : Option Member) → Hushed (option_map consumer.stopped row)
 stop_hushes None = tt

@@ -11,7 +11,7 @@ use Rattle.pulsar_calls.specs.declared.act.Outcome.TheVariants as outcome
 use Rattle.pulsar_acts.specs.Rules.{notice}
 use Rattle.pulsar_acts.specs.Run.{Entry, IsRun, Then}
 use Rattle.pulsar_machine.specs.Options.{Options}
-use Rattle.pulsar_laws.specs.Laws.{Acts, AsksSo, AttemptEnds, BecomesReady, DrawsNone, Finds, Gets, GetsTurn, GrantsSo, IsDropped, IsReady, IsReplied, IsStopped, IsUnknown, IsWoken, LineEnds, MovesUp, RequestEnds, WordComes, base_of}
+use Rattle.pulsar_laws.specs.Laws.{Acts, AsksSo, AttemptEnds, BecomesReady, DrawsNone, Finds, Gets, GetsMultiTurn, GetsTurn, GrantsSo, IsDropped, IsReady, IsReplied, IsStopped, IsUnknown, IsWoken, LineEnds, MovesUp, MultiSaysSo, RequestEnds, WordComes, base_of}
 
 -- another tells it this, alone or with others
 abbrev pub IsToldBy : Who → Outcome → Entry → List Entry → Type 0
@@ -26,6 +26,7 @@ Cause o who (outcome.GotLink link) e older =
 Cause o who (outcome.Granted n) e older =
     Acts o who (GrantsSo n) e older
     ⊎ (GetsTurn o who n e older ⊎ (IsReady o who n e older ⊎ IsToldBy who (outcome.Granted n) e older))
+Cause o who (outcome.OfMulti x) e older = Acts o who (MultiSaysSo x) e older ⊎ GetsMultiTurn o who x e older
 Cause o who (outcome.Settled f) e older = IsToldBy who (outcome.Settled f) e older ⊎ IsDropped o who (outcome.Settled f) e older
 Cause o who (outcome.Parted ticket f) e older = IsToldBy who (outcome.Parted ticket f) e older
 Cause o who (outcome.Word w) e older = WordComes o who w e older

@@ -13,20 +13,20 @@ use Rattle.pulsar_client.proofs.Acts.{called_each}
 use Rattle.pulsar_laws.proofs.Cases.{none_some}
 use Rattle.pulsar_run.proofs.Things.{IsNewIn, WasIn, came}
 use Rattle.pulsar_laws.proofs.consumers.Members.{born_joins}
-use Rattle.pulsar_laws.proofs.calls.Quiet.{IsQuiet, comes_quiet, performs_quiet}
+use Rattle.pulsar_laws.proofs.calls.Quiet.{IsCalm, IsQuiet, comes_quiet, performs_calm}
 use Rattle.pulsar_client.proofs.Raising.{IsRaised, raises}
 
 -- a call whose ticket is not the greatest, or another than a call
 abbrev pub Began : Who → Type 0
 Began (Call t) = is_spent t ≡ false
-Began (Consumer n t) = Unit {0}
+Began (Consumer n t key) = Unit {0}
 Began (Producer n) = Unit {0}
 
 pub same_began : (w who : Who) → is_same w who ≡ true → Began who → Began w
 same_began (Call t) (Call u) h k = subst (λ n. is_spent n ≡ false) (sym (eqb-true t u (and_parts (t == u) (t == u) h).0)) k
-same_began (Call t) (Consumer n u) h k = absurd cc
+same_began (Call t) (Consumer n u key) h k = absurd cc
 same_began (Call t) (Producer n) h k = absurd cc
-same_began (Consumer m t) who h k = tt
+same_began (Consumer m t key) who h k = tt
 same_began (Producer m) who h k = tt
 
 -- the greatest ticket is that of another
@@ -35,13 +35,13 @@ apart (Call t) n k h = elim (cases_Bool (t == n)) [
   | inl e ↦ (let f : true ≡ false = sym h ∙ sym (ap is_spent (eqb-true t n e)) ∙ k in absurd cc)
   | inr e ↦ ap (λ b. b && b) e
 ]
-apart (Consumer m t) n k h = refl
+apart (Consumer m t key) n k h = refl
 apart (Producer m) n k h = refl
 
 -- one with such a ticket, which was drawn: so many were
 abbrev IsDrawn : ℕ → Who → Type 0
 IsDrawn n (Call t) = t < n
-IsDrawn n (Consumer m t) = Unit {0}
+IsDrawn n (Consumer m t key) = Unit {0}
 IsDrawn n (Producer m) = Unit {0}
 
 abbrev pub Has : ℕ → Who → Type 0
@@ -49,16 +49,16 @@ Has n who = Began who × IsDrawn n who
 
 same_has : (n : ℕ) (w who : Who) → is_same w who ≡ true → Has n who → Has n w
 same_has n (Call t) (Call u) h k = subst (λ m. Has n (Call m)) (sym (eqb-true t u (and_parts (t == u) (t == u) h).0)) k
-same_has n (Call t) (Consumer m u) h k = absurd cc
+same_has n (Call t) (Consumer m u key) h k = absurd cc
 same_has n (Call t) (Producer m) h k = absurd cc
-same_has n (Consumer m t) who h k = (tt, tt)
+same_has n (Consumer m t key) who h k = (tt, tt)
 same_has n (Producer m) who h k = (tt, tt)
 
 -- what was drawn stays so
 has_more : (a : Act) (n : ℕ) (who : Who) → Has n who → Has (drawn_after a n) who
 has_more (Comes (Calls asked advice)) n (Call t) k =
     (k.0, (let d : t < n = k.1 in elim (lacks_tickets n (shares asked)) as (λ b. t < cond b n (n + 1 + shares asked)) [ true ↦ d | false ↦ omega (arith, d) ]))
-has_more (Comes (Calls asked advice)) n (Consumer m t) k = (tt, tt)
+has_more (Comes (Calls asked advice)) n (Consumer m t key) k = (tt, tt)
 has_more (Comes (Calls asked advice)) n (Producer m) k = (tt, tt)
 has_more _ n who k = k
 
@@ -82,6 +82,13 @@ quiet_due : (n : ℕ) (a : Act) → IsQuiet a → IsDue n a
 quiet_due n (Starts who p) h = absurd cc
 quiet_due n (Answers who verdict) h = absurd cc
 quiet_due n _ h = tt
+
+calm_due : (n : ℕ) (a : Act) → IsCalm a → IsDue n a
+calm_due n (Starts (Producer m) p) h = (tt, tt)
+calm_due n (Starts (Call t) p) h = absurd cc
+calm_due n (Starts (Consumer m t key) p) h = absurd cc
+calm_due n (Answers who verdict) h = absurd cc
+calm_due n _ h = tt
 
 makes_more : (a : Act) (n : ℕ) (who : Who) (m : Makes) → MakesSo n who m → MakesSo (drawn_after a n) who m
 makes_more a n who (makes.Consumer made) k = has_more a n who k
@@ -132,7 +139,7 @@ called_due v advice asked =
 -- a verdict leaves only topic producers and consumers behind that begin
 left_due : (n : ℕ) (who : Who) (verdict : Verdict) (a : Act) → IsRaised (Answers who verdict) a → IsDue n a
 left_due n who verdict (Starts (Call t) p) h = absurd cc
-left_due n who verdict (Starts (Consumer m t) p) h = (tt, tt)
+left_due n who verdict (Starts (Consumer m t key) p) h = (tt, tt)
 left_due n who verdict (Starts (Producer m) p) h = (tt, tt)
 left_due n who verdict (Answers w u) h = absurd cc
 left_due n who verdict _ h = tt
@@ -175,14 +182,14 @@ module _ (o : Options) (log : List Entry) (k : IsTicketed o log) where
   arises (Comes p) is_due = comes_due (view o log) p
   arises (Starts who p) is_due = follows_due drawn who (begins p) is_due
   arises (Told n) is_due = some_due drawn n.who ((view o log).stand n.who) n.outcome (λ plan h. k.stands n.who plan h)
-  arises (Does who action) is_due = each_map IsQuiet (IsDue drawn) (performs (view o log) who action) (quiet_due drawn) (performs_quiet (view o log) who action)
+  arises (Does who action) is_due = each_map IsCalm (IsDue drawn) (performs (view o log) who action) (calm_due drawn) (performs_calm (view o log) who action)
   arises (Answers who verdict) is_due =
       each_map (IsRaised (Answers who verdict)) (IsDue drawn) (at_once (view o log) (Answers who verdict)) (left_due drawn who verdict)
       (raises (view o log) (Answers who verdict))
   arises _ is_due = tt
 
   from_makes : (t : ℕ) (x : Makes) (m : Member) → MakesSo drawn (Call t) x →
-      member_made (view o log).links.live (view o log).consumers.next_key x ≡ Some m → Has drawn (Call t)
+      member_made (view o log).links.live (view o log).now (view o log).consumers.next_key x ≡ Some m → Has drawn (Call t)
   from_makes t (makes.Consumer made) m is_due e = is_due
   from_makes t (makes.RawConsumer l made) m is_due e = is_due
   from_makes t makes.Nothing m is_due e = absurd cc

@@ -44,7 +44,10 @@ use Rattle.pulsar_calls.specs.declared.act.Share.{Share}
 use Rattle.pulsar_calls.specs.declared.act.Verdict.{Verdict}
 use Rattle.pulsar_calls.specs.declared.act.Who.{Who}
 use Rattle.pulsar_calls.specs.declared.act.Who.TheVariants.{Call, Consumer, Producer}
+use Rattle.pulsar_outgoing.specs.declared.multi_topic.Dispatch.TheVariants as dispatch
 use Rattle.pulsar_plans.specs.declared.plan.Plan.{Plan}
+use Rattle.pulsar_plans.specs.declared.plan.Plan.TheVariants as plan
+use Rattle.pulsar_producer.specs.declared.multi_topic.sending.MultiSending.TheVariants as multi_send
 use Rattle.pulsar_producer_table.specs.declared.table.Owner.{Owner}
 use Rattle.pulsar_producer_table.specs.declared.table.Topic.{Topic}
 use Rattle.pulsar_calls.specs.Content.{Asked, Failed, Receipt, sent_by}

@@ -4,7 +4,9 @@ use Rattle.pulsar_laws.proofs.ActWords.{Act, Answers, Asked, below, Call, Calls,
 use Rattle.pulsar_laws.proofs.PlanWords.{begins, Errand, fails, Gives, Plan, PlanTransition, Stays, told, verdict, Ways}
 use Rattle.pulsar_laws.proofs.RunWords.{agenda, Agenda, arranged, at_once, Begins, called, causes, Chosen, Each, each_append, each_first, each_map, each_rest, Entry, fails_as, first, first_of, follows, follows_some, is_served, IsRun, joins, left_with, may_call, Options, procedure_for, put_all, rest, rest_of, rules, sends_by, share, shares_of, shares_unless, starts, stores_as, Then, told_some, unless, unless_refused, view, View, ways_of, why_no_sends}
 use Rattle.pulsar_laws.proofs.LinkWords.{Exhausted}
-use Rattle.pulsar_acts.specs.Rules.{sends_with}
+use Rattle.pulsar_acts.specs.Rules.{multi_sends_by, multi_shares_of, multi_shares_unless, sends_with, why_no_multi, why_no_multi_sends}
+use Rattle.pulsar_outgoing.specs.declared.multi_topic.Multi.{Multi}
+use Rattle.pulsar_outgoing.specs.declared.multi_topic.Multi.TheVariants.{Made}
 use Rattle.pulsar_messages.specs.Content.{ProducerMessageValues}
 use Rattle.pulsar_producer_table.specs.Producers.{Producers, batches_in, errand_of, why_not, routed}
 use Rattle.pulsar_frame.specs.Batch.{EntryValues}
@@ -88,6 +90,23 @@ unless_no_stop : (why : Option CallRefusal) (v : View) (advice : List (Option �
 unless_no_stop (Some r) v advice t ms = tt
 unless_no_stop None v advice t ms = shares_no_stop v.chosen v.producers v.calls.drawn (v.calls.drawn + 1) advice t ms
 
+-- and so of those by a producer of many topics
+multi_no_stop : (who : Who) (ways : Option Ways) (m : Multi) (share : Option Share) (topic : List ℕ) (x : ProducerMessageValues) →
+    NoStop (Starts who (multi_sends_by ways m share topic x))
+multi_no_stop who None m share topic x = fails_no_stop who share _
+multi_no_stop who (Some ways) m share topic x = refl
+
+multis_no_stop : (o : Chosen) (of ticket : ℕ) (m : Multi) (topic : List ℕ) (ms : List ProducerMessageValues) →
+    Each NoStop (multi_shares_of o of ticket m topic ms)
+multis_no_stop o of ticket m topic [] = tt
+multis_no_stop o of ticket m topic (x ∷ ms) =
+    (multi_no_stop (Call ticket) (ways_of o) m (share of ticket) topic x, multis_no_stop o of (ticket + 1) m topic ms)
+
+multi_unless : (why : Option CallRefusal) (v : View) (t : ℕ) (topic : List ℕ) (ms : List ProducerMessageValues) →
+    Each NoStop (multi_shares_unless why v t topic ms)
+multi_unless (Some r) v t topic ms = tt
+multi_unless None v t topic ms = multis_no_stop v.chosen v.calls.drawn (v.calls.drawn + 1) (Made t) topic ms
+
 gathers_no_stop : (who : Who) (b : Bool) (why : Option CallRefusal) (first count : ℕ) →
     NoStop (Starts who (unless_refused b (unless why (procedure.Gather first count))))
 gathers_no_stop who false why first count = refl
@@ -103,6 +122,10 @@ starts_so v advice (content.SendAll t ms) = inl (
   gathers_no_stop (Call v.calls.drawn) (may_call v.calls) (why_not v.producers t) (v.calls.drawn + 1) (length ms),
   unless_no_stop (why_no_sends v.calls v.producers t) v advice t ms,
 )
+starts_so v advice (content.MultiSendAll t topic ms) = inl (
+  gathers_no_stop (Call v.calls.drawn) (may_call v.calls) (why_no_multi v.producers.multis t) (v.calls.drawn + 1) (length ms),
+  multi_unless (why_no_multi_sends v.calls v.producers.multis t) v t topic ms,
+)
 starts_so v advice asked = inr (Starts (Call v.calls.drawn) (procedure_for v.chosen v.calls v.consumers v.producers advice asked), refl)
 
 called_so : (v : View) (advice : List (Option ℕ)) (asked : Asked) → Each NoStop (called v advice asked) ⊎ OneAct (called v advice asked)
@@ -116,8 +139,8 @@ called_so v advice asked = by (lacks_tickets v.calls.drawn (shares asked))
     by false = starts_so v advice asked
 
 -- nor is what a verdict leaves behind
-left_no_stop : (ways : Option Ways) (maker : Who) (m : Makes) → Each NoStop (left_with ways maker m)
-left_no_stop ways maker m = left_each NoStop ways maker m (λ w e s. refl) (λ w n t s. refl)
+left_no_stop : (ways : Option Ways) (key : ℕ) (maker : Who) (m : Makes) → Each NoStop (left_with ways key maker m)
+left_no_stop ways key maker m = left_each NoStop ways key maker m (λ w e s. refl) (λ w n t s. refl) (λ w n t topic s. refl)
 
 -- nothing at all is left but parts
 pub record IsClear (g : Agenda) : Type 0 where

@@ -6,12 +6,12 @@ use Rattle.std.proofs.lemmas.Bool.Decides.{nat_tests}
 use Rattle.std.proofs.lemmas.Grind.{common_steps}
 use Rattle.pulsar_laws.proofs.ActWords.{Act, Action, Answers, Asked, Call, Calls, Comes, Consumer, Does, Heard, is_same, lacks_tickets, Makes, Notice, Outcome, Procedure, Producer, CallRefusal, Rest, shares, Starts, Told, Who}
 use Rattle.pulsar_laws.proofs.PlanWords.{begins, Errand, Gives, Plan, PlanTransition, Stays, told, Ways}
-use Rattle.pulsar_laws.proofs.RunWords.{agenda, at_once, Begins, begun_same, called, Chosen, counted, does, Each, EndsOnce, Entry, first, first_case, follows, follows_some, is_served, IsRun, left_with, Options, parts_of, performs, rest, shares_of, shares_unless, start_of, starts, StartsIn, stays, stays_some, Then, told_some, view, View, ways_of, why_no_sends}
+use Rattle.pulsar_laws.proofs.RunWords.{agenda, at_once, Begins, begun_same, called, Chosen, counted, does, Each, EndsOnce, Entry, first, first_case, follows, follows_some, is_served, IsRun, left_with, Options, parts_of, rest, shares_of, shares_unless, start_of, starts, StartsIn, stays, stays_some, Then, told_some, view, View, ways_of, why_no_sends}
 use Rattle.pulsar_messages.specs.Claims.{is_spent}
 use Rattle.pulsar_calls.specs.declared.act.Procedure.TheVariants.{Batch, Copy, Serve}
+use Rattle.pulsar_acts.specs.Rules.{multi_sends_by, multi_shares_of, multi_shares_unless, why_no_multi_sends}
 use Rattle.pulsar_outgoing.specs.declared.multi_topic.Multi.{Multi}
 use Rattle.pulsar_outgoing.specs.declared.multi_topic.Multi.TheVariants.{Made}
-use Rattle.pulsar_acts.specs.Rules.{multi_shares_of, multi_shares_unless, why_no_multi_sends}
 use Rattle.pulsar_messages.specs.Content.{ProducerMessageValues}
 use Rattle.pulsar_calls.specs.Content as content
 use Rattle.pulsar_laws.specs.Laws.{end_of}
@@ -19,7 +19,7 @@ use Rattle.pulsar_producer_table.specs.Producers.{Producers, routed}
 use Rattle.pulsar_client.proofs.Acts.{starts_in}
 use Rattle.pulsar_laws.proofs.plans.Follow.{same_is}
 use Rattle.pulsar_laws.proofs.plans.Left.{left_each}
-use Rattle.pulsar_laws.proofs.calls.Quiet.{IsCalm, IsQuiet, comes_quiet, performs_calm}
+use Rattle.pulsar_laws.proofs.calls.Quiet.{IsQuiet, comes_quiet, performs_quiet}
 use Rattle.pulsar_laws.proofs.calls.Ticketed.{apart}
 
 -- WHAT IS DUE
@@ -43,6 +43,7 @@ served_end t (Answers who verdict) h = absurd cc
 served_end t _ h = refl
 
 quiet_start : (t : ℕ) (a : Act) → IsQuiet a → start_of t a ≡ 0
+quiet_start t (Starts (Producer n) p) h = refl
 quiet_start t (Starts who p) h = absurd cc
 quiet_start t _ h = refl
 
@@ -50,23 +51,13 @@ quiet_end : (t : ℕ) (a : Act) → IsQuiet a → end_of t a ≡ 0
 quiet_end t (Answers who verdict) h = absurd cc
 quiet_end t _ h = refl
 
-calm_start : (t : ℕ) (a : Act) → IsCalm a → start_of t a ≡ 0
-calm_start t (Starts (Producer n) p) h = refl
-calm_start t (Starts (Call u) p) h = absurd cc
-calm_start t (Starts (Consumer n u key) p) h = absurd cc
-calm_start t _ h = refl
-
-calm_end : (t : ℕ) (a : Act) → IsCalm a → end_of t a ≡ 0
-calm_end t (Answers who verdict) h = absurd cc
-calm_end t _ h = refl
-
 none_in : (f : Act → ℕ) (xs : List Act) (P : Act → Type 0) → ((a : Act) → P a → f a ≡ 0) → Each P xs → due f xs ≡ 0
 none_in f [] P none k = refl
 none_in f (x ∷ xs) P none k = (λ i. none x k.0 i + none_in f xs P none k.1 i)
 
 -- a plan of batches is no call
-left_due : (f : Act → ℕ) (ways : Option Ways) (key : ℕ) (maker : Who) (makes : Makes) → ((w : Ways) (e : Errand) → f (Starts (Producer e.producer) (Batch w e)) ≡ 0) →
-    ((w : Ways) (n t : ℕ) → f (Starts (Consumer n t 0) (Serve w n)) ≡ 0) →
+left_due : (f : Act → ℕ) (ways : Option Ways) (key : ℕ) (maker : Who) (makes : Makes) →
+    ((w : Ways) (e : Errand) → f (Starts (Producer e.producer) (Batch w e)) ≡ 0) → ((w : Ways) (n t : ℕ) → f (Starts (Consumer n t 0) (Serve w n)) ≡ 0) →
     ((w : Ways) (n t : ℕ) (topic : List ℕ) → f (Starts (Consumer n t key) (Copy w topic)) ≡ 0) → due f (left_with ways key maker makes) ≡ 0
 left_due f ways key maker makes none idle copies =
     none_in f (left_with ways key maker makes) (λ a. f a ≡ 0) (λ a h. h)
@@ -181,37 +172,36 @@ twice false = refl
 one_more : (t n k d : ℕ) → d ≤ between t (n + 1) (n + 1 + k) → cond (t == n) 1 0 + d ≤ between t n (n + suc k)
 one_more t n k d h = grind (arith, nat_tests, common_steps)
 
+one_of : (t n k d : ℕ) → d ≤ between t (n + 1) (n + 1 + k) → cond ((t == n) && (t == n)) 1 0 + d ≤ between t n (n + suc k)
+one_of t n k d h = subst (λ x. x + d ≤ between t n (n + suc k)) (sym (twice (t == n))) (one_more t n k d h)
+
 shares_few : (t : ℕ) (o : Chosen) (ps : Producers) (of ticket : ℕ) (advice : List (Option ℕ)) (u : ℕ) (ms : List ProducerMessageValues) →
     due (start_of t) (shares_of o ps of ticket advice u ms) ≤ between t ticket (ticket + length ms)
 shares_few t o ps of ticket advice u [] = omega arith
 shares_few t o ps of ticket advice u (m ∷ ms) =
-    let k = shares_few t o (routed u m ps) of (ticket + 1) (drop 1 advice) u ms in
-    subst (λ x. x + due (start_of t) (shares_of o (routed u m ps) of (ticket + 1) (drop 1 advice) u ms) ≤ between t ticket (ticket + suc (length ms)))
-    (sym (twice (t == ticket)))
-    (one_more t ticket (length ms) (due (start_of t) (shares_of o (routed u m ps) of (ticket + 1) (drop 1 advice) u ms)) k)
+    one_of t ticket (length ms) (due (start_of t) (shares_of o (routed u m ps) of (ticket + 1) (drop 1 advice) u ms))
+    (shares_few t o (routed u m ps) of (ticket + 1) (drop 1 advice) u ms)
+
+multi_few : (t : ℕ) (o : Chosen) (of ticket : ℕ) (m : Multi) (topic : List ℕ) (ms : List ProducerMessageValues) →
+    due (start_of t) (multi_shares_of o of ticket m topic ms) ≤ between t ticket (ticket + length ms)
+multi_few t o of ticket m topic [] = omega arith
+multi_few t o of ticket m topic (x ∷ ms) =
+    one_of t ticket (length ms) (due (start_of t) (multi_shares_of o of (ticket + 1) m topic ms)) (multi_few t o of (ticket + 1) m topic ms)
+
+multi_unless : (t : ℕ) (r : Option CallRefusal) (v : View) (u : ℕ) (topic : List ℕ) (ms : List ProducerMessageValues) →
+    due (start_of t) (multi_shares_unless r v u topic ms) ≤ between t (v.calls.drawn + 1) (v.calls.drawn + 1 + length ms)
+multi_unless t None v u topic ms = multi_few t v.chosen v.calls.drawn (v.calls.drawn + 1) (Made u) topic ms
+multi_unless t (Some r) v u topic ms = omega arith
 
 unless_few : (t : ℕ) (r : Option CallRefusal) (v : View) (advice : List (Option ℕ)) (u : ℕ) (ms : List ProducerMessageValues) →
     due (start_of t) (shares_unless r v advice u ms) ≤ between t (v.calls.drawn + 1) (v.calls.drawn + 1 + length ms)
 unless_few t None v advice u ms = shares_few t v.chosen v.producers v.calls.drawn (v.calls.drawn + 1) advice u ms
 unless_few t (Some r) v advice u ms = omega arith
 
-multi_few : (t : ℕ) (o : Chosen) (of ticket : ℕ) (m : Multi) (topic : List ℕ) (ms : List ProducerMessageValues) →
-    due (start_of t) (multi_shares_of o of ticket m topic ms) ≤ between t ticket (ticket + length ms)
-multi_few t o of ticket m topic [] = omega arith
-multi_few t o of ticket m topic (x ∷ ms) =
-    let k = multi_few t o of (ticket + 1) m topic ms in
-    subst (λ y. y + due (start_of t) (multi_shares_of o of (ticket + 1) m topic ms) ≤ between t ticket (ticket + suc (length ms)))
-    (sym (twice (t == ticket))) (one_more t ticket (length ms) (due (start_of t) (multi_shares_of o of (ticket + 1) m topic ms)) k)
-
-multi_unless_few : (t : ℕ) (r : Option CallRefusal) (v : View) (u : ℕ) (topic : List ℕ) (ms : List ProducerMessageValues) →
-    due (start_of t) (multi_shares_unless r v u topic ms) ≤ between t (v.calls.drawn + 1) (v.calls.drawn + 1 + length ms)
-multi_unless_few t None v u topic ms = multi_few t v.chosen v.calls.drawn (v.calls.drawn + 1) (Made u) topic ms
-multi_unless_few t (Some r) v u topic ms = omega arith
-
 parts_few : (t : ℕ) (v : View) (advice : List (Option ℕ)) (asked : Asked) →
     due (start_of t) (parts_of v advice asked) ≤ between t (v.calls.drawn + 1) (v.calls.drawn + 1 + shares asked)
 parts_few t v advice (content.SendAll u ms) = unless_few t (why_no_sends v.calls v.producers u) v advice u ms
-parts_few t v advice (content.MultiSendAll u topic ms) = multi_unless_few t (why_no_multi_sends v.calls v.producers.multis u) v u topic ms
+parts_few t v advice (content.MultiSendAll u topic ms) = multi_unless t (why_no_multi_sends v.calls v.producers.multis u) v u topic ms
 parts_few t v advice _ = omega arith
 
 -- so what starts is no more than what is drawn
@@ -343,13 +333,12 @@ few_run o (Then (Comes (Calls asked advice)) ∷ log) t r = calls_on o log asked
 few_run o (Then (Comes p) ∷ log) t r = quiet_on o log (Comes p) t (few_run o log t r.0) r.1 (comes_quiet (view o log) p refl) refl refl
 few_run o (Then (Starts who p) ∷ log) t r = starts_on o log who p t (few_run o log t r.0) r.1
 few_run o (Then (Told n) ∷ log) t r = told_on o log n t (few_run o log t r.0) r.1
-few_run o (Then (Does w a) ∷ log) t r =
-    simple_on o log (Does w a) t (few_run o log t r.0) r.1
-    (none_in (start_of t) (performs (view o log) w a) IsCalm (calm_start t) (performs_calm (view o log) w a))
-    (none_in (end_of t) (performs (view o log) w a) IsCalm (calm_end t) (performs_calm (view o log) w a)) refl refl
+few_run o (Then (Does w a) ∷ log) t r = quiet_on o log (Does w a) t (few_run o log t r.0) r.1 (performs_quiet (view o log) w a) refl refl
 few_run o (Then (Answers w a) ∷ log) t r =
-    simple_on o log (Answers w a) t (few_run o log t r.0) r.1 (left_due (start_of t) (ways_of (view o log).chosen) (view o log).consumers.next_key w a.makes (λ u e. refl) (λ u n k. refl) (λ u n k topic. refl))
-    (left_due (end_of t) (ways_of (view o log).chosen) (view o log).consumers.next_key w a.makes (λ u e. refl) (λ u n k. refl) (λ u n k topic. refl)) refl refl
+    let v : View = view o log in
+    simple_on o log (Answers w a) t (few_run o log t r.0) r.1
+    (left_due (start_of t) (ways_of v.chosen) v.consumers.next_key w a.makes (λ u e. refl) (λ u n k. refl) (λ u n k topic. refl))
+    (left_due (end_of t) (ways_of v.chosen) v.consumers.next_key w a.makes (λ u e. refl) (λ u n k. refl) (λ u n k topic. refl)) refl refl
 few_run o (Then a ∷ log) t r = quiet_on o log a t (few_run o log t r.0) r.1 tt refl refl
 
 one_at_most : (b : Bool) (x y : ℕ) → x + y ≤ cond b 1 0 → x ≤ 1

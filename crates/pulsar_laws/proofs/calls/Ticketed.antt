@@ -13,13 +13,13 @@ use Rattle.pulsar_client.proofs.Acts.{called_each}
 use Rattle.pulsar_laws.proofs.Cases.{none_some}
 use Rattle.pulsar_run.proofs.Things.{IsNewIn, WasIn, came}
 use Rattle.pulsar_laws.proofs.consumers.Members.{born_joins}
-use Rattle.pulsar_laws.proofs.calls.Quiet.{IsCalm, IsQuiet, comes_quiet, performs_calm}
+use Rattle.pulsar_laws.proofs.calls.Quiet.{IsQuiet, comes_quiet, performs_quiet}
 use Rattle.pulsar_client.proofs.Raising.{IsRaised, raises}
 
 -- a call whose ticket is not the greatest, or another than a call
 abbrev pub Began : Who → Type 0
 Began (Call t) = is_spent t ≡ false
-Began (Consumer n t key) = Unit {0}
+Began (Consumer n t k) = Unit {0}
 Began (Producer n) = Unit {0}
 
 pub same_began : (w who : Who) → is_same w who ≡ true → Began who → Began w
@@ -41,7 +41,7 @@ apart (Producer m) n k h = refl
 -- one with such a ticket, which was drawn: so many were
 abbrev IsDrawn : ℕ → Who → Type 0
 IsDrawn n (Call t) = t < n
-IsDrawn n (Consumer m t key) = Unit {0}
+IsDrawn n (Consumer m t k) = Unit {0}
 IsDrawn n (Producer m) = Unit {0}
 
 abbrev pub Has : ℕ → Who → Type 0
@@ -79,16 +79,10 @@ served_due n (Answers who verdict) h = absurd cc
 served_due n _ h = tt
 
 quiet_due : (n : ℕ) (a : Act) → IsQuiet a → IsDue n a
+quiet_due n (Starts (Producer m) p) h = (tt, tt)
 quiet_due n (Starts who p) h = absurd cc
 quiet_due n (Answers who verdict) h = absurd cc
 quiet_due n _ h = tt
-
-calm_due : (n : ℕ) (a : Act) → IsCalm a → IsDue n a
-calm_due n (Starts (Producer m) p) h = (tt, tt)
-calm_due n (Starts (Call t) p) h = absurd cc
-calm_due n (Starts (Consumer m t key) p) h = absurd cc
-calm_due n (Answers who verdict) h = absurd cc
-calm_due n _ h = tt
 
 makes_more : (a : Act) (n : ℕ) (who : Who) (m : Makes) → MakesSo n who m → MakesSo (drawn_after a n) who m
 makes_more a n who (makes.Consumer made) k = has_more a n who k
@@ -139,7 +133,7 @@ called_due v advice asked =
 -- a verdict leaves only topic producers and consumers behind that begin
 left_due : (n : ℕ) (who : Who) (verdict : Verdict) (a : Act) → IsRaised (Answers who verdict) a → IsDue n a
 left_due n who verdict (Starts (Call t) p) h = absurd cc
-left_due n who verdict (Starts (Consumer m t key) p) h = (tt, tt)
+left_due n who verdict (Starts (Consumer m t k) p) h = (tt, tt)
 left_due n who verdict (Starts (Producer m) p) h = (tt, tt)
 left_due n who verdict (Answers w u) h = absurd cc
 left_due n who verdict _ h = tt
@@ -182,7 +176,7 @@ module _ (o : Options) (log : List Entry) (k : IsTicketed o log) where
   arises (Comes p) is_due = comes_due (view o log) p
   arises (Starts who p) is_due = follows_due drawn who (begins p) is_due
   arises (Told n) is_due = some_due drawn n.who ((view o log).stand n.who) n.outcome (λ plan h. k.stands n.who plan h)
-  arises (Does who action) is_due = each_map IsCalm (IsDue drawn) (performs (view o log) who action) (calm_due drawn) (performs_calm (view o log) who action)
+  arises (Does who action) is_due = each_map IsQuiet (IsDue drawn) (performs (view o log) who action) (quiet_due drawn) (performs_quiet (view o log) who action)
   arises (Answers who verdict) is_due =
       each_map (IsRaised (Answers who verdict)) (IsDue drawn) (at_once (view o log) (Answers who verdict)) (left_due drawn who verdict)
       (raises (view o log) (Answers who verdict))

@@ -1,8 +1,9 @@
--- What an action gives at once: nothing, or that one is told what came of it, or a dial; and the Stop ends all links. `performs` is walked once, here.
+-- What an action gives at once: nothing, or that one is told what came of it, or a dial; and the Stop ends all links. Behind the plans of batches of
+-- what joins a producer of many topics one is told too. `performs` is walked once, here.
 use Rattle.std.proofs.Common.{◌≡◌, ap, ℕ, List, [], ◌∷◌, ◌++◌, refl, Bool, true, false, cond, Option, Some, None, Result, Ok, Err}
 use Rattle.std.specs.Option.{option_map}
-use Rattle.pulsar_laws.proofs.ActWords.{Act, Action, Answers, Ask, Comes, Dials, Does, Draw, Ends, FailConsumer, Find, FindConsumer, Flush, Get, Hold, Number, OfTopic, Outcome, PassTurn, Recall, RecallConsumer, Remake, Rest, Revive, Shut, Starts, StopAll, Stops, Store, TakeBatch, TakeFlow, TakeNumber, TakeTurn, Tell, TellAll, ToLink, Told, TopicAsk, Wait, Who, ticket_of, OfConsumer}
-use Rattle.pulsar_laws.proofs.PlanWords.{Command, Drawn, News}
+use Rattle.pulsar_laws.proofs.ActWords.{Act, Action, Answers, Ask, Comes, Dials, Does, Draw, Ends, FailConsumer, Find, FindConsumer, Flush, Get, Hold, Number, OfMulti, OfTopic, Outcome, PassTurn, Producer, Recall, RecallConsumer, Remake, Rest, Revive, Shut, Starts, StopAll, Stops, Store, TakeBatch, TakeFlow, TakeNumber, TakeTurn, Tell, TellAll, ToLink, Told, TopicAsk, Wait, Who, ticket_of, OfConsumer}
+use Rattle.pulsar_laws.proofs.PlanWords.{Command, Drawn, Errand, News, Ways}
 use Rattle.pulsar_laws.proofs.RunWords.{Each, each_append, notice, over_each, performs, room_of, tells, View}
 use Rattle.pulsar_laws.proofs.LinkWords.{address_key, answer_at, ConnectionError, is_reachable, Nobody, over_links, Pauses, Place, Runs, Series, Serves, stop_act, told_at, Words}
 use Rattle.pulsar_session.specs.declared.states.Asked.{Asked}
@@ -12,7 +13,7 @@ use Rattle.pulsar_calls.specs.declared.act.Outcome.TheVariants as outcome
 use Rattle.pulsar_producer_table.specs.declared.table.Topic.{Topic}
 use Rattle.pulsar_producer_table.specs.Producers.{drawn, is_settled_at, link_at, next_batch_at, number_drawn, recalled, turn_taken}
 use Rattle.pulsar_producer_table.specs.Asks.{draw_outcome, draw_said, grants_it, link_said, recall_said, turn_said}
-use Rattle.pulsar_acts.specs.Rules.{gets_from, number_said, says_to}
+use Rattle.pulsar_acts.specs.Rules.{batches_joined, gets_from, number_said, says_to}
 use Rattle.pulsar_consumer_table.specs.Asks.{recalled_said, sought_said}
 use Rattle.pulsar_acts.specs.Reading.{numbering_said}
 use Rattle.pulsar_consumer_table.specs.Consumers as consumer
@@ -21,9 +22,24 @@ use Rattle.pulsar_consumer_table.specs.declared.row.LinkAnswer.TheVariants.{Foun
 use Rattle.pulsar_consumer_table.specs.declared.numbers.Numbering.{Numbering}
 use Rattle.pulsar_consumer_table.specs.declared.numbers.Numbering.TheVariants.{Has, InUse, Spent}
 use Rattle.pulsar_client.proofs.Raising.{IsRaised}
-use Rattle.pulsar_laws.specs.Laws.{GrantsSo}
+use Rattle.pulsar_laws.specs.Laws.{GrantsSo, MultiSaysSo}
+use Rattle.pulsar_laws.proofs.plans.Left.{joined_each}
+use Rattle.pulsar_calls.specs.declared.act.Procedure.TheVariants as procedure
+use Rattle.pulsar_outgoing.specs.declared.multi_topic.Handing.{Handing}
+use Rattle.pulsar_outgoing.specs.declared.multi_topic.Joining.{Joining as MultiJoining}
+use Rattle.pulsar_outgoing.specs.declared.multi_topic.Multi.{Multi}
+use Rattle.pulsar_outgoing.specs.declared.multi_topic.MultiAsk.{MultiAsk}
+use Rattle.pulsar_outgoing.specs.declared.multi_topic.MultiAsk.TheVariants.{Hand, Join, PassTurn as PassMultiTurn, Remove, TakeTurn as TakeMultiTurn}
+use Rattle.pulsar_outgoing.specs.declared.multi_topic.MultiSaid.TheVariants as said
+use Rattle.pulsar_outgoing.specs.declared.multi_topic.Taker.{Taker}
+use Rattle.pulsar_producer.specs.MultiTopic as multi
+use Rattle.pulsar_producer.specs.MultiTopic.{advice_by, found, handed_to, is_free}
+use Rattle.pulsar_producer.specs.Producer as producer
+use Rattle.pulsar_producer_table.specs.MultiAsks as of_multi
+use Rattle.pulsar_producer_table.specs.MultiAsks.{joined_by, says_it, turn_said as multi_turn_said}
+use Rattle.pulsar_producer_table.specs.Takers.{taker_of}
 use Rattle.pulsar_laws.proofs.Cases.{cond_so}
-use Rattle.pulsar_acts.specs.View.{asked_of}
+use Rattle.pulsar_acts.specs.View.{around_multi, asked_of, multi_at, ways_of}
 
 -- an action grants just this
 abbrev pub GivenBy : View → Action → News → Type 0
@@ -31,6 +47,7 @@ GivenBy v action n = GrantsSo n action v
 
 abbrev pub SaysSo : View → Action → Outcome → Type 0
 SaysSo v action (outcome.Granted n) = GivenBy v action n
+SaysSo v action (outcome.OfMulti x) = MultiSaysSo x action v
 SaysSo v action _ = Unit {0}
 
 abbrev pub GivesSo : View → Action → Act → Type 0
@@ -47,6 +64,8 @@ pub data AtOnce (v : View) (who : Who) : Action → List Act → Type 0 where
   says : {action : Action} {u : Outcome} → SaysSo v action u → is_part u ≡ false → AtOnce v who action (Told (notice who u) ∷ [])
   dials : {p : Place} → AtOnce v who (Get p) (Dials p who 0 ∷ [])
   stops_all : AtOnce v who StopAll (over_links stop_act v.links ++ tells who outcome.Stopped)
+  begins_too : {m : Multi} {ask : MultiAsk} {xs : List Act} (j : Option MultiJoining) → AtOnce v who (OfMulti m ask) xs →
+      AtOnce v who (OfMulti m ask) (batches_joined (ways_of v.chosen) j ++ xs)
 
 module _ (v : View) (who : Who) where
   gets_once : (p : Place) (x : Series) → AtOnce v who (Get p) (gets_from who p x)
@@ -116,6 +135,29 @@ module _ (v : View) (who : Who) where
   ask_once n TakeBatch = says refl refl
   ask_once n _ = says tt refl
 
+  multi_turns : (m : Multi) (s : multi.Seen) → multi_at v m ≡ Some s → (t : Option Taker) →
+      AtOnce v who (OfMulti m TakeMultiTurn) (says_to who (multi_turn_said (is_free s) t))
+  multi_turns m s e None = nothing
+  multi_turns m s e (Some t) = free_turn (is_free s) refl
+    where
+      free_turn : (b : Bool) → is_free s ≡ b → AtOnce v who (OfMulti m TakeMultiTurn) (says_to who (cond b (says_it said.HasTurn) None))
+      free_turn true f = says (s, e, f) refl
+      free_turn false f = nothing
+
+  hands_once : (m : Multi) (h : Handing) (s : multi.Seen) → multi_at v m ≡ Some s → (row : Option producer.Seen) → found h.topic s.topics ≡ row →
+      AtOnce v who (OfMulti m (Hand h)) (says_to who (says_it (handed_to row (advice_by row v.policies h.message) h s)))
+  hands_once m h s e None f = says (s, e, (f, refl)) refl
+  hands_once m h s e (Some p) f = says (s, e, (p, f, refl)) refl
+
+  multi_asked : (m : Multi) (ask : MultiAsk) (row : Option multi.Seen) → multi_at v m ≡ row →
+      AtOnce v who (OfMulti m ask) (says_to who (of_multi.given (around_multi v who) ask row).says)
+  multi_asked m ask None e = says tt refl
+  multi_asked m TakeMultiTurn (Some s) e = multi_turns m s e (taker_of who)
+  multi_asked m PassMultiTurn (Some s) e = says (s, e, tt) refl
+  multi_asked m (Hand h) (Some s) e = hands_once m h s e (found h.topic s.topics) refl
+  multi_asked m (Join j) (Some s) e = says (s, e, tt) refl
+  multi_asked m (Remove topic) (Some s) e = says (s, e, refl) refl
+
   pub performs_once : (action : Action) → AtOnce v who action (performs v who action)
   performs_once (Get p) =
       cond_so (AtOnce v who (Get p)) (is_reachable p) _ _ (gets_once p (v.addresses.base (address_key p)).series) (says tt refl)
@@ -123,6 +165,7 @@ module _ (v : View) (who : Who) where
   performs_once StopAll = stops_all
   performs_once (Wait delay) = nothing
   performs_once (OfTopic n ask) = ask_once n ask
+  performs_once (OfMulti m ask) = begins_too (joined_by ask (multi_at v m)) (multi_asked m ask (multi_at v m) refl)
   performs_once Number = numbers_once (number_drawn v.producers) refl
   performs_once (TakeNumber wanted) = numbering_once wanted (consumer.numbering v.consumers wanted)
   performs_once (OfConsumer (FindConsumer t)) = sought_once t (consumer.sought (v.consumers.rows t))
@@ -134,13 +177,16 @@ module _ (v : View) (who : Who) where
 -- so of each act that it gives
 pub once_each : {v : View} {who : Who} {action : Action} {xs : List Act} (P : Act → Type 0) →
     ((u : Outcome) → SaysSo v action u → is_part u ≡ false → P (Told (notice who u))) → ((p : Place) → P (Dials p who 0)) →
-    ((l : ℕ) → P (Comes (ToLink l (Ends Stops)))) → AtOnce v who action xs → Each P xs
-once_each P t d s nothing = tt
-once_each P t d s (says {u} k b) = (t u k b, tt)
-once_each P t d s (dials {p}) = (d p, tt)
-once_each {v} {who} P t d s stops_all =
+    ((l : ℕ) → P (Comes (ToLink l (Ends Stops)))) →
+    ((w : Ways) (e : Errand) → ways_of v.chosen ≡ Some w → P (Starts (Producer e.producer) (procedure.Batch w e))) → AtOnce v who action xs → Each P xs
+once_each P t d s b nothing = tt
+once_each P t d s b (says {u} k n) = (t u k n, tt)
+once_each P t d s b (dials {p}) = (d p, tt)
+once_each {v} {who} P t d s b stops_all =
     each_append P (over_links stop_act v.links) (tells who outcome.Stopped) (over_each P stop_act v.links (λ l seat. (s l, tt)))
     (t outcome.Stopped tt refl, tt)
+once_each {v} {who} P t d s b (begins_too {xs} j k) =
+    each_append P (batches_joined (ways_of v.chosen) j) xs (joined_each P (ways_of v.chosen) j b) (once_each P t d s b k)
 
 -- nobody is told anything at once but by what one does
 abbrev pub does_it : Act → Bool

@@ -1,6 +1,6 @@
 -- What the plans of consumers do: it touches no producer, sends no message, tells nobody, and stops nothing. And what calls on consumers begin.
 use Rattle.std.proofs.Common.{◌≡◌, ℕ, List, [], ◌∷◌, refl, Bool, true, false, Option, Some, None}
-use Rattle.pulsar_laws.proofs.ActWords.{Action, Ask, Asked, Get, Procedure, CallRefusal, Rest, TakeNumber, Wait, OfConsumer}
+use Rattle.pulsar_laws.proofs.ActWords.{Action, Ask, Asked, Get, Procedure, CallRefusal, Rest, TakeNumber, Wait, OfConsumer, OfTopic, Shut, StopAll, Store, TakeBatch, Tell, TellAll}
 use Rattle.pulsar_laws.proofs.PlanWords.{Ways}
 use Rattle.pulsar_laws.proofs.RunWords.{Chosen, may_call, procedure_for, Tickets, unless_refused, ways_of}
 use Rattle.pulsar_messages.specs.Words as words

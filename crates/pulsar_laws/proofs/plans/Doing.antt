@@ -5,7 +5,7 @@ use Rattle.pulsar_laws.proofs.ActWords.{Action, Outcome}
 use Rattle.pulsar_laws.proofs.LinkWords.{Place}
 use Rattle.pulsar_laws.proofs.PlanWords.{action_of, BuildingProducer as Build, Deed, Errand, News, ProducerOrder, Sending as Send, Ways}
 use Rattle.pulsar_calls.specs.declared.act.Action.TheVariants.{Ask, Get, Number, OfConsumer, OfMulti, OfTopic, Rest, Wait}
-use Rattle.pulsar_calls.specs.declared.act.ConsumerAsk.{ConsumerAsk}
+use Rattle.pulsar_calls.specs.declared.act.ConsumerAsk.TheVariants.{CopyFailed, CopySent, TakeCopy}
 use Rattle.pulsar_calls.specs.declared.act.TopicAsk.TheVariants.{TakeTurn}
 use Rattle.pulsar_messages.specs.Words.{Words}
 use Rattle.pulsar_outgoing.specs.declared.multi_topic.Multi.{Multi}
@@ -30,6 +30,16 @@ pub record IsCommon (P : Action → Type 0) : Type 0 where
   pub rests : P Rest
   pub builds : {w : Ways} {o : ProducerOrder} {b q : Build} {y : News} {d : Deed} → BuildArc w o b y q d → P (action_of d)
 
+-- and so of what copies do besides
+pub record IsCopied (P : Action → Type 0) : Type 0 where
+  pub common : IsCommon P
+  pub multis : (m : Multi) (ask : MultiAsk) → P (OfMulti m ask)
+  pub turns : (n : ℕ) → P (OfTopic n TakeTurn)
+  pub takes : P (OfConsumer TakeCopy)
+  pub sent : P (OfConsumer CopySent)
+  pub failed : P (OfConsumer CopyFailed)
+  pub sends : {w : Ways} {e : Errand} {s q : Send} {y : News} {d : Deed} → SendArc w e s y q d → P (action_of d)
+
 module _ (P : Action → Type 0) (k : IsCommon P) where
   pub begun_does : {w : Ways} {o : ProducerOrder} {b : Build} {d : Deed} → BuildBegun w o b d → P (action_of d)
   begun_does (build_names (wish.Get at) e) = k.gets at
@@ -44,22 +54,20 @@ module _ (P : Action → Type 0) (k : IsCommon P) where
   multi_does m h multi_rests = k.rests
   multi_does m h _ = h _
 
-  pub copy_does : {w : Ways} {t : List ℕ} {s q : CopyState} {u : Outcome} {a : Action} → ((ask : ConsumerAsk) → P (OfConsumer ask)) →
-      ((ask : MultiAsk) → P (OfMulti Own ask)) → ((n : ℕ) → P (OfTopic n TakeTurn)) →
-      ({w : Ways} {e : Errand} {s q : Send} {y : News} {d : Deed} → SendArc w e s y q d → P (action_of d)) → CopyArc w t s u q a → P a
-  copy_does c h t s resting_rests = k.rests
-  copy_does c h t s taking_rests = k.rests
-  copy_does c h t s settling_rests = k.rests
-  copy_does c h t s due_takes = c _
-  copy_does c h t s letter_hands = h _
-  copy_does c h t s no_letter_rests = k.rests
-  copy_does c h t s (handing_goes d x) = multi_does Own h x
-  copy_does c h t s (handed_sends x) = t _
-  copy_does c h t s (handed_stores x) = c _
-  copy_does c h t s (handing_fails x) = c _
-  copy_does c h t s (sending_goes d x) = s x
-  copy_does c h t s (copy_sent x) = c _
-  copy_does c h t s (copy_fails x) = c _
-  copy_does c h t s settled_asks = k.asks _ _
-  copy_does c h t s settled_rests = k.rests
-  copy_does c h t s asked_rests = k.rests
+pub copy_does : {w : Ways} {t : List ℕ} {s q : CopyState} {u : Outcome} {a : Action} (P : Action → Type 0) → IsCopied P → CopyArc w t s u q a → P a
+copy_does P k resting_rests = k.common.rests
+copy_does P k taking_rests = k.common.rests
+copy_does P k settling_rests = k.common.rests
+copy_does P k due_takes = k.takes
+copy_does P k letter_hands = k.multis _ _
+copy_does P k no_letter_rests = k.common.rests
+copy_does P k (handing_goes d x) = multi_does P k.common Own (k.multis Own) x
+copy_does P k (handed_sends x) = k.turns _
+copy_does P k (handed_stores x) = k.failed
+copy_does P k (handing_fails x) = k.failed
+copy_does P k (sending_goes d x) = k.sends x
+copy_does P k (copy_sent x) = k.sent
+copy_does P k (copy_fails x) = k.failed
+copy_does P k settled_asks = k.common.asks _ _
+copy_does P k settled_rests = k.common.rests
+copy_does P k asked_rests = k.common.rests

@@ -33,12 +33,23 @@ use Rattle.pulsar_calls.specs.declared.act.Round.{Round}
 use Rattle.pulsar_calls.specs.declared.act.Round.TheVariants.{Closes}
 use Rattle.pulsar_plans.specs.declared.plan.At.{At as Point}
 use Rattle.pulsar_plans.specs.declared.plan.At.TheVariants as point
-use Rattle.pulsar_plans.specs.declared.plan.Plan.TheVariants.{Building, Getting, Searching, Sending, Gathering, Shutting, Stopping, Acknowledging, Departing}
+use Rattle.pulsar_plans.specs.declared.plan.Plan.TheVariants.{Copying, MultiClosing, MultiSending, Building, Getting, Searching, Sending, Gathering, Shutting, Stopping, Acknowledging, Departing}
 use Rattle.pulsar_calls.specs.Content.{Done, Receipt, Replies, Failed}
-use Rattle.pulsar_plans.proofs.Arcs.{Arc, End, ends, by_arcs, flowed_takes, is_server, over}
+use Rattle.pulsar_plans.proofs.Arcs.{Arc, End, copies_over, ends, by_arcs, flowed_takes, is_server, over}
 use Rattle.pulsar_laws.proofs.Cases.{cond_so}
-use Rattle.pulsar_laws.specs.Laws.{Deed, Acted, FailsSo, IsRefused, IsRefusedShare, IsTold, IsTurned, IsDenied, IsUnexpected, IsInProducer, IsUnexpectedInProducer, IsSettled, IsPartial, IsAnswered, DeniesSo, acted, course, fails_in_producer, has_failed, number_in, ways_in, IsInUse, IsOfSeveral, IsClosed}
+use Rattle.pulsar_laws.specs.Laws.{Deed, Acted, FailsSo, IsRefused, IsRefusedShare, IsTold, IsTurned, IsDenied, IsUnexpected, IsInProducer, IsUnexpectedInProducer, IsSettled, IsNotTaken, IsPartial, IsAnswered, DeniesSo, acted, course, fails_in_producer, has_failed, number_in, ways_in, IsInUse, IsOfSeveral, IsClosed}
 use Rattle.pulsar_calls.specs.Parts.{failed_with, outcomes_of, sent_from}
+use Rattle.pulsar_messages.specs.Content.{ProducerMessageValues}
+use Rattle.pulsar_outgoing.specs.declared.multi_topic.Dispatch.TheVariants as dispatch
+use Rattle.pulsar_outgoing.specs.declared.multi_topic.Multi.{Multi}
+use Rattle.pulsar_outgoing.specs.declared.multi_topic.MultiSaid.TheVariants as said
+use Rattle.pulsar_producer.specs.MultiPlans as multi
+use Rattle.pulsar_producer.specs.MultiPlans.{multi_fault_told}
+use Rattle.pulsar_producer.specs.declared.multi_topic.closing.MultiClosing.{MultiClosing as MultiClose}
+use Rattle.pulsar_producer.specs.declared.multi_topic.closing.MultiClosing.TheVariants as multi_close
+use Rattle.pulsar_producer.specs.declared.multi_topic.sending.MultiSending.{MultiSending as MultiSend}
+use Rattle.pulsar_producer.specs.declared.multi_topic.sending.MultiSending.TheVariants as multi_send
+use Rattle.pulsar_plans.specs.Plan.{multi_closes, multi_news_of, multi_sends as multi_turns}
 use Rattle.pulsar_plans.specs.Plan.{asks_of, builds, fails_in, fails_with, failure_in, failure_of, fault_of, found, gathers, goes, goes_on_sending, goes_round, halted, in_stored, in_storing, is_settled, leaves, parted, receipt_said, sends_stay, settled, stored, told_at, told_batch, tells, visited, visits, consumer_news_of, in_departing, in_subscribing, subscribes}
 use Rattle.pulsar_producer.specs.Batching.{is_sent_send}
 use Rattle.pulsar_laws.proofs.plans.Productions.{AllowsBreaks, AllowsReply, BuildKeeps, Ends, SendKeeps, building_begins, building_ends, sending_ends}
@@ -68,6 +79,14 @@ told_same Queued = refl
 told_same InLine = refl
 told_same (Granted n) = refl
 told_same u = fault_same u
+
+multi_same : (u : Outcome) → multi_fault_told (multi_news_of u) ≡ fault_of u
+multi_same (outcome.OfMulti said.HasTurn) = refl
+multi_same (outcome.OfMulti (said.Handed given)) = refl
+multi_same (outcome.OfMulti (said.Absent x)) = refl
+multi_same (outcome.OfMulti (said.Removed numbers)) = refl
+multi_same (outcome.OfMulti said.Done) = refl
+multi_same u = told_same u
 
 -- two ways to say it
 refused_same : (r : Reply) (body : Option Written) → refused r body ≡ unexpected r.content body
@@ -213,6 +232,20 @@ module _ (p : Procedure) (all : List Outcome) where
   RoundKeeps Flushes = Unit {0}
   RoundKeeps Closes = fails_in_producer p ≡ true
 
+  abbrev MultiKeeps : MultiSend → Type 0
+  MultiKeeps (multi_send.Waiting t m) = Unit {0}
+  MultiKeeps multi_send.Handing = Unit {0}
+  MultiKeeps (multi_send.Building o m b) = BuildKeeps Fails' b
+  MultiKeeps (multi_send.Joining t m) = Unit {0}
+  MultiKeeps (multi_send.Passing (Ok d)) = Unit {0}
+  MultiKeeps (multi_send.Passing (Err f)) = Fails' f
+
+  abbrev CloseKeeps : MultiClose → Type 0
+  CloseKeeps (multi_close.Waiting t) = Unit {0}
+  CloseKeeps multi_close.Removing = Unit {0}
+  CloseKeeps (multi_close.Passing (Ok numbers)) = Unit {0}
+  CloseKeeps (multi_close.Passing (Err f)) = Fails' f
+
   abbrev Holds : Plan → Type 0
   Holds Building = Unit {0}
   Holds (Getting request s) = number_in p ≡ Some (request_number request)
@@ -229,8 +262,11 @@ module _ (p : Procedure) (all : List Outcome) where
   Holds (Gathering first count left failures) = (p ≡ procedure.Gather first count) × ((failures ≡ []) ⊎ (list_any has_failed all ≡ true))
   Holds (Shutting numbers) = fails_in_producer p ≡ true
   Holds (Visiting r n left x) = RoundKeeps r
+  Holds (MultiSending w m share s) = (ways_in p ≡ Some w) × (fails_in_producer p ≡ true) × MultiKeeps s
+  Holds (MultiClosing m s) = (fails_in_producer p ≡ true) × CloseKeeps s
   Holds (Subscribing w o b) = (p ≡ procedure.Subscribe w o) × BuildNamed w all b
   Holds (Serving w n s) = Unit {0}
+  Holds (Copying w t s) = Unit {0}
   Holds Acknowledging = Unit {0}
   Holds (Departing t n) = p ≡ procedure.Leave t n
   Holds Stopping = Unit {0}
@@ -494,9 +530,65 @@ module _ (p : Procedure) (all : List Outcome) where
       (building_fails Fails' w all o b (consumer_news.Told (news_in u)) (told_allows w o u is i) m)
       (build_kept w all o b (consumer_news.Told (news_in u)) (λ x e. heeds_so w u i x e) m)
 
-  -- one that serves a consumer goes on so, and ends well
+  -- A SEND AND A CLOSE BY A PRODUCER OF MANY TOPICS
+
+  multi_fails : (u : Outcome) → fails_in_producer p ≡ true → In u all → Fails' (multi.multi_failure (multi_news_of u))
+  multi_fails u fs i = IsInProducer u fs i (ap in_producer (multi_same u))
+
+  abbrev DispatchKeeps : multi.Dispatches → Type 0
+  DispatchKeeps (transition.Stays s d) = MultiKeeps s
+  DispatchKeeps (transition.Gives (Ok d)) = Unit {0}
+  DispatchKeeps (transition.Gives (Err f)) = Fails' f
+
+  builds_keep : (o : ProducerOrder) (m : ProducerMessageValues) (x : ProducerTransition Build (Result (List Built) Failure)) →
+      Ends (BuildKeeps Fails') Fails' x → DispatchKeeps (multi.send_builds o m x)
+  builds_keep o m (transition.Stays b d) k = k
+  builds_keep o m (transition.Gives (Ok parts)) k = tt
+  builds_keep o m (transition.Gives (Err f)) k = k
+
+  multi_keeps : (w : Ways) (s : MultiSend) (u : Outcome) → ways_in p ≡ Some w → fails_in_producer p ≡ true → In u all → is_proper u ≡ true → MultiKeeps s →
+      DispatchKeeps (multi.multi_send_told w s (multi_news_of u))
+  multi_keeps w (multi_send.Waiting t m) (outcome.OfMulti said.HasTurn) is fs i proper k = tt
+  multi_keeps w (multi_send.Waiting t m) (outcome.OfMulti x) is fs i proper k = multi_fails (outcome.OfMulti x) fs i
+  multi_keeps w (multi_send.Waiting t m) u is fs i proper k = multi_fails u fs i
+  multi_keeps w multi_send.Handing (outcome.OfMulti (said.Handed (Ok d))) is fs i proper k = tt
+  multi_keeps w multi_send.Handing (outcome.OfMulti (said.Handed (Err f))) is fs i proper k = IsNotTaken i
+  multi_keeps w multi_send.Handing (outcome.OfMulti (said.Absent x)) is fs i proper k =
+      builds_keep x.order x.message (produce.build_begins w x.order) (building_begins Fails' w x.order)
+  multi_keeps w multi_send.Handing (outcome.OfMulti x) is fs i proper k = multi_fails (outcome.OfMulti x) fs i
+  multi_keeps w multi_send.Handing u is fs i proper k = multi_fails u fs i
+  multi_keeps w (multi_send.Building o m b) (outcome.OfMulti x) is fs i proper k = k
+  multi_keeps w (multi_send.Building o m b) u is fs i proper k =
+      builds_keep o m (produce.build_told w o b (news_of u))
+      (building_ends Fails' w o b (news_of u) (IsTold u i (ap OfConnection (told_same u))) (allows_breaks w u is i proper) k)
+  multi_keeps w (multi_send.Joining t m) (outcome.OfMulti said.Done) is fs i proper k = tt
+  multi_keeps w (multi_send.Joining t m) (outcome.OfMulti x) is fs i proper k = multi_fails (outcome.OfMulti x) fs i
+  multi_keeps w (multi_send.Joining t m) u is fs i proper k = multi_fails u fs i
+  multi_keeps w (multi_send.Passing (Ok d)) u is fs i proper k = tt
+  multi_keeps w (multi_send.Passing (Err f)) u is fs i proper k = k
+
+  multi_holds : (w : Ways) (m : Multi) (share : Option Share) (x : multi.Dispatches) → ways_in p ≡ Some w → fails_in_producer p ≡ true → DispatchKeeps x →
+      TurnHolds (multi_turns w m share x)
+  multi_holds w m share (transition.Stays s d) is fs k = (is, fs, k)
+  multi_holds w m share (transition.Gives (Ok (dispatch.Send e x))) is fs k = sends_hold w e share (produce.send_begins e x) is fs tt
+  multi_holds w m share (transition.Gives (Ok (dispatch.Store n x))) is fs k = tt
+  multi_holds w m share (transition.Gives (Err f)) is fs k = leaves_hold share f k
+
+  close_keeps : (m : Multi) (s : MultiClose) (u : Outcome) → fails_in_producer p ≡ true → In u all → CloseKeeps s →
+      TurnHolds (multi_closes m (multi.close_told s (multi_news_of u)))
+  close_keeps m (multi_close.Waiting t) (outcome.OfMulti said.HasTurn) fs i k = (fs, tt)
+  close_keeps m (multi_close.Waiting t) (outcome.OfMulti x) fs i k = with_failure _ (multi_fails (outcome.OfMulti x) fs i)
+  close_keeps m (multi_close.Waiting t) u fs i k = with_failure _ (multi_fails u fs i)
+  close_keeps m multi_close.Removing (outcome.OfMulti (said.Removed numbers)) fs i k = (fs, tt)
+  close_keeps m multi_close.Removing (outcome.OfMulti x) fs i k = (fs, multi_fails (outcome.OfMulti x) fs i)
+  close_keeps m multi_close.Removing u fs i k = (fs, multi_fails u fs i)
+  close_keeps m (multi_close.Passing (Ok numbers)) u fs i k = round_holds Closes numbers fs
+  close_keeps m (multi_close.Passing (Err f)) u fs i k = with_failure f k
+
+  -- one that serves a consumer, or copies its dead letters, goes on so, and ends well
   server_holds : {x : Plan} {u : Outcome} (q : Plan) {a : Action} → Arc x u q a → is_server x ≡ true → Holds q
   server_holds (Serving w n s) e h = tt
+  server_holds (Copying w t s) e h = tt
   server_holds q e h = absurd (other e h refl)
     where
       other : {x y : Plan} {u : Outcome} {a : Action} → Arc x u y a → is_server x ≡ true → is_server y ≡ false → ⊥
@@ -505,6 +597,7 @@ module _ (p : Procedure) (all : List Outcome) where
 
   server_says : {x : Plan} {u : Outcome} {v : Verdict} → End x u v → is_server x ≡ true → Says v.said
   server_says over h = says_done
+  server_says copies_over h = says_done
   server_says (ends x n) h = (let f : true ≡ false = sym h ∙ n in absurd cc)
   server_says _ h = absurd cc
 
@@ -540,10 +633,17 @@ module _ (p : Procedure) (all : List Outcome) where
   told_holds (Shutting numbers) (Granted granting.Done) k i proper = round_holds Closes numbers k
   told_holds (Visiting r n left x) u k i proper =
       cond_so TurnHolds (overrides u) (Gives (fails (fault_of u))) (told_at r n left x u) (told_so u i) (visits_hold r n left x u k i)
+  told_holds (MultiSending w m share s) u k i proper =
+      cond_so TurnHolds (overrides u) (halted share u) (multi_turns w m share (multi.multi_send_told w s (multi_news_of u))) (halted_hold share u i)
+      (multi_holds w m share (multi.multi_send_told w s (multi_news_of u)) k.0 k.1 (multi_keeps w s u k.0 k.1 i proper k.2))
+  told_holds (MultiClosing m s) u k i proper =
+      cond_so TurnHolds (overrides u) (Gives (fails (fault_of u))) (multi_closes m (multi.close_told s (multi_news_of u))) (told_so u i)
+      (close_keeps m s u k.0 i k.1)
   told_holds (Subscribing w o b) u k i proper =
       cond_so TurnHolds (overrides u) (Gives (fails (fault_of u))) (in_subscribing w o b (consumer_news_of u)) (told_so u i)
       (subscribing_holds w o b u k.0 k.1 i)
   told_holds (Serving w n s) u k i proper = by_arcs TurnHolds (Serving w n s) u (λ q a e. server_holds q e refl) (λ v e. server_says e refl)
+  told_holds (Copying w t s) u k i proper = by_arcs TurnHolds (Copying w t s) u (λ q a e. server_holds q e refl) (λ v e. server_says e refl)
   told_holds Acknowledging u k i proper = says_done
   told_holds (Departing t n) (GotLink link) k i proper = ap number_in k
   told_holds (Departing t n) (outcome.Word word.Closed) k i proper = with_failure (OfConsumer ConsumerClosed) (IsClosed t n k i refl)
@@ -607,7 +707,12 @@ begins_holds (procedure.Subscribe w o) all is =
     building_holds (procedure.Subscribe w o) all w o (consume.build_begins w o) refl
     (building_begins_so (FailsSo (procedure.Subscribe w o) all) w all o (several_so (procedure.Subscribe w o) all w o refl))
     (named_kept w all o (search.names_begins w o.topic) (names_begin_kept w all o.topic))
+begins_holds (procedure.MakeMulti name settings) all is = says_done (procedure.MakeMulti name settings) all
+begins_holds (procedure.MultiSend w m share topic x) all is =
+    multi_holds (procedure.MultiSend w m share topic x) all w m share (multi.send_begins topic x) refl refl tt
+begins_holds (procedure.MultiClose m topic) all is = (refl, tt)
 begins_holds (procedure.Serve w n) all is = tt
+begins_holds (procedure.Copy w topic) all is = tt
 begins_holds (procedure.Acknowledge None request) all is = says_done (procedure.Acknowledge None request) all
 begins_holds (procedure.Acknowledge (Some l) request) all is = tt
 begins_holds (procedure.Refuse r) all is = says_failed (procedure.Refuse r) all (failure_of r) (IsRefused r refl refl)

@@ -2,7 +2,7 @@
 use Rattle.std.proofs.Common.{◌≡◌, ◌⊎◌, inl, inr, ◌∙◌, sym, ap, subst, ℕ, ◌+◌, List, [], ◌∷◌, ◌++◌, refl, Bool, true, false, not, drop, length, Option, Some, None, ◌==◌}
 use Rattle.std.proofs.lemmas.Bool.{cases_Bool}
 use Rattle.std.specs.Option.{is_some}
-use Rattle.pulsar_laws.proofs.ActWords.{Act, Action, Answers, Asked, Calls, Checks, Comes, Does, Flushes, is_same, lacks_tickets, Link, next_advice, OfMulti, Outcome, Procedure, CallRefusal, Rest, Share, shares, Starts, Tell, TellAll, Told, Who}
+use Rattle.pulsar_laws.proofs.ActWords.{Act, Action, Answers, Asked, Calls, Checks, Comes, Does, Flushes, is_same, lacks_tickets, Link, next_advice, Outcome, Procedure, CallRefusal, Rest, Share, shares, Starts, Tell, TellAll, Told, Who}
 use Rattle.pulsar_laws.proofs.PlanWords.{begins, Errand, Gives, Heard as News, PlanTransition, Sought, Stays, Ways}
 use Rattle.pulsar_laws.proofs.RunWords.{agenda, asks_raw, asks_topics, at_once, Begins, builds_with, Cause, checks, Chosen, chosen_same, closes, does, Each, each_append, each_either, each_first, each_map, each_rest, Entry, fails_as, flushes, flushes_all, follows, follows_some, from_base, gathers, In, InThisStep, is_served, IsRun, may_call, notice, Options, parts_of, performs, procedure_for, produces, produces_from, rest, searches, sends, sends_as, sends_by, share, shares_of, shares_unless, started, starts, stores_as, Then, Tickets, told_some, unless, unless_refused, view, View, ways_of, why_no_raw, why_no_sends}
 use Rattle.pulsar_laws.proofs.LinkWords.{Place}
@@ -34,12 +34,11 @@ use Rattle.pulsar_laws.proofs.plans.Led.{tells_so}
 use Rattle.pulsar_outgoing.specs.declared.multi_topic.Multi.{Multi}
 use Rattle.pulsar_outgoing.specs.declared.multi_topic.Multi.TheVariants as multi
 use Rattle.pulsar_outgoing.specs.declared.multi_topic.Multi.TheVariants.{Own}
-use Rattle.pulsar_acts.specs.View.{multi_asked_of, multi_at}
-use Rattle.pulsar_producer_table.specs.MultiAsks.{joined_by}
-use Rattle.pulsar_acts.specs.Rules.{batches_joined, says_to, multi_closes, multi_gathers, multi_sends, multi_sends_by, multi_shares_of, multi_shares_unless, posts, why_no_multi, why_no_multi_sends}
-use Rattle.pulsar_laws.proofs.plans.Left.{joined_each, left_each}
+use Rattle.pulsar_acts.specs.Rules.{multi_closes, multi_gathers, multi_sends, multi_sends_by, multi_shares_of, multi_shares_unless, posts, why_no_multi, why_no_multi_sends}
+use Rattle.pulsar_laws.proofs.plans.Left.{left_each}
 use Rattle.pulsar_laws.proofs.plans.Natures.{IsOfBatch}
-use Rattle.pulsar_laws.proofs.calls.Quiet.{IsQuiet, comes_quiet, performs_quiet}
+use Rattle.pulsar_laws.proofs.calls.Quiet.{IsStill, comes_still}
+use Rattle.pulsar_laws.proofs.plans.AtOnce.{once_each, performs_once}
 use Rattle.pulsar_laws.proofs.plans.Searches.{is_sought}
 use Rattle.pulsar_consumer_table.specs.Consumers as consumer
 use Rattle.pulsar_consumer_table.specs.Consumers.{Consumers}
@@ -186,13 +185,9 @@ starts_made v advised asked = (call_made v.chosen v.calls v.consumers v.producer
 
 -- all that starts is made so: by a call, or as a producer was built
 module _ (ws : Option Ways) where
-  quiet_made : (a : Act) → IsQuiet a → StartsMade ws a
-  quiet_made (Starts who p) h = absurd cc
-  quiet_made _ h = tt
-
-  says_made : (who : Who) (u : Option Outcome) → Each (StartsMade ws) (says_to who u)
-  says_made who None = tt
-  says_made who (Some u) = (tt, tt)
+  still_made : (a : Act) → IsStill a → StartsMade ws a
+  still_made (Starts who p) h = absurd h
+  still_made _ h = tt
 
   served_made : (a : Act) → is_served a ≡ true → StartsMade ws a
   served_made (Starts who p) h = absurd cc
@@ -215,16 +210,11 @@ arises_made v (Comes (Calls asked advised)) =
     each_either (StartsMade (ways_of v.chosen)) (lacks_tickets v.calls.drawn (shares asked)) (late ∷ []) (starts v advised asked) (tt, tt)
     (starts_made v advised asked)
 arises_made v (Comes p) =
-    each_map IsQuiet (StartsMade (ways_of v.chosen)) (at_once v (Comes p)) (quiet_made (ways_of v.chosen)) (comes_quiet v p refl)
+    each_map IsStill (StartsMade (ways_of v.chosen)) (at_once v (Comes p)) (still_made (ways_of v.chosen)) (comes_still v p refl)
 arises_made v (Starts who p) = follows_made (ways_of v.chosen) who (begins p)
 arises_made v (Told n) = some_made (ways_of v.chosen) n.who (told_some (v.stand n.who) n.outcome)
-arises_made v (Does who (OfMulti m ask)) =
-    each_append (StartsMade (ways_of v.chosen)) (batches_joined (ways_of v.chosen) (joined_by ask (multi_at v m)))
-    (says_to who (multi_asked_of v who m ask).says)
-    (joined_each (StartsMade (ways_of v.chosen)) (ways_of v.chosen) (joined_by ask (multi_at v m)) (λ w e s. (tt, inr (sym s))))
-    (says_made (ways_of v.chosen) who (multi_asked_of v who m ask).says)
 arises_made v (Does who action) =
-    each_map IsQuiet (StartsMade (ways_of v.chosen)) (performs v who action) (quiet_made (ways_of v.chosen)) (performs_quiet v who action refl)
+    once_each (StartsMade (ways_of v.chosen)) (λ u k b. tt) (λ p. tt) (λ l. tt) (λ w e s. (tt, inr (sym s))) (performs_once v who action)
 arises_made v (Answers who verdict) =
     left_each (StartsMade (ways_of v.chosen)) (ways_of v.chosen) v.consumers.next_key who verdict.makes (λ w e s. (tt, inr (sym s)))
     (λ w n t s. (tt, inr (sym s))) (λ w n t topic s. (tt, inr (sym s)))

@@ -17,7 +17,7 @@ use Rattle.pulsar_producer.specs.declared.sending.Sending.TheVariants as send
 use Rattle.pulsar_calls.specs.declared.act.Outcome.TheVariants as outcome
 use Rattle.pulsar_calls.specs.declared.act.Procedure.TheVariants as procedure
 use Rattle.pulsar_plans.specs.declared.plan.At.TheVariants as at
-use Rattle.pulsar_plans.proofs.Arcs.{Arc, BatchArc, Begun, batch_cuts, batch_sends, batch_settles, batches_go, begins_send, begins_stop, builds_on, by_arcs, by_begun, copies_go, multi_goes, part_sends, sends, taken_settles}
+use Rattle.pulsar_plans.proofs.Arcs.{Arc, BatchArc, Begun, batch_cuts, batch_sends, batch_settles, batches_go, begins_send, begins_stop, builds_on, by_arcs, by_begun, copies_go, multi_goes, multi_sends, part_sends, sends, taken_settles}
 use Rattle.pulsar_laws.proofs.plans.Doing.{IsCommon, copy_does, multi_does}
 use Rattle.pulsar_producer.proofs.Arcs.{BuildArc, SendArc, draws, naming_rests, queued, sent_rests}
 
@@ -189,7 +189,10 @@ arc_fits (part_sends {h} d k b) = part_fits h k b
 arc_fits (batches_go d k) = batch_fits k
 arc_fits (batch_cuts rs i b) = reports_settle rs
 arc_fits (multi_goes {m} d k) = multi_does (λ a. is_own a ≡ true) common_own m (λ ask. refl) k
-arc_fits (copies_go k) = copy_does (λ a. is_own a ≡ true) common_own (λ ask. refl) (λ ask. refl) (λ n. refl) (λ x. send_own x) k
+arc_fits (multi_sends {share = None} k) = refl
+arc_fits (multi_sends {share = Some h} k) = refl
+arc_fits (copies_go k) = copy_does (λ a. is_own a ≡ true)
+    (record { common = common_own; multis = λ m ask. refl; turns = λ n. refl; takes = refl; sent = refl; failed = refl; sends = λ x. send_own x }) k
 arc_fits _ = refl
 
 pub told_fits : (plan : Plan) (u : Outcome) → Fits (told plan u)

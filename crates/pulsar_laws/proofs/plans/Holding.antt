@@ -183,7 +183,8 @@ copy_goes due_takes = idle refl refl tt
 copy_goes letter_hands = idle refl refl tt
 copy_goes no_letter_rests = idle refl refl tt
 copy_goes {w} {t} (handing_goes {s} {q} d k) =
-    idle refl refl (multi_does (PassesSo (Copying w t (copy.Handing s)) (Copying w t (copy.Handing q))) (common_idle _ _) Own (λ ask. tt) k)
+    idle refl refl (multi_does (PassesSo (Copying w t (copy.Handing s)) (Copying w t (copy.Handing q))) 
+    (common_idle (Copying w t (copy.Handing s)) (Copying w t (copy.Handing q))) Own (λ ask. tt) k)
 copy_goes (handed_sends k) = idle refl refl (refl, refl, refl, refl)
 copy_goes (handed_stores k) = idle refl refl tt
 copy_goes (handing_fails k) = idle refl refl tt
@@ -223,7 +224,8 @@ arc_goes asked_passes = record { has = λ m h. absurd (none_some h); waits = λ 
 arc_goes line_passes = record { has = λ m h. absurd (none_some h); waits = λ m h t. absurd (none_some h); passes = (refl, refl) }
 arc_goes asks_not = record { has = λ m h. absurd (none_some h); waits = λ m h t. absurd (none_some h); passes = (refl, refl) }
 arc_goes (multi_goes {w} {m} {share} {s} {q} d k) =
-    idle refl refl (multi_does (PassesSo (MultiSending w m share s) (MultiSending w m share q)) (common_idle _ _) m (λ ask. tt) k)
+    idle refl refl (multi_does (PassesSo (MultiSending w m share s) (MultiSending w m share q)) 
+    (common_idle (MultiSending w m share s) (MultiSending w m share q)) m (λ ask. tt) k)
 arc_goes (multi_sends {share = None} k) = idle refl refl (refl, refl, refl, refl)
 arc_goes (multi_sends {share = Some h} k) = idle refl refl (refl, refl, refl, refl)
 arc_goes (copies_go k) = copy_goes k

@@ -5,7 +5,7 @@ use Rattle.pulsar_laws.proofs.PlanWords.{Batches, batches_on, Batching, Errand, 
 use Rattle.pulsar_laws.proofs.RunWords.{Each, each_append, each_map, each_rest, follows, follows_some, rest_of, stays, stays_some, told_some}
 use Rattle.pulsar_laws.proofs.LinkWords.{Failure, OfConnection}
 use Rattle.pulsar_plans.specs.Plan.{fault_of, halted_with}
-use Rattle.pulsar_plans.specs.declared.plan.Plan.TheVariants.{Sending}
+use Rattle.pulsar_plans.specs.declared.plan.Plan.TheVariants.{Sending, MultiSending}
 use Rattle.pulsar_plans.specs.declared.plan.At.TheVariants as at
 use Rattle.pulsar_outgoing.specs.Batch.{cut_report, reports_from}
 use Rattle.pulsar_producer.specs.Batching as batches

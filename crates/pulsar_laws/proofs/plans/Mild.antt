@@ -24,13 +24,23 @@ use Rattle.pulsar_calls.specs.declared.act.Procedure.TheVariants as procedure
 use Rattle.pulsar_calls.specs.declared.act.Round.{Round}
 use Rattle.pulsar_calls.specs.declared.act.Round.TheVariants.{Closes}
 use Rattle.pulsar_calls.specs.declared.act.Word.TheVariants as word
-use Rattle.pulsar_plans.specs.declared.plan.Plan.TheVariants.{Getting, Searching, Sending}
+use Rattle.pulsar_outgoing.specs.declared.multi_topic.Multi.{Multi}
+use Rattle.pulsar_outgoing.specs.declared.multi_topic.Multi.TheVariants.{Own}
+use Rattle.pulsar_plans.proofs.CopyArcs.{CopyArc, handing_goes, sending_goes, settled_asks}
+use Rattle.pulsar_plans.proofs.MultiArcs.{BuildBegun, MultiSendArc, absent_builds, build_names, build_numbers, multi_builds, multi_rests}
+use Rattle.pulsar_plans.specs.declared.copying.CopyState.{CopyState}
+use Rattle.pulsar_plans.specs.declared.copying.CopyState.TheVariants as copy
+use Rattle.pulsar_producer.specs.declared.multi_topic.deed.MultiDeed.{MultiDeed}
+use Rattle.pulsar_producer.specs.declared.multi_topic.deed.MultiNews.{MultiNews}
+use Rattle.pulsar_producer.specs.declared.multi_topic.sending.MultiSending.{MultiSending as MultiSend}
+use Rattle.pulsar_producer.specs.declared.multi_topic.sending.MultiSending.TheVariants as multi_send
+use Rattle.pulsar_plans.specs.declared.plan.Plan.TheVariants.{Copying, Getting, MultiSending, Searching, Sending}
 use Rattle.pulsar_plans.specs.declared.service.Service.{Service}
 use Rattle.pulsar_plans.specs.declared.service.Service.TheVariants as service
-use Rattle.pulsar_plans.specs.Plan.{asks_of}
+use Rattle.pulsar_plans.specs.Plan.{asks_of, multi_action_of}
 use Rattle.pulsar_laws.specs.ConsumerLaws.{is_ack}
 use Rattle.pulsar_producer.proofs.Arcs.{BuildArc, SendArc, asks, building_rests, builds_on_asks, builds_on_gets, builds_on_waits, built_closes, closes_on, looked_makes, looking_rests, looks_on_asks, looks_on_gets, looks_on_waits, makes_on_asks, makes_on_gets, makes_on_waits, making_rests, names_on_asks, numbered_closes, numbered_makes, recalled_looks_asks, recalled_looks_gets, recalled_looks_waits, recalled_makes}
-use Rattle.pulsar_plans.proofs.Arcs.{Arc, BatchArc, Begun, StaysSo, batch_sends, batches_go, begins_acknowledge, begins_asking, begins_by, begins_getting, begins_produce_asks, begins_search_asks, begins_search_gets, begins_search_waits, begins_subscribe_asks, builds_on, departs_asks, ended_closes, flow_asks, found_asks, got_asks, over_closes, part_sends, recalled_resumes_asks, recalled_resumes_gets, recalled_resumes_waits, resumes_on_asks, resumes_on_gets, resumes_on_waits, search_rests, searches_asks, searches_gets, searches_waits, sends, serving_rests, stays_by, subscribed_numbers, subscribed_rests, subscribes_on_asks, subscribes_on_gets, subscribes_on_waits, subscribing_rests}
+use Rattle.pulsar_plans.proofs.Arcs.{Arc, BatchArc, Begun, StaysSo, batch_sends, batches_go, begins_acknowledge, begins_asking, begins_by, begins_getting, begins_produce_asks, begins_search_asks, begins_search_gets, begins_search_waits, begins_subscribe_asks, builds_on, copies_go, departs_asks, due_redelivers, ended_closes, flow_asks, found_asks, got_asks, multi_goes, over_closes, part_sends, recalled_resumes_asks, recalled_resumes_gets, recalled_resumes_waits, resumes_on_asks, resumes_on_gets, resumes_on_waits, search_rests, searches_asks, searches_gets, searches_waits, sends, serving_rests, stays_by, subscribed_numbers, subscribed_rests, subscribes_on_asks, subscribes_on_gets, subscribes_on_waits, subscribing_rests}
 use Rattle.pulsar_laws.proofs.plans.MildSearches.{Any, IsMildCommand, IsMildWish, MildSearch, MildSought, MildTurn, and_mild, look_mild, made_mild, names_begun, names_mild, own_ack, search_begun, search_mild}
 use Rattle.pulsar_searches.specs.declared.transition.Transition.TheVariants as transition
 
@@ -158,12 +168,28 @@ MildService service.Recalling = Unit {0}
 MildService (service.Reviving link) = Unit {0}
 MildService service.Failing = Unit {0}
 MildService service.Closing = Unit {0}
+MildService service.Redelivering = Unit {0}
 
 abbrev pub MildBatch : Batches → Type 0
 MildBatch (batching.Sending ms n s) = MildSend s
 MildBatch batching.Resting = Unit {0}
 MildBatch batching.Taking = Unit {0}
 MildBatch batching.Settling = Unit {0}
+
+abbrev pub MildMulti : MultiSend → Type 0
+MildMulti (multi_send.Building o m b) = MildBuild b
+MildMulti (multi_send.Waiting t m) = Unit {0}
+MildMulti multi_send.Handing = Unit {0}
+MildMulti (multi_send.Joining t m) = Unit {0}
+MildMulti (multi_send.Passing given) = Unit {0}
+
+abbrev pub MildCopy : CopyState → Type 0
+MildCopy (copy.Handing s) = MildMulti s
+MildCopy (copy.Sending e s) = MildSend s
+MildCopy copy.Resting = Unit {0}
+MildCopy copy.Taking = Unit {0}
+MildCopy copy.Settling = Unit {0}
+MildCopy copy.Asking = Unit {0}
 
 abbrev pub MildPlan : Plan → Type 0
 MildPlan (Getting request s) = is_ack request ≡ false
@@ -173,14 +199,18 @@ MildPlan (Sending w e share s) = MildSend s
 MildPlan (Batching w e b) = MildBatch b
 MildPlan (Subscribing w o b) = MildConsumer b
 MildPlan (Serving w n s) = MildService s
+MildPlan (MultiSending w m share s) = MildMulti s
+MildPlan (Copying w t s) = MildCopy s
 MildPlan _ = Unit {0}
 
 abbrev pub IsMildTurn : Plan → Action → Type 0
 IsMildTurn plan action = MildPlan plan × IsMild action
 
+-- and what it is to ask for of a consumer is no acknowledgement
 abbrev pub MildOutcome : Outcome → Type 0
 MildOutcome (outcome.Word (word.Recalled c)) = IsMildCommand c
 MildOutcome (outcome.Granted (news.Recalled c)) = IsMildCommand c
+MildOutcome (outcome.Word (word.Asks l request)) = is_ack request ≡ false
 MildOutcome _ = Unit {0}
 
 news_mild : (u : Outcome) → MildOutcome u → MildNews (news_of u)
@@ -192,6 +222,26 @@ batch_mild : {w : Ways} {e : Errand} {b q : Batches} {y : News} {d : Deed} → B
     MildBatch q × IsMild (action_of d)
 batch_mild (batch_sends e) k h = send_mild e k h
 batch_mild _ k h = (tt, refl)
+
+begun_build_mild : {w : Ways} {o : ProducerOrder} {b : Build} {d : Deed} → BuildBegun w o b d → MildBuild b × IsMild (action_of d)
+begun_build_mild (build_names (wish.Get at) e) = (tt, refl)
+begun_build_mild {w} {o} (build_names (wish.Ask l request) e) = (tt, asks_so Any (search.names_begins w o.topic) (names_begun w o.topic) e)
+begun_build_mild (build_names (wish.Wait delay) e) = (tt, refl)
+begun_build_mild (build_numbers n left) = (tt, refl)
+
+multi_mild : {w : Ways} {s q : MultiSend} {y : MultiNews} {d : MultiDeed} (m : Multi) → MultiSendArc w s y q d → MildMulti s →
+    MildMulti q × IsMild (multi_action_of m d)
+multi_mild m (absent_builds e) k = begun_build_mild e
+multi_mild m (multi_builds e) k = build_mild e k
+multi_mild m multi_rests k = (k, refl)
+multi_mild m _ k = (tt, refl)
+
+copy_mild : {w : Ways} {t : List ℕ} {s q : CopyState} {u : Outcome} {a : Action} → CopyArc w t s u q a → MildCopy s → MildNews (news_of u) → MildOutcome u →
+    MildCopy q × IsMild a
+copy_mild (handing_goes d e) k y h = multi_mild Own e k
+copy_mild (sending_goes d e) k y h = send_mild e k y
+copy_mild settled_asks k y h = (tt, h)
+copy_mild _ k y h = (tt, refl)
 
 asks_mild : (r : Round) (n : ℕ) → is_ack (asks_of r n) ≡ false
 asks_mild Checks n = refl
@@ -228,6 +278,9 @@ arc_mild (resumes_on_gets i) k y h = (k, refl)
 arc_mild (resumes_on_asks {w} {s} {u} i) k y h =
     (k, asks_so Any (consume.resume_told w s.command s.resuming (news_in u)) (resume_mild w s.command s.resuming (news_in u) k) i)
 arc_mild (resumes_on_waits i) k y h = (k, refl)
+arc_mild due_redelivers k y h = (tt, h)
+arc_mild (multi_goes {m} d e) k y h = multi_mild m e k
+arc_mild (copies_go e) k y h = copy_mild e k y h
 arc_mild _ k y h = (tt, refl)
 
 pub told_mild : (plan : Plan) (u : Outcome) → MildPlan plan → MildOutcome u → StaysSo IsMildTurn (told plan u)

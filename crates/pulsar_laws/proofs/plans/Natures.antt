@@ -9,7 +9,7 @@ use Rattle.pulsar_outgoing.specs.declared.news.News.TheVariants as news
 use Rattle.pulsar_calls.specs.declared.act.Outcome.TheVariants as outcome
 use Rattle.pulsar_plans.specs.declared.plan.Plan.TheVariants.{Gathering}
 use Rattle.pulsar_plans.specs.Plan.{told_of}
-use Rattle.pulsar_plans.proofs.Arcs.{Arc, BatchArc, Begun, batch_cuts, batch_sends, batch_settles, batches_go, begins_leaving, builds_on, copies_go, multi_goes, part_fails, part_halts, part_sends, part_stores, part_tells, sends, taken_settles}
+use Rattle.pulsar_plans.proofs.Arcs.{Arc, BatchArc, Begun, batch_cuts, batch_sends, batch_settles, batches_go, begins_leaving, builds_on, copies_go, multi_goes, multi_halts, multi_leaves, part_fails, part_halts, part_sends, part_stores, part_tells, sends, taken_settles}
 use Rattle.pulsar_laws.proofs.plans.Doing.{IsCommon, copy_does, multi_does}
 use Rattle.pulsar_producer.proofs.Arcs.{BuildArc, SendArc, draws, naming_rests}
 use Rattle.pulsar_outgoing.specs.Batch.{member_of, reports}
@@ -90,7 +90,10 @@ arc_tells part_stores = (refl, refl)
 arc_tells (batches_go d k) = batch_tells k
 arc_tells (batch_cuts rs i b) = reports_tell rs
 arc_tells (multi_goes {m} d k) = multi_does TellsSo common_tells m (λ ask. tt) k
-arc_tells (copies_go k) = copy_does TellsSo common_tells (λ ask. tt) (λ ask. tt) (λ n. tt) (λ x. send_tells x) k
+arc_tells (multi_leaves k) = (refl, refl)
+arc_tells (multi_halts b) = (refl, refl)
+arc_tells (copies_go k) = copy_does TellsSo
+    (record { common = common_tells; multis = λ m ask. tt; turns = λ n. tt; takes = tt; sent = tt; failed = tt; sends = λ x. send_tells x }) k
 arc_tells _ = tt
 
 pub begun_tells : {p : Procedure} {q : Plan} {a : Action} → Begun p q a → TellsSo a

@@ -14,7 +14,7 @@ use Rattle.pulsar_producer.specs.Plans as produce
 use Rattle.pulsar_producer.specs.declared.batching.Batching.TheVariants as batch
 use Rattle.pulsar_producer.specs.declared.batching.Goes.{Goes}
 use Rattle.pulsar_plans.specs.Plan.{goes_on_sending, halted}
-use Rattle.pulsar_plans.specs.declared.plan.Plan.TheVariants.{Batching, Producing, Searching, Sending, Serving, Subscribing}
+use Rattle.pulsar_plans.specs.declared.plan.Plan.TheVariants.{Batching, Producing, Searching, Sending, Serving, Subscribing, Copying, MultiSending}
 use Rattle.pulsar_plans.proofs.Arcs.{Arc, BatchArc, Begun, StaysSo, batch_sends, batches_go, begins_by, begins_produce_asks, begins_produce_gets, begins_produce_waits, begins_search_asks, begins_search_gets, begins_search_waits, begins_subscribe_asks, begins_subscribe_gets, begins_subscribe_waits, builds_on, part_sends, recalled_resumes_asks, recalled_resumes_gets, recalled_resumes_waits, resumes_on_asks, resumes_on_gets, resumes_on_waits, search_rests, searches_asks, searches_gets, searches_waits, sends as sends_on, serving_rests, stays_by, subscribed_numbers, subscribed_rests, subscribes_on_asks, subscribes_on_gets, subscribes_on_waits, subscribing_rests}
 use Rattle.pulsar_laws.proofs.Cases.{cond_so}
 use Rattle.pulsar_laws.proofs.calls.Same.{same_self}
@@ -39,6 +39,8 @@ staged (Sending w e share s) st h = (w, refl)
 staged (Batching w e b) st h = (w, refl)
 staged (Subscribing w o b) st h = (w, refl)
 staged (Serving w n s) st h = (w, refl)
+staged (MultiSending w m share s) st h = (w, refl)
+staged (Copying w t s) st h = (w, refl)
 staged _ st h = absurd cc
 
 module _ (x : Operation) where

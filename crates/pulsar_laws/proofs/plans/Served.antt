@@ -1,5 +1,6 @@
 -- Only the plan of a consumer serves one, and only that takes flows, and subscribes a consumer again, where it is told a reply.
 use Rattle.std.proofs.Common.{◌≡◌, inl, inr, ◌∙◌, sym, ap, subst, ℕ, List, ◌∷◌, refl, Bool, true, false, Some}
+use Rattle.pulsar_laws.proofs.plans.Doing.{IsCommon, IsCopied, copy_does, multi_does}
 use Rattle.pulsar_laws.proofs.ActWords.{Action, Call, Consumer, Does, Outcome, Procedure, Producer, Revive, TakeFlow, Told, Who, OfConsumer}
 use Rattle.pulsar_laws.proofs.PlanWords.{action_of, Deed, Plan, PlanTransition, Stays, told}
 use Rattle.pulsar_laws.proofs.RunWords.{Entry, IsRun, notice, Options, Then, view}
@@ -7,7 +8,7 @@ use Rattle.pulsar_laws.proofs.LinkWords.{Reply}
 use Rattle.pulsar_calls.specs.declared.act.Outcome.TheVariants as outcome
 use Rattle.pulsar_searches.specs.declared.turn.Action.TheVariants as wish
 use Rattle.pulsar_producer.specs.declared.deed.Deed.TheVariants as deed
-use Rattle.pulsar_plans.proofs.Arcs.{begun_arc, told_arc, Arc, batches_go, Begun, begins_build, builds_on, got_asks, part_sends, recalled_revives, resumed_revives, sends}
+use Rattle.pulsar_plans.proofs.Arcs.{begun_arc, told_arc, Arc, batches_go, Begun, begins_build, builds_on, got_asks, part_sends, recalled_revives, resumed_revives, sends, copies_go, multi_goes}
 use Rattle.pulsar_laws.proofs.plans.Standing.{run_older, stands_so}
 use Rattle.pulsar_laws.proofs.plans.Batchers.{batcher_does}
 use Rattle.pulsar_laws.proofs.plans.Granted.{BeginsSo, IsLedSo, does_from}
@@ -72,6 +73,33 @@ deed_not (deed.Does (wish.Ask l request)) h = cc
 deed_not (deed.Does (wish.Wait delay)) h = cc
 deed_not _ h = cc
 
+deed_revives_none : (d : Deed) → is_revive (action_of d) ≡ false
+deed_revives_none (deed.Does (wish.Get p)) = refl
+deed_revives_none (deed.Does (wish.Ask l request)) = refl
+deed_revives_none (deed.Does (wish.Wait delay)) = refl
+deed_revives_none _ = refl
+
+common_not : IsCommon (λ a. is_revive a ≡ false)
+common_not = record {
+  gets = λ at. refl;
+  asks = λ l request. refl;
+  waits = λ delay. refl;
+  numbers = refl;
+  rests = refl;
+  builds = λ {w} {o} {b} {q} {y} {d} k. deed_revives_none d;
+}
+
+copies_not : IsCopied (λ a. is_revive a ≡ false)
+copies_not = record {
+  common = common_not;
+  multis = λ m ask. refl;
+  turns = λ n. refl;
+  takes = refl;
+  sent = refl;
+  failed = refl;
+  sends = λ {w} {e} {s} {q} {y} {d} k. deed_revives_none d;
+}
+
 arc_revived : {p q : Plan} {u : Outcome} {a : Action} → Arc p u q a → is_revive a ≡ true → is_reviving q ≡ true
 arc_revived recalled_revives h = refl
 arc_revived resumed_revives h = refl
@@ -79,6 +107,8 @@ arc_revived (builds_on d k) h = absurd (deed_not d h)
 arc_revived (sends d k) h = absurd (deed_not d h)
 arc_revived (part_sends d k b) h = absurd (deed_not d h)
 arc_revived (batches_go d k) h = absurd (deed_not d h)
+arc_revived (multi_goes {m} d k) h = absurd (let f : true ≡ false = sym h ∙ multi_does (λ a. is_revive a ≡ false) common_not m (λ ask. refl) k in cc)
+arc_revived (copies_go k) h = absurd (let f : true ≡ false = sym h ∙ copy_does (λ a. is_revive a ≡ false) copies_not k in cc)
 arc_revived _ h = absurd cc
 
 -- its plan was told a reply right before, and stands so then

@@ -46,7 +46,8 @@ IsServer plan action = (is_server plan ≡ true) × (is_discreet action ≡ true
 arc_server : {p q : Plan} {u : Outcome} {a : Action} → Arc p u q a → is_server p ≡ true → IsServer q a
 arc_server flowed_takes h = (refl, refl)
 arc_server (copies_go k) h =
-    (refl, copy_does (λ a. is_discreet a ≡ true) common_discreet (λ ask. refl) (λ ask. refl) (λ n. refl) (λ x. send_discreet x) k)
+    (refl, copy_does (λ a. is_discreet a ≡ true)
+    (record { common = common_discreet; multis = λ m ask. refl; turns = λ n. refl; takes = refl; sent = refl; failed = refl; sends = λ x. send_discreet x }) k)
 arc_server _ h = (cc, cc)
 
 -- and the one that serves it touches no producer
@@ -79,11 +80,11 @@ begun_service begins_serve h = (refl, refl)
 begun_service _ h = absurd cc
 
 own_serves : (n key : ℕ) (p : Procedure) → OwnService n key p → is_serve p ≡ true
-own_serves n key p (inl k) = ap is_serve k.2.1
-own_serves n key p (inr k) = ap is_serve k.2.2.1
+own_serves n key p (inl k) = ap is_serve k.2
+own_serves n key p (inr k) = ap is_serve k.3
 
 own_service : (n : ℕ) (p : Procedure) → OwnService n 0 p → serves_it p ≡ true
-own_service n p (inl k) = ap serves_it k.2.1
+own_service n p (inl k) = ap serves_it k.2
 own_service n p (inr k) = absurd (let some = k.0 in omega (arith, some))
 
 module _ (o : Options) (n t key : ℕ) where
@@ -111,8 +112,8 @@ server_stands o log n t key plan run h = stands o n t key log plan run h
 pub serve_goes_on : (o : Options) (log : List Entry) (n t key : ℕ) (p : Procedure) (v : Verdict) →
     IsRun o (Then (Starts (Consumer n t key) p) ∷ log) → begins p ≡ Gives v → ⊥
 serve_goes_on o log n t key p v run e = elim (starts_so o log (Consumer n t key) p run) [
-  | inl k ↦ (let f : begins (procedure.Serve k.1 n) ≡ Gives v = ap begins (sym k.2.1) ∙ e in absurd cc)
-  | inr k ↦ (let f : begins (procedure.Copy k.1 k.2.0) ≡ Gives v = ap begins (sym k.2.2.1) ∙ e in absurd cc)
+  | inl k ↦ (let f : begins (procedure.Serve k.1 n) ≡ Gives v = ap begins (sym k.2) ∙ e in absurd cc)
+  | inr k ↦ (let f : begins (procedure.Copy k.1 k.2) ≡ Gives v = ap begins (sym k.3) ∙ e in absurd cc)
 ]
 
 -- whatever they do tells nobody, and stores nothing

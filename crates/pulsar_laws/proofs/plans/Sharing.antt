@@ -66,7 +66,8 @@ pub multi_mute : {w : Ways} {s q : MultiSend} {y : MultiNews} {d : MultiDeed} (m
 multi_mute m k = multi_does (λ a. is_tell a ≡ false) common_mute m (λ ask. refl) k
 
 pub copy_mute : {w : Ways} {t : List ℕ} {s q : CopyState} {u : Outcome} {a : Action} → CopyArc w t s u q a → is_tell a ≡ false
-copy_mute k = copy_does (λ a. is_tell a ≡ false) common_mute (λ ask. refl) (λ ask. refl) (λ n. refl) (λ x. send_mute x) k
+copy_mute k = copy_does (λ a. is_tell a ≡ false)
+    (record { common = common_mute; multis = λ m ask. refl; turns = λ n. refl; takes = refl; sent = refl; failed = refl; sends = λ x. send_mute x }) k
 
 arc_shares : {p q : Plan} {u : Outcome} {a : Action} → Arc p u q a → SharesSo (shares_of p) q a
 arc_shares (builds_on {w} {o} {b} {q} {u} d k) =

@@ -2,13 +2,14 @@
 -- where its procedure begins so and each outcome keeps it.
 use Rattle.std.proofs.Common.{◌≡◌, ◌⊎◌, inl, inr, ◌∙◌, sym, ap, subst, ℕ, ◌≤◌, arith, List, [], ◌∷◌, refl, Bool, true, false, cond, Option, Some, None}
 use Rattle.std.proofs.lemmas.Bool.{cases_Bool}
-use Rattle.pulsar_laws.proofs.ActWords.{Act, Action, Answers, Call, Consumer, is_same, Outcome, Procedure, Producer, Starts, Told, Who}
+use Rattle.pulsar_laws.proofs.ActWords.{Act, Action, Answers, Call, Consumer, Does, is_same, OfMulti, Outcome, Procedure, Producer, Starts, Told, Who}
 use Rattle.pulsar_laws.proofs.PlanWords.{begins, Gives, Plan, PlanTransition, Stays, told, Ways}
 use Rattle.pulsar_laws.proofs.RunWords.{agenda, at_once, Begins, begun_same, counted, Each, each_append, each_first, each_map, each_rest, Entry, is_served, IsRun, notice, Options, rest, start_of, started, stays, stays_some, Then, told_some, view, View, ways_of}
 use Rattle.pulsar_calls.specs.declared.act.Procedure.TheVariants as procedure
 use Rattle.pulsar_client.proofs.Raising.{IsRaised, raises}
 use Rattle.pulsar_laws.proofs.Cases.{none_some}
 use Rattle.pulsar_laws.proofs.plans.Drawn.{next, positive}
+use Rattle.pulsar_laws.proofs.plans.AtOnce.{once_each, performs_once}
 use Rattle.pulsar_laws.proofs.plans.Left.{left_each}
 use Rattle.pulsar_laws.proofs.calls.Same.{same_self, same_who}
 
@@ -31,12 +32,14 @@ served_own : (a : Act) → is_served a ≡ true → IsOwn a
 served_own (Starts who p) h = absurd cc
 served_own _ h = tt
 
-abbrev is_verdict : Act → Bool
-is_verdict (Answers who verdict) = true
-is_verdict _ = false
+abbrev begins_others : Act → Bool
+begins_others (Answers who verdict) = true
+begins_others (Does who (OfMulti m ask)) = true
+begins_others _ = false
 
-raised_own : (a b : Act) → is_verdict a ≡ false → IsRaised a b → IsOwn b
+raised_own : (a b : Act) → begins_others a ≡ false → IsRaised a b → IsOwn b
 raised_own (Answers who verdict) b other h = absurd cc
+raised_own (Does who (OfMulti m ask)) b other h = absurd cc
 raised_own a (Starts (Producer n) p) other h = absurd cc
 raised_own a (Starts (Consumer n t key) p) other h = absurd cc
 raised_own a _ other h = tt
@@ -45,6 +48,8 @@ once_own : (v : View) (a : Act) → 1 ≤ next v → Each IsOwn (at_once v a)
 once_own v (Answers who verdict) key =
     left_each IsOwn (ways_of v.chosen) (next v) who verdict.makes (λ w e s. (w, e.block, refl)) (λ w n t s. inl (refl, w, refl))
     (λ w n t topic s. inr (key, w, topic, refl))
+once_own v (Does who (OfMulti m ask)) key =
+    once_each IsOwn (λ u k b. tt) (λ p. tt) (λ l. tt) (λ w e s. (w, e.block, refl)) (performs_once v who (OfMulti m ask))
 once_own v a key = each_map (IsRaised a) IsOwn (at_once v a) (λ b. raised_own a b refl) (raises v a)
 
 own_due : (o : Options) (log : List Entry) → IsRun o log → Each IsOwn (agenda o log).now

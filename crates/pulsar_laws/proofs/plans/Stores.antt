@@ -1,5 +1,5 @@
 -- Only a call that begins so stores a message: its own.
-use Rattle.std.proofs.Common.{◌≡◌, ℕ, List, [], ◌∷◌, refl, Bool, true, false, Option, Some, None, ◌==◌, ◌∙◌, ap, subst, inl, inr, ◌+◌, drop, length}
+use Rattle.std.proofs.Common.{◌≡◌, ◌⊎◌, Ok, ℕ, List, [], ◌∷◌, refl, Bool, true, false, Option, Some, None, ◌==◌, ◌∙◌, ap, subst, inl, inr, ◌+◌, drop, length}
 use Rattle.std.specs.Prelude.{not}
 use Rattle.pulsar_calls.specs.declared.act.Procedure.TheVariants as procedure
 use Rattle.std.specs.Option.{is_some}
@@ -13,14 +13,14 @@ use Rattle.pulsar_searches.specs.declared.plan.Sought.TheVariants as sought
 use Rattle.pulsar_outgoing.specs.Batch.{entry_of}
 use Rattle.pulsar_outgoing.specs.Wanted.{ProducerWanted}
 use Rattle.pulsar_laws.proofs.Cases.{cond_so}
-use Rattle.pulsar_laws.specs.BatchLaws.{BringsEntry, StoredAtOnce}
+use Rattle.pulsar_laws.specs.BatchLaws.{IsHandedOn, BringsEntry, StoredAtOnce}
 use Rattle.pulsar_calls.specs.declared.act.CallRefusal.TheVariants as refusal
 use Rattle.pulsar_calls.specs.declared.act.Says.TheVariants as says
 use Rattle.pulsar_calls.specs.Content as content
 use Rattle.pulsar_calls.specs.Content.{sent_by}
 use Rattle.pulsar_producer_table.specs.Producers.{Producers, advice, batches_in, errand_of, numbers_at, routed, why_not}
 use Rattle.pulsar_acts.specs.Rules.{call_part}
-use Rattle.pulsar_laws.proofs.plans.Granted.{BeginsSo, does_from, in_each}
+use Rattle.pulsar_laws.proofs.plans.Granted.{IsLedSo, BeginsSo, does_from, in_each}
 use Rattle.pulsar_laws.proofs.calls.Made.{calls_are_made_lem}
 use Rattle.pulsar_plans.proofs.Arcs.{Arc, BatchArc, Begun, StaysSo, batch_sends, batches_go, begins_storing, builds_on, by_begun, copies_go, multi_goes, multi_stores, part_sends, sends as sends_on, stays_by}
 use Rattle.pulsar_laws.proofs.plans.Doing.{IsCommon, copy_does, multi_does}
@@ -69,7 +69,8 @@ arc_stores (part_sends d k b) = inl (send_none k)
 arc_stores (batches_go d k) = inl (batch_none k)
 arc_stores (multi_goes {m} d k) = inl (multi_does (λ a. is_store a ≡ false) common_none m (λ ask. refl) k)
 arc_stores (multi_stores {w} {m} {share} {n = n} {x = x} passed_gives) = inr (w, m, share, n, x, refl, refl)
-arc_stores (copies_go k) = inl (copy_does (λ a. is_store a ≡ false) common_none (λ ask. refl) (λ ask. refl) (λ n. refl) (λ x. send_none x) k)
+arc_stores (copies_go k) = inl (copy_does (λ a. is_store a ≡ false)
+    (record { common = common_none; multis = λ m ask. refl; turns = λ n. refl; takes = refl; sent = refl; failed = refl; sends = λ x. send_none x }) k)
 arc_stores _ = inl refl
 
 told_stores : (plan : Plan) (u : Outcome) → StaysSo (StoresSo plan) (told plan u)

@@ -1,5 +1,6 @@
 -- A subscription is made on a link that takes what is asked there: one step of a plan.
 use Rattle.std.proofs.Common.{◌≡◌, ◌⊎◌, inl, inr, ◌∙◌, sym, ap, ℕ, List, refl, Bool, true, false, cond, Option, Some, None, Result, Ok, Err}
+use Rattle.pulsar_laws.proofs.plans.Doing.{IsCommon, IsCopied, copy_does, multi_does}
 use Rattle.std.specs.Prelude.{not}
 use Rattle.pulsar_laws.proofs.ActWords.{Action, Ask, Makes, Outcome, Procedure, Rest, Revive, TakeFlow, Verdict, Word, OfConsumer}
 use Rattle.pulsar_laws.proofs.PlanWords.{action_of, Asking, Awaiting, begins, Command, Deed, Gives, Heard as News, is_answer, Looking, Making, Naming, news_in, overrides, Plan, PlanTransition, SearchTransition, Served, Serving, Stays, Subscribing, told, Ways, Wish}
@@ -28,7 +29,7 @@ use Rattle.pulsar_plans.specs.declared.service.Service.TheVariants as service
 use Rattle.pulsar_plans.specs.declared.states.Resubscribing.{Resubscribing}
 use Rattle.pulsar_plans.specs.Plan.{consumer_news_of, in_recalling, in_resting, in_resuming, in_reviving, in_subscribing, in_taking, makes_of, resting_hears, resubscribes, subscribes, told_service, wished}
 use Rattle.pulsar_laws.proofs.Cases.{cond_so}
-use Rattle.pulsar_plans.proofs.Arcs.{Arc, Begun, BegunEnd, End, answers, batches_go, begins_asking, begins_none, begins_not, builds_on, by_arcs, by_begun, departs_asks, got_asks, part_sends, queued_waits, sends, stands_on}
+use Rattle.pulsar_plans.proofs.Arcs.{Arc, Begun, BegunEnd, End, answers, batches_go, begins_asking, begins_none, begins_not, builds_on, by_arcs, by_begun, departs_asks, got_asks, part_sends, queued_waits, sends, stands_on, begins_multi, copies_go, multi_goes}
 use Rattle.pulsar_laws.proofs.plans.Servers.{is_server}
 use Rattle.pulsar_searches.specs.declared.transition.Transition.TheVariants as transition
 
@@ -354,6 +355,7 @@ service_on w n (service.Resuming s) u = resuming_on w n s u
 service_on w n (service.Reviving l) u = reviving_on w n l u
 service_on w n service.Failing u = tt
 service_on w n service.Closing u = tt
+service_on w n service.Redelivering u = (tt, tt, tt)
 
 -- ALL
 
@@ -365,6 +367,21 @@ subscribes_one _ = false
 abbrev PlainArc : Plan → Action → Type 0
 PlainArc q a = Waits q × (asks_on q ≡ None) × (is_inner a ≡ false)
 
+common_plain : IsCommon (λ a. is_inner a ≡ false)
+common_plain =
+    record { gets = λ at. refl; asks = λ l request. refl; waits = λ delay. refl; numbers = refl; rests = refl; builds = λ {w} {o} {b} {q} {y} {d} k. deed_plain d }
+
+copies_plain : IsCopied (λ a. is_inner a ≡ false)
+copies_plain = record {
+  common = common_plain;
+  multis = λ m ask. refl;
+  turns = λ n. refl;
+  takes = refl;
+  sent = refl;
+  failed = refl;
+  sends = λ {w} {e} {s} {q} {y} {d} k. deed_plain d;
+}
+
 arc_plain : {p q : Plan} {u : Outcome} {a : Action} → Arc p u q a → subscribes_one p ≡ false → Waits p → PlainArc q a
 arc_plain (got_asks {request} {l = l}) s k = (makes_plain l (subscribed request), refl, refl)
 arc_plain queued_waits s k = (k, refl, refl)
@@ -374,6 +391,8 @@ arc_plain (builds_on d e) s k = (tt, refl, deed_plain d)
 arc_plain (sends d e) s k = (tt, refl, deed_plain d)
 arc_plain (part_sends d e b) s k = (tt, refl, deed_plain d)
 arc_plain (batches_go d e) s k = (tt, refl, deed_plain d)
+arc_plain (multi_goes {m} d e) s k = (tt, refl, multi_does (λ a. is_inner a ≡ false) common_plain m (λ ask. refl) e)
+arc_plain (copies_go e) s k = (tt, refl, copy_does (λ a. is_inner a ≡ false) copies_plain e)
 arc_plain _ s k = (tt, cc, cc)
 
 end_plain : {p : Plan} {u : Outcome} {v : Verdict} → End p u v → subscribes_one p ≡ false → Waits p → is_consumer v.makes ≡ false
@@ -397,6 +416,7 @@ begun_plain _ = (tt, refl, refl)
 begun_end : {p : Procedure} {v : Verdict} → BegunEnd p v → is_consumer v.makes ≡ false
 begun_end (begins_not x) = refl
 begun_end begins_none = refl
+begun_end begins_multi = refl
 
 pub begins_plain : (p : Procedure) → Plain (begins p)
 begins_plain p = by_begun Plain p (λ q a e. begun_plain e) (λ v e. begun_end e)

@@ -40,7 +40,8 @@ arc_takes (part_sends d k b) h = send_takes k
 arc_takes (batches_go d k) h = absurd cc
 arc_takes (batch_cuts rs i b) h = absurd cc
 arc_takes (multi_goes {m} d k) h = multi_does (λ a. is_taker a ≡ false) common_takes m (λ ask. refl) k
-arc_takes (copies_go k) h = copy_does (λ a. is_taker a ≡ false) common_takes (λ ask. refl) (λ ask. refl) (λ n. refl) (λ x. send_takes x) k
+arc_takes (copies_go k) h = copy_does (λ a. is_taker a ≡ false)
+    (record { common = common_takes; multis = λ m ask. refl; turns = λ n. refl; takes = refl; sent = refl; failed = refl; sends = λ x. send_takes x }) k
 arc_takes _ h = refl
 
 told_takes : (plan : Plan) (u : Outcome) → is_batching plan ≡ false → StaysSo NoTake (told plan u)

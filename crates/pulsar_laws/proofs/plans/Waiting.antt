@@ -32,10 +32,19 @@ use Rattle.pulsar_consumer.specs.declared.building.News.TheVariants as consumer_
 use Rattle.pulsar_consumer.specs.declared.resuming.Resuming.{Resuming}
 use Rattle.pulsar_consumer.specs.declared.resuming.Resuming.TheVariants as resume
 use Rattle.pulsar_incoming.specs.declared.orders.ConsumerOrder.{ConsumerOrder}
-use Rattle.pulsar_plans.specs.declared.plan.Plan.TheVariants.{Searching, Sending}
+use Rattle.pulsar_plans.specs.declared.plan.Plan.TheVariants.{Searching, Sending, Copying, MultiSending}
 use Rattle.pulsar_acts.specs.View.{ways_from}
 use Rattle.pulsar_laws.proofs.Cases.{cond_so, none_some, some_is}
-use Rattle.pulsar_plans.proofs.Arcs.{Arc, BatchArc, Begun, StaysSo, batch_sends, batches_go, begins_by, begins_produce_waits, begins_search_waits, begins_subscribe_waits, builds_on, part_fails, part_halts, part_sends, recalled_resumes_waits, resumes_on_waits, searches_waits, sends as sends_on, stays_by, subscribes_on_waits}
+use Rattle.pulsar_plans.proofs.Arcs.{Arc, BatchArc, Begun, StaysSo, batch_sends, batches_go, begins_by, begins_produce_waits, begins_search_waits, begins_subscribe_waits, builds_on, part_fails, part_halts, part_sends, recalled_resumes_waits, resumes_on_waits, searches_waits, sends as sends_on, stays_by, subscribes_on_waits, copies_go, multi_goes, multi_halts, multi_leaves, multi_stores}
+use Rattle.pulsar_outgoing.specs.declared.multi_topic.Multi.{Multi}
+use Rattle.pulsar_outgoing.specs.declared.multi_topic.Multi.TheVariants.{Own}
+use Rattle.pulsar_plans.proofs.CopyArcs.{CopyArc, handing_goes, sending_goes}
+use Rattle.pulsar_plans.proofs.MultiArcs.{BuildBegun, MultiSendArc, absent_builds, build_names, build_numbers, multi_builds}
+use Rattle.pulsar_plans.specs.Plan.{multi_action_of}
+use Rattle.pulsar_plans.specs.declared.copying.CopyState.{CopyState}
+use Rattle.pulsar_producer.specs.declared.multi_topic.deed.MultiDeed.{MultiDeed}
+use Rattle.pulsar_producer.specs.declared.multi_topic.deed.MultiNews.{MultiNews}
+use Rattle.pulsar_producer.specs.declared.multi_topic.sending.MultiSending.{MultiSending as MultiSend}
 use Rattle.pulsar_producer.proofs.Arcs.{BuildArc, SendArc, builds_on_waits, looks_on_waits, makes_on_waits, names_on_waits, recalled_looks_waits}
 use Rattle.pulsar_laws.proofs.plans.Failures.{start_made, started_made}
 use Rattle.pulsar_laws.proofs.plans.Granted.{BeginsSo, IsLedSo, does_from}
@@ -202,6 +211,8 @@ ways_at (Reporting w e) = Some w
 ways_at (Batching w e b) = Some w
 ways_at (Subscribing w o b) = Some w
 ways_at (Serving w n s) = Some w
+ways_at (MultiSending w m share s) = Some w
+ways_at (Copying w t s) = Some w
 ways_at _ = None
 
 -- it waits so long as the ways of the one before say
@@ -228,6 +239,22 @@ batch_waits : {w : Ways} {e : Errand} {b q : Batches} {y : News} {d : Deed} → 
 batch_waits (batch_sends k) = send_waits k
 batch_waits _ = tt
 
+begun_build_waits : {w : Ways} {o : ProducerOrder} {b : Build} {d : Deed} → BuildBegun w o b d → WaitSo (Some w) (action_of d)
+begun_build_waits (build_names (wish.Get at) e) = tt
+begun_build_waits (build_names (wish.Ask l request) e) = tt
+begun_build_waits {w} {o} (build_names (wish.Wait delay) e) = (w, refl, subst (WaitsBy w) e (names_begin w o.topic))
+begun_build_waits (build_numbers n left) = tt
+
+multi_waits : {w : Ways} {s q : MultiSend} {y : MultiNews} {d : MultiDeed} (m : Multi) → MultiSendArc w s y q d → WaitSo (Some w) (multi_action_of m d)
+multi_waits m (absent_builds k) = begun_build_waits k
+multi_waits m (multi_builds k) = build_arc_waits k
+multi_waits m _ = tt
+
+copy_waits : {w : Ways} {t : List ℕ} {s q : CopyState} {u : Outcome} {a : Action} → CopyArc w t s u q a → WaitSo (Some w) a
+copy_waits (handing_goes d k) = multi_waits Own k
+copy_waits (sending_goes d k) = send_waits k
+copy_waits _ = tt
+
 arc_ways : {p q : Plan} {u : Outcome} {a : Action} → Arc p u q a → WaysSo (ways_at p) q a
 arc_ways (searches_waits {w} {s} {u} i) = record { keeps = λ x h. h; waits = (w, refl, subst (WaitsBy w) i (search_waits w s (news_in u))) }
 arc_ways (builds_on d k) = record { keeps = λ x h. h; waits = build_arc_waits k }
@@ -240,6 +267,11 @@ arc_ways (subscribes_on_waits {w} {o} {b} {y = n} j i) = record { keeps = λ x h
 arc_ways (recalled_resumes_waits {w} i) = record { keeps = λ x h. h; waits = (w, refl, subst (WaitsBy w) i (resume_begin w)) }
 arc_ways (resumes_on_waits {w} {s} {u} i) =
     record { keeps = λ x h. h; waits = (w, refl, subst (WaitsBy w) i (resume_waits w s.command s.resuming (news_in u))) }
+arc_ways (multi_goes {m} d k) = record { keeps = λ x h. h; waits = multi_waits m k }
+arc_ways (multi_stores k) = record { keeps = λ x h. absurd (none_some h); waits = tt }
+arc_ways (multi_leaves k) = record { keeps = λ x h. absurd (none_some h); waits = tt }
+arc_ways (multi_halts b) = record { keeps = λ x h. absurd (none_some h); waits = tt }
+arc_ways (copies_go k) = record { keeps = λ x h. h; waits = copy_waits k }
 arc_ways _ = record { keeps = λ x h. h; waits = tt }
 
 told_ways : (p : Plan) (u : Outcome) → StaysSo (WaysSo (ways_at p)) (told p u)

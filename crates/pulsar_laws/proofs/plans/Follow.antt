@@ -7,7 +7,7 @@ use Rattle.pulsar_laws.proofs.RunWords.{agenda, Answered, at_once, Begins, begun
 use Rattle.pulsar_laws.specs.Laws.{AnswersOnce, Deed, PlansFollow, acted, course, deed_of, deeds, outcomes, verdicts_in}
 use Rattle.pulsar_client.proofs.Acts.{each_drop, starts_in}
 use Rattle.pulsar_laws.proofs.plans.Left.{left_each}
-use Rattle.pulsar_laws.proofs.calls.Quiet.{IsCalm, IsQuiet, comes_quiet, performs_calm}
+use Rattle.pulsar_laws.proofs.calls.Quiet.{IsQuiet, comes_quiet, performs_quiet}
 use Rattle.pulsar_laws.proofs.calls.Ticketed.{Began, apart}
 use Rattle.pulsar_laws.proofs.calls.Begun.{has_begun}
 use Rattle.pulsar_laws.proofs.calls.Same.{same_who}
@@ -32,18 +32,13 @@ quiet_no_deed (Does who action) h = absurd cc
 quiet_no_deed (Answers who verdict) h = absurd cc
 quiet_no_deed _ h = refl
 
-calm_no_deed : (a : Act) → IsCalm a → NoDeed a
-calm_no_deed (Does who action) h = absurd cc
-calm_no_deed (Answers who verdict) h = absurd cc
-calm_no_deed _ h = refl
-
 served_no_deed : (a : Act) → is_served a ≡ true → NoDeed a
 served_no_deed (Does who action) h = absurd cc
 served_no_deed (Answers who verdict) h = absurd cc
 served_no_deed _ h = refl
 
 pub performs_none : (v : View) (who : Who) (action : Action) → Each NoDeed (performs v who action)
-performs_none v who action = each_map IsCalm NoDeed (performs v who action) calm_no_deed (performs_calm v who action)
+performs_none v who action = each_map IsQuiet NoDeed (performs v who action) quiet_no_deed (performs_quiet v who action)
 
 pub left_no_deed : (ways : Option Ways) (key : ℕ) (maker : Who) (makes : Makes) → Each NoDeed (left_with ways key maker makes)
 left_no_deed ways key maker makes = left_each NoDeed ways key maker makes (λ w e s. refl) (λ w n t s. refl) (λ w n t topic s. refl)

@@ -19,7 +19,7 @@ use Rattle.pulsar_laws.proofs.calls.Causes.{IsToldBy, OutcomesAreCaused}
 use Rattle.pulsar_laws.proofs.links.Late.{lost_same}
 use Rattle.pulsar_laws.specs.Laws.{AttemptEnds, CutsSo, GrantsSo, LineEnds, MultiSaysSo, RequestEnds, Shuts, base_of}
 use Rattle.pulsar_links.specs.Links.{arrival, change_at, change_in, line_places, new_places, times_out}
-use Rattle.pulsar_acts.specs.Rules.{caused, failed_by, failed_on, gets_from, served_on, stopped_with, waiters_of, woken, grants, number_said, stopped_one, says_to}
+use Rattle.pulsar_acts.specs.Rules.{batches_joined, caused, failed_by, failed_on, gets_from, served_on, stopped_with, waiters_of, woken, grants, number_said, stopped_one, says_to}
 use Rattle.pulsar_links.specs.LinkRules.{answered_by, answered_on, dropped, ended_by, ended_on, failed, failed_over, failed_so, fails_so, lost, lost_so, lost_with, moved_on, served_by, stopped_at}
 use Rattle.pulsar_producer_table.specs.Notices.{stopped_call, stopped_takers}
 use Rattle.pulsar_acts.specs.View.{around_multi, multi_asked_of, multi_at, pause_for, pause_of, ways_of}
@@ -262,9 +262,9 @@ module _ (o : Options) (who : Who) (u : Outcome) (older : List Entry) where
 
   hands_caused : (w : Who) (m : Multi) (h : Handing) (s : multi.Seen) → multi_at v m ≡ Some s → (row : Option producer.Seen) → found h.topic s.topics ≡ row →
       In (Told it) (says_to w (says_it (handed_to row (advice_by row v.policies h.message) h s))) → Cause o who u (Then (Does w (OfMulti m (Hand h)))) older
-  hands_caused w m h s e None f i = multi_said w m (Hand h) (Absent (record { order = order_for h.topic s; message = h.message })) (s, e, f, refl) i
+  hands_caused w m h s e None f i = multi_said w m (Hand h) (Absent (record { order = order_for h.topic s; message = h.message })) (s, e, (f, refl)) i
   hands_caused w m h s e (Some p) f i =
-      multi_said w m (Hand h) (Handed (dispatched (advice_by (Some p) v.policies h.message) h.message p)) (s, e, p, f, refl) i
+      multi_said w m (Hand h) (Handed (dispatched (advice_by (Some p) v.policies h.message) h.message p)) (s, e, (p, f, refl)) i
 
   multi_turns : (w : Who) (m : Multi) (s : multi.Seen) → multi_at v m ≡ Some s → (t : Option Taker) → (b : Bool) → is_free s ≡ b →
       In (Told it) (says_to w (multi_turn_said b t)) → Cause o who u (Then (Does w (OfMulti m TakeMultiTurn))) older

@@ -211,7 +211,7 @@ module _ (o : Options) (who : Who) (u : Outcome) (older : List Entry) where
   polled_caused t None e h = absurd h
   polled_caused t (Some m) e h =
       goes_on_caused (Then (Comes (Polls t))) t m (consumer.member_after (reader.Polls v.now) m) (same_one (reader.Polls v.now) m) e
-      (λ as due. inl (t, m, refl, as, due)) (λ as due. inr (inl (t, m, refl, as, due))) h
+      (λ serves due. inl (t, m, refl, serves, due)) (λ serves due. inr (inl (t, m, refl, serves, due))) h
 
   -- what became of a copy is said
   settled_caused : (e : Entry) (t : ℕ) (d : Deed) (act : reader.Act) → ((m : Member) → member_by d m ≡ consumer.member_after act m) → SettlesCopy o t d e older →
@@ -219,7 +219,7 @@ module _ (o : Options) (who : Who) (u : Outcome) (older : List Entry) where
   settled_caused e t d act is settles None at h = absurd h
   settled_caused e t d act is settles (Some m) at h =
       goes_on_caused e t m (member_by d m) (subst (SameOne m) (sym (is m)) (same_one act m)) at
-      (λ as due. inr (inr (inr (t, d, m, settles, as, due)))) (λ as due. inr (inr (t, d, m, settles, as, due))) h
+      (λ serves due. inr (inr (inr (t, d, m, settles, serves, due)))) (λ serves due. inr (inr (t, d, m, settles, serves, due))) h
 
   pub sent_caused : (w : Who) → In it (goes_on_at (ticket_of w) (option_map (member_by (Copied (key_of w) v.now)) (v.consumers.rows (ticket_of w)))) →
       Cause o who u (Then (Does w (OfConsumer CopySent))) older

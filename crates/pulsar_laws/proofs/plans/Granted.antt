@@ -329,6 +329,9 @@ told_to v who action = once_each (IsToldTo who) (λ u k b. refl) (λ p. tt) (λ 
 
 -- one that asks a producer of many topics is granted nothing
 multi_plain : (v : View) (m : Multi) (ask : MultiAsk) (u : Outcome) → SaysSo v (OfMulti m ask) u → is_grant u ≡ false
+multi_plain v m ask (outcome.Granted (news.Told x)) h = absurd h
+multi_plain v m ask (outcome.Granted news.Queued) h = absurd h
+multi_plain v m ask (outcome.Granted news.InLine) h = absurd h
 multi_plain v m ask (outcome.Granted (news.Drew d)) h = absurd h
 multi_plain v m ask (outcome.Granted (news.Recalled c)) h = absurd h
 multi_plain v m ask (outcome.Granted (news.Numbered n)) h = absurd h

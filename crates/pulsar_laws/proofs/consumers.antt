@@ -1,4 +1,5 @@
 pub mod Members
+pub mod Hushed
 pub mod Lone
 pub mod Polls
 pub mod Ended

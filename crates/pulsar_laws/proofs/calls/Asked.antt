@@ -13,6 +13,7 @@ use Rattle.pulsar_frame.specs.Batch.{EntryValues}
 use Rattle.pulsar_outgoing.specs.Batch.{entry_of}
 use Rattle.pulsar_calls.specs.declared.act.Procedure.TheVariants as procedure
 use Rattle.pulsar_calls.specs.Content as content
+use Rattle.pulsar_laws.proofs.plans.AtOnce.{once_each, performs_once}
 use Rattle.pulsar_laws.proofs.plans.Left.{left_each}
 use Rattle.pulsar_client.proofs.Raising.{IsRaised, kind, may, raises, OfBatches, OfDeed, OfPart, OfStart, OfService}
 use Rattle.pulsar_laws.proofs.plans.Fitting.{fits, Fits, Holds, Keeps, Leaves, Nowhere, Reports, Spot, Stores, Usual, begins_fits, is_stop, spot, told_fits}
@@ -242,8 +243,11 @@ module _ (o : Options) (log : List Entry) (before : Each NoStop (agenda o log).n
   stops_on (Comes p) fits = raised_stops (Comes p) refl refl refl refl
   stops_on (Starts who p) fits = start_stops who p (is_stop p) refl fits
   stops_on (Told n) fits = plain_stops (Told n) (some_no_stop n.who ((view o log).stand n.who) n.outcome)
-  stops_on (Does who action) fits = raised_stops (Does who action) refl refl refl refl
-  stops_on (Answers who verdict) fits = plain_stops (Answers who verdict) (left_no_stop (ways_of (view o log).chosen) who verdict.makes)
+  stops_on (Does who action) fits =
+      plain_stops (Does who action)
+      (once_each NoStop (λ u s b. refl) (λ p. refl) (λ l. refl) (λ w e s. refl) (performs_once (view o log) who action))
+  stops_on (Answers who verdict) fits =
+      plain_stops (Answers who verdict) (left_no_stop (ways_of (view o log).chosen) (view o log).consumers.next_key who verdict.makes)
   stops_on a fits = plain_stops a tt
 
 stops_come : (o : Options) (log : List Entry) → IsRun o log → Each NoStop (agenda o log).now ⊎ Alone o log

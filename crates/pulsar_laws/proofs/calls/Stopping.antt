@@ -11,16 +11,20 @@ use Rattle.pulsar_laws.proofs.PlanWords.{Batching, fails, Plan, verdict, Ways}
 use Rattle.pulsar_laws.proofs.RunWords.{after, agenda, Agenda, arranged, asks_raw, asks_topics, at_once, Begins, begun, begun_same, builds_with, called, causes, checks, Chosen, closes, consumers_after, Each, each_append, each_either, each_flat, each_map, Entry, first, first_case, first_of, flushes, follows_some, from_base, gathers, In, IsRun, joins, left_with, lost_on, may_call, none_now, notice, Options, over_each, parts_of, procedure_for, produces, rest, rest_of, rules, searches, sends, shares_unless, starts, stays_some, stopped_on, tells, Then, Tickets, told_some, turned_by, unless_refused, view, View, ways_of, why_no_sends}
 use Rattle.pulsar_laws.proofs.LinkWords.{address_key, Addresses, arrival_at, Base, closing, Exhausted, Nobody, over_links, Pause, Pauses, Place, Reply, rings, Runs, Seat, Series, Serves, stop_act, tells_asker, took_some}
 use Rattle.pulsar_session.specs.Link.{ends}
-use Rattle.pulsar_calls.specs.declared.act.Makes.TheVariants.{Client, Consumer, Producer, RawConsumer}
+use Rattle.pulsar_calls.specs.declared.act.Alarm.TheVariants.{Redelivery}
+use Rattle.pulsar_calls.specs.declared.act.Makes.TheVariants.{Client, Consumer, MultiProducer, Producer, RawConsumer}
+use Rattle.pulsar_laws.proofs.consumers.Hushed.{Hushed, goes_on_none, hushed_map, loss_hushed, poll_hushed, stop_cuts, stop_hushes}
 use Rattle.pulsar_links.specs.Alarms.{clear}
 use Rattle.pulsar_laws.proofs.Lists.{each_arranged, each_asker, each_made, each_opens, each_put_all, in_left, in_right, into_flat}
 use Rattle.pulsar_laws.specs.Laws.{stopped}
 use Rattle.pulsar_laws.specs.AddressLaws.{NoneAfterStop}
 use Rattle.pulsar_links.specs.Links.{line_places}
-use Rattle.pulsar_acts.specs.Rules.{failed_on, stopped_with, waiters_of, stopped_one}
+use Rattle.pulsar_acts.specs.Rules.{failed_on, multi_closes, multi_gathers, multi_sends, multi_shares_unless, posts, stopped_one, stopped_with, waiters_of, why_no_multi, why_no_multi_sends}
 use Rattle.pulsar_links.specs.LinkRules.{dropped, ended_on, failed_at, failed_over, lost, on_link, stopped_at}
-use Rattle.pulsar_producer_table.specs.Notices.{stopped_all, stopped_call}
-use Rattle.pulsar_acts.specs.View.{alarms_after, alarms_built, alarms_on, alarms_over, building_of, builds, calls_after, member_made, pause_after, pause_of, pause_on, pause_rung, producers_after, stand_after, topic_of}
+use Rattle.pulsar_producer_table.specs.Multis.{waiting as multis_waiting}
+use Rattle.pulsar_producer_table.specs.Notices.{stopped_all, stopped_call, stopped_takers}
+use Rattle.pulsar_producer_table.specs.Takers.{who_of}
+use Rattle.pulsar_acts.specs.View.{alarms_after, alarms_built, alarms_made, alarms_on, alarms_over, building_of, builds, calls_after, checked_by, member_made, pause_after, pause_of, pause_on, pause_rung, producers_after, stand_after, topic_of}
 use Rattle.pulsar_links.specs.Seats.{Links, pause_put}
 use Rattle.pulsar_producer_table.specs.declared.table.Topic.{Topic}
 use Rattle.pulsar_outgoing.specs.Storage.{Item}
@@ -42,8 +46,8 @@ use Rattle.pulsar_laws.proofs.calls.Whereabouts.{goes_nowhere}
 use Rattle.pulsar_laws.proofs.plans.LastWords.{AreLast, batch_fine, batch_some, batch_told, calm_fine, each_last, ends_fine, ends_some, is_fine, is_last_word, is_leaving, IsLast, IsLastNotice, IsLate, IsParting, last_append, last_rest, last_some, left_fine, left_some, makes_nothing, settling_told, some_fine, taking_told}
 use Rattle.pulsar_consumer_table.specs.Notices.{heard_at, lost_at}
 use Rattle.pulsar_acts.specs.Reading.{acknowledges, leaves, made_due, subscribes}
-use Rattle.pulsar_consumer_table.specs.Consumers.{Consumers, IsPolled, Member, hears, loses_by, member_after, member_by, over_rows}
-use Rattle.pulsar_laws.proofs.consumers.Members.{Gone, gone_map, heard_gone, loss_gone, no_due, no_loss, poll_gone, row_made, there_each}
+use Rattle.pulsar_consumer_table.specs.Consumers.{Consumers, Deed, IsPolled, Member, forgets_by, hears, loses_by, member_after, member_by, over_rows}
+use Rattle.pulsar_laws.proofs.consumers.Members.{Gone, gone_map, heard_gone, loss_gone, no_loss, poll_gone, row_made, there_each}
 use Rattle.pulsar_laws.proofs.plans.Wording.{IsStoppedWord, is_stopped_word, rows_each, stopped_words}
 use Rattle.pulsar_consumer_table.specs.Consumers as consumer
 use Rattle.pulsar_consumer.specs.Topic as reader
@@ -53,7 +57,7 @@ use Rattle.pulsar_run.specs.Things.{row_by, row_after}
 use Rattle.pulsar_laws.specs.ProducerLaws.{rung_by, topic_acts}
 use Rattle.pulsar_acts.proofs.Linking.{took_is}
 use Rattle.pulsar_laws.proofs.links.Rows.{after_holds as after_links, begun_holds as begun_links}
-use Rattle.pulsar_laws.proofs.Cases.{none_some}
+use Rattle.pulsar_laws.proofs.Cases.{cond_so, none_some}
 
 -- LISTS
 
@@ -123,6 +127,12 @@ last_call o c cs ps advice (content.SendAll t ms) who h = refused_unless who (ma
 last_call o c cs ps advice (content.Flush t) who h = refused_unless who (may_call c) (flushes ps t) (not_open c h)
 last_call o c cs ps advice (content.CheckProducer t) who h = refused_unless who (may_call c) (checks ps t) (not_open c h)
 last_call o c cs ps advice (content.CloseProducer t) who h = refused_unless who (may_call c) (closes ps t) (not_open c h)
+last_call o c cs ps advice (content.Post topic m) who h = refused_unless who (may_call c) (posts o topic m) (not_open c h)
+last_call o c cs ps advice (content.MultiProducer wanted) who h =
+    refused_unless who (may_call c) (procedure.MakeMulti wanted.name wanted.options) (not_open c h)
+last_call o c cs ps advice (content.MultiSend t topic m) who h = refused_unless who (may_call c) (multi_sends o ps.multis t topic m) (not_open c h)
+last_call o c cs ps advice (content.MultiSendAll t topic ms) who h = refused_unless who (may_call c) (multi_gathers c ps.multis t ms) (not_open c h)
+last_call o c cs ps advice (content.MultiClose t topic) who h = refused_unless who (may_call c) (multi_closes ps.multis t topic) (not_open c h)
 last_call o c cs ps advice (content.Consumer wanted) who h = refused_unless who (may_call c) (subscribes o c.drawn wanted) (not_open c h)
 last_call o c cs ps advice (content.Ack t name id cumulative) who h =
     refused_unless who (may_call c) (acknowledges cs t (λ n. words.SendAck n (id ∷ []) cumulative)) (not_open c h)
@@ -137,10 +147,18 @@ last_shares : (why : Option CallRefusal) (v : View) (advice : List (Option ℕ))
 last_shares (Some r) v advice t ms h = tt
 last_shares None v advice t ms h = absurd cc
 
+last_multi : (why : Option CallRefusal) (v : View) (t : ℕ) (topic : List ℕ) (ms : List ProducerMessageValues) → is_some why ≡ true →
+    Each IsLast (multi_shares_unless why v t topic ms)
+last_multi (Some r) v t topic ms h = tt
+last_multi None v t topic ms h = absurd cc
+
 last_parts : (v : View) (advice : List (Option ℕ)) (asked : Asked) → v.calls.is_stopped ≡ true → Each IsLast (parts_of v advice asked)
 last_parts v advice (content.SendAll t ms) h =
     last_shares (why_no_sends v.calls v.producers t) v advice t ms
     (ap (λ b. is_some (cond b (why_not v.producers t) (Some refusal.Shutdown))) (not_open v.calls h))
+last_parts v advice (content.MultiSendAll t topic ms) h =
+    last_multi (why_no_multi_sends v.calls v.producers.multis t) v t topic ms
+    (ap (λ b. is_some (cond b (why_no_multi v.producers.multis t) (Some refusal.Shutdown))) (not_open v.calls h))
 last_parts v advice _ h = tt
 
 last_called : (v : View) (advice : List (Option ℕ)) (asked : Asked) → v.calls.is_stopped ≡ true → Each IsLast (called v advice asked)
@@ -194,6 +212,7 @@ last_with known (Retry l) = last_at known (known.pause l)
 last_with known (Wake who) = (refl, tt)
 last_with known (Batch n) = tt
 last_with known (KeepAlive l) = tt
+last_with known (Redelivery n t) = tt
 last_with known CheckIdle = tt
 
 -- NO ATTEMPT FOLLOWS A LINK THAT THE STOP ENDS
@@ -219,9 +238,9 @@ took_stops now None = refl
 took_stops now (Some seat) = refl
 
 -- no check of idle links begins with a verdict that makes nothing
-none_left : (ways : Option Ways) (maker : Who) (m : Makes) → makes_nothing m ≡ true → Each IsLast (left_with ways maker m)
-none_left ways maker Nothing is = tt
-none_left ways maker m is = absurd cc
+none_left : (ways : Option Ways) (key : ℕ) (maker : Who) (m : Makes) → makes_nothing m ≡ true → Each IsLast (left_with ways key maker m)
+none_left ways key maker Nothing is = tt
+none_left ways key maker m is = absurd cc
 
 none_built : (b : Bool) (m : Makes) → makes_nothing m ≡ true → (b && builds m false) ≡ false
 none_built true Nothing is = refl
@@ -230,6 +249,7 @@ none_built b Client is = absurd cc
 none_built b (Consumer j) is = absurd cc
 none_built b (RawConsumer l made) is = absurd cc
 none_built b (Producer building) is = absurd cc
+none_built b (MultiProducer name settings) is = absurd cc
 
 -- WHERE THE CLIENT IS STOPPED
 
@@ -243,6 +263,7 @@ pub record Over (o : Options) (log : List Entry) : Type 0 where
   fine : (w : Who) → is_fine ((view o log).stand w) ≡ true
   bare : (m : ℕ) → next_batch_at ((view o log).producers.topics m) ≡ None
   pub gone : (t : ℕ) → Gone ((view o log).consumers.rows t)
+  hushed : (t : ℕ) → Hushed ((view o log).consumers.rows t)
   links : (l : ℕ) → ((view o log).links.live l ≡ None) ⊎ In (Comes (ToLink l (Ends Stops))) (agenda o log).now
 
 -- a part that comes, where nothing else is left at once
@@ -303,13 +324,13 @@ made_none : (o : Chosen) (who : Who) (m : Makes) (n : ℕ) → makes_nothing m �
 made_none o who Nothing n h = refl
 made_none o who m n h = absurd cc
 
-none_made : (live : ℕ → Option Seat) (key : ℕ) (m : Makes) → makes_nothing m ≡ true → member_made live key m ≡ None
-none_made live key Nothing h = refl
-none_made live key m h = absurd cc
+none_made : (live : ℕ → Option Seat) (clock key : ℕ) (m : Makes) → makes_nothing m ≡ true → member_made live clock key m ≡ None
+none_made live clock key Nothing h = refl
+none_made live clock key m h = absurd cc
 
-none_due_made : (live : ℕ → Option Seat) (key : ℕ) (who : Who) (m : Makes) → makes_nothing m ≡ true → made_due live key who m ≡ []
-none_due_made live key who Nothing h = refl
-none_due_made live key who m h = absurd cc
+none_due_made : (live : ℕ → Option Seat) (clock key : ℕ) (who : Who) (m : Makes) → makes_nothing m ≡ true → made_due live clock key who m ≡ []
+none_due_made live clock key who Nothing h = refl
+none_due_made live clock key who m h = absurd cc
 
 none_rung : (v : View) (m : ℕ) (a : Alarm) → rings v.now a v.alarms ≡ false → topic_acts v m (Comes (Rings a)) ≡ []
 none_rung v m (Batch n) e = ap (λ b. cond (m == n) (rung_by b) []) e ∙ none_either (m == n)
@@ -356,9 +377,9 @@ module _ (o : Options) (log : List Entry) (run : IsRun o log) (k : Over o log) w
       Each (IsLate (after a v).stand) (joins v a) → Each (Each IsLastNotice) (causes v a) → ((l : ℕ) → pause_after v a l None ≡ None) →
       alarms_after v a ≡ [] → ((w : Who) → is_fine (stand_after a w (v.stand w)) ≡ true) →
       ((m : ℕ) → next_batch_at ((producers_after v a).topics m) ≡ None) →
-      ((t : ℕ) → Gone ((consumers_after v a).rows t)) →
+      ((t : ℕ) → Gone ((consumers_after v a).rows t)) → ((t : ℕ) → Hushed ((consumers_after v a).rows t)) →
       ((l : ℕ) → Comes (ToLink l (Ends Stops)) ≡ a → (after a v).links.live l ≡ None) → Over o (Then a ∷ log)
-  goes_over a fits no_dial ends once join caused pauses alarms fine bare gone own =
+  goes_over a fits no_dial ends once join caused pauses alarms fine bare gone hushed own =
       let late = late_more a ends in
       let P : Notice → Type 0 = IsLate v.stand in
       let Q : Notice → Type 0 = IsLate (after a v).stand in
@@ -376,6 +397,7 @@ module _ (o : Options) (log : List Entry) (run : IsRun o log) (k : Over o log) w
         fine = fine;
         bare = bare;
         gone = gone;
+        hushed = hushed;
         links = λ l. elim (k.links l) [
           | inl e ↦ inl (stays_dead v a l no_dial e)
           | inr i ↦ elim (left_of_now a l fits i) [
@@ -424,6 +446,8 @@ module _ (o : Options) (log : List Entry) (run : IsRun o log) (k : Over o log) w
       goes_over (Comes (ToLink l (Ends Stops))) fits refl (λ w h. h) tt tt (last_caused v l k.gone) (λ j. no_pause_on v l j (v.links.live l))
       (ap (alarms_after_end l) k.alarms ∙ no_alarm_on v l (v.links.live l)) k.fine k.bare
       (λ t. gone_map (loses_by l (closing Stops v.now (v.links.live l))) (v.consumers.rows t) (loss_gone l (closing Stops v.now (v.links.live l))) (k.gone t))
+      (λ t. hushed_map (loses_by l (closing Stops v.now (v.links.live l))) (v.consumers.rows t) (loss_hushed l (closing Stops v.now (v.links.live l)))
+      (k.hushed t))
       own
     where
       alarms_after_end : ℕ → List (Alarm × ℕ) → List (Alarm × ℕ)
@@ -439,18 +463,24 @@ module _ (o : Options) (log : List Entry) (run : IsRun o log) (k : Over o log) w
       goes_over (Told n) fits refl (told_ends n)
       (last_some (Keeps o log) (told_stand n) n.who (v.stand n.who) n.outcome (λ t p. told_ends n (Call t) p.waits) (own_stand n) is (k.fine n.who)
       (kept_rows n.who)) tt tt (λ l. refl) k.alarms
-      (λ w. told_fine n w (λ e. some_fine (Keeps o log) (v.stand w) n.outcome is (k.fine w) (kept_rows w))) k.bare k.gone (λ l e. absurd cc)
+      (λ w. told_fine n w (λ e. some_fine (Keeps o log) (v.stand w) n.outcome is (k.fine w) (kept_rows w))) k.bare k.gone k.hushed (λ l e. absurd cc)
   last_on (Answers who verdict) fits is =
       goes_over (Answers who verdict) fits refl (λ w h. h)
-      (each_last v.stand (left_with (ways_of v.chosen) who verdict.makes) (none_left (ways_of v.chosen) who verdict.makes is))
-      (rw (none_due_made v.links.live v.consumers.next_key who verdict.makes is) tt) tt (λ l. refl)
-      (ap (λ b. alarms_built v.now b v.alarms) (none_built (not v.calls.is_built) verdict.makes is) ∙ k.alarms) k.fine
+      (each_last v.stand (left_with (ways_of v.chosen) v.consumers.next_key who verdict.makes)
+      (none_left (ways_of v.chosen) v.consumers.next_key who verdict.makes is))
+      (rw (none_due_made v.links.live v.now v.consumers.next_key who verdict.makes is) tt) tt (λ l. refl)
+      (ap (λ r. alarms_made who r (alarms_built v.now (not v.calls.is_built && builds verdict.makes false) v.alarms))
+      (none_made v.links.live v.now v.consumers.next_key verdict.makes is)
+      ∙ ap (λ b. alarms_built v.now b v.alarms) (none_built (not v.calls.is_built) verdict.makes is) ∙ k.alarms) k.fine
       (λ m. ap (λ r. next_batch_at (row_after topic_after r false [] (v.producers.topics m))) (made_none v.chosen who verdict.makes m is) ∙ k.bare m)
-      (λ t. subst Gone (sym (ap (λ r. row_made r who t (v.consumers.rows t)) (none_made v.links.live v.consumers.next_key verdict.makes is))) (k.gone t))
+      (λ t. subst Gone (sym (ap (λ r. row_made r who t (v.consumers.rows t)) (none_made v.links.live v.now v.consumers.next_key verdict.makes is)))
+      (k.gone t))
+      (λ t. subst Hushed (sym (ap (λ r. row_made r who t (v.consumers.rows t)) (none_made v.links.live v.now v.consumers.next_key verdict.makes is)))
+      (k.hushed t))
       (λ l e. absurd cc)
   last_on (Starts who (procedure.Refuse r)) fits is =
       goes_over (Starts who (procedure.Refuse r)) fits refl (refused_ends who r) (inl refl, tt) tt tt (λ l. refl) k.alarms (λ w. refused_fine who w r) k.bare
-      k.gone
+      k.gone k.hushed
       (λ l e. absurd cc)
   last_on a fits is = absurd cc
 
@@ -458,7 +488,7 @@ module _ (o : Options) (log : List Entry) (run : IsRun o log) (k : Over o log) w
   told_on : (n : Notice) → first g ≡ Some (Told n) → AreLast (told_stand n) (follows_some n.who (told_some (v.stand n.who) n.outcome)) →
       ((w : Who) → w ≡ n.who → is_fine (stays_some (told_some (v.stand w) n.outcome)) ≡ true) → Over o (Then (Told n) ∷ log)
   told_on n fits once fine =
-      goes_over (Told n) fits refl (told_ends n) once tt tt (λ l. refl) k.alarms (λ w. told_fine n w (fine w)) k.bare k.gone (λ l e. absurd cc)
+      goes_over (Told n) fits refl (told_ends n) once tt tt (λ l. refl) k.alarms (λ w. told_fine n w (fine w)) k.bare k.gone k.hushed (λ l e. absurd cc)
 
   parts_told : (n : Notice) → first g ≡ Some (Told n) → IsParting v.stand (Told n) → Over o (Then (Told n) ∷ log)
   parts_told n fits (inl is) =
@@ -473,15 +503,16 @@ module _ (o : Options) (log : List Entry) (run : IsRun o log) (k : Over o log) w
 
   parts_on : (a : Act) → first g ≡ Some a → IsParting v.stand a → Over o (Then a ∷ log)
   parts_on (Does who (Tell n)) fits is =
-      goes_over (Does who (Tell n)) fits refl (λ w h. h) (inr (inl is.1), tt) (inl is.0, tt) tt (λ l. refl) k.alarms k.fine k.bare k.gone (λ l e. absurd cc)
+      goes_over (Does who (Tell n)) fits refl (λ w h. h) (inr (inl is.1), tt) (inl is.0, tt) tt (λ l. refl) k.alarms k.fine k.bare k.gone k.hushed
+      (λ l e. absurd cc)
   parts_on (Does who (TellAll ns)) fits is =
       goes_over (Does who (TellAll ns)) fits refl (λ w h. h) (inr (inr (inl (settling_told (v.stand who) is.1))), tt) is.0 tt (λ l. refl) k.alarms k.fine
-      k.bare k.gone (λ l e. absurd cc)
+      k.bare k.gone k.hushed (λ l e. absurd cc)
   parts_on (Does who (OfTopic m TakeBatch)) fits is =
       let none : batch_told (v.stand who) (outcome.Granted (news.HasBatch (next_batch_at (v.producers.topics m)))) ≡ true =
       ap (λ r. batch_told (v.stand who) (outcome.Granted (news.HasBatch r))) (k.bare m) ∙ taking_told (v.stand who) is in
       goes_over (Does who (OfTopic m TakeBatch)) fits refl (λ w h. h) (inr (inr (inl none)), tt) tt tt (λ l. refl) k.alarms k.fine
-      (λ n. bare_changed m n (v.producers.topics n) (k.bare n)) k.gone (λ l e. absurd cc)
+      (λ n. bare_changed m n (v.producers.topics n) (k.bare n)) k.gone k.hushed (λ l e. absurd cc)
   parts_on (Told n) fits is = parts_told n fits is
   parts_on a fits is = absurd is
 
@@ -493,8 +524,8 @@ module _ (o : Options) (log : List Entry) (run : IsRun o log) (k : Over o log) w
 
     dead_causes : (x : LinkAct) → Each (Each IsLastNotice) (causes v (Comes (ToLink l x)))
     dead_causes Opens = tt
-    dead_causes Reads = rw dead (each_opens IsLastNotice (over_rows (heard_at l arrivals.Nothing) v.consumers)
-        (rows_each IsLastNotice (heard_at l arrivals.Nothing) v.consumers (λ t m. tt)))
+    dead_causes Reads = rw dead (each_opens IsLastNotice (over_rows (heard_at v.now l arrivals.Nothing) v.consumers)
+        (rows_each IsLastNotice (heard_at v.now l arrivals.Nothing) v.consumers (λ t m. tt)))
     dead_causes (Drains most) = rw dead tt
     dead_causes Pings = tt
     dead_causes (Ends end) = rw dead (each_opens IsLastNotice (over_rows (lost_at l None) v.consumers)
@@ -502,12 +533,20 @@ module _ (o : Options) (log : List Entry) (run : IsRun o log) (k : Over o log) w
 
     dead_gone : (x : LinkAct) (t : ℕ) → Gone ((consumers_after v (Comes (ToLink l x))).rows t)
     dead_gone Reads t =
-        gone_map (hears l (arrival_at (v.links.live l))) (v.consumers.rows t) (heard_gone l (arrival_at (v.links.live l))) (k.gone t)
+        gone_map (hears v.now l (arrival_at (v.links.live l))) (v.consumers.rows t) (heard_gone v.now l (arrival_at (v.links.live l))) (k.gone t)
     dead_gone (Ends end) t =
         gone_map (loses_by l (closing end v.now (v.links.live l))) (v.consumers.rows t) (loss_gone l (closing end v.now (v.links.live l))) (k.gone t)
     dead_gone Opens t = k.gone t
     dead_gone (Drains most) t = k.gone t
     dead_gone Pings t = k.gone t
+
+    dead_hushed : (x : LinkAct) (t : ℕ) → Hushed ((consumers_after v (Comes (ToLink l x))).rows t)
+    dead_hushed Reads t = rw dead (hushed_map (hears v.now l arrivals.Nothing) (v.consumers.rows t) (λ m h. h) (k.hushed t))
+    dead_hushed (Ends end) t =
+        hushed_map (loses_by l (closing end v.now (v.links.live l))) (v.consumers.rows t) (loss_hushed l (closing end v.now (v.links.live l))) (k.hushed t)
+    dead_hushed Opens t = k.hushed t
+    dead_hushed (Drains most) t = k.hushed t
+    dead_hushed Pings t = k.hushed t
 
     dead_pause : (x : LinkAct) (j : ℕ) → pause_after v (Comes (ToLink l x)) j None ≡ None
     dead_pause x j = rw dead refl
@@ -522,29 +561,48 @@ module _ (o : Options) (log : List Entry) (run : IsRun o log) (k : Over o log) w
   rung_pause b (Retry j) l = same_either (b && (l == j)) None
   rung_pause b _ l = refl
 
+  -- no call forgets a message any more, and no check comes
+  called_rows : (P : Option Member → Type 0) (b : Bool) (forgets : List Deed) (row : Option Member) → P row →
+      P (row_by member_by (cond b [] (cond (may_call v.calls) forgets [])) row)
+  called_rows P true forgets row h = h
+  called_rows P false forgets row h = subst (λ b. P (row_by member_by (cond b forgets []) row)) (sym (not_open v.calls k.is_stopped)) h
+
+  rung_rows : (P : Option Member → Type 0) (a : Alarm) (t : ℕ) → P (v.consumers.rows t) → P ((consumers_after v (Comes (Rings a))).rows t)
+  rung_rows P (Redelivery n u) t h =
+      subst (λ b. P (row_by member_by (cond (t == u) (checked_by v.now b) []) (v.consumers.rows t))) (sym (no_alarm (Redelivery n u)))
+      (cond_so (λ (xs : List Deed). P (row_by member_by xs (v.consumers.rows t))) (t == u) [] [] h h)
+  rung_rows P a t h = h
+
   part_on : (p : Part) → first g ≡ Some (Comes p) → g.now ≡ [] → Over o (Then (Comes p) ∷ log)
   part_on (Calls asked advice) fits none =
       goes_over (Comes (Calls asked advice)) fits refl (λ w h. h)
       (each_last v.stand (called v advice asked) (last_called v advice asked k.is_stopped)) tt tt (λ l. refl) k.alarms k.fine
-      k.bare k.gone (λ l e. absurd cc)
+      k.bare (λ t. called_rows Gone (lacks_tickets v.calls.drawn (shares asked)) (forgets_by asked t (v.consumers.rows t)) (v.consumers.rows t) (k.gone t))
+      (λ t. called_rows Hushed (lacks_tickets v.calls.drawn (shares asked)) (forgets_by asked t (v.consumers.rows t)) (v.consumers.rows t) (k.hushed t))
+      (λ l e. absurd cc)
   part_on (ToLink l x) fits none =
       let dead = all_dead none l in
       goes_over (Comes (ToLink l x)) fits refl (λ w h. h) (dead_once l dead x) tt (dead_causes l dead x) (dead_pause l dead x) (dead_alarms l dead x) k.fine
-      k.bare (dead_gone l dead x)
+      k.bare (dead_gone l dead x) (dead_hushed l dead x)
       (λ j e. stays_dead v (Comes (ToLink l x)) j refl (all_dead none j))
   part_on (Rings a) fits none =
       let e = no_alarm a in
       goes_over (Comes (Rings a)) fits refl (λ w h. h) (rw e tt) tt (rw e tt) (λ l. rung_pause (rings v.now a v.alarms) a l) (rw e k.alarms) k.fine
       (λ m. ap (λ es. next_batch_at (row_by topic_after es (v.producers.topics m))) (none_rung v m a e) ∙ k.bare m)
-      k.gone (λ l e. absurd cc)
+      (λ t. rung_rows Gone a t (k.gone t)) (λ t. rung_rows Hushed a t (k.hushed t)) (λ l e. absurd cc)
   part_on (Polls t) fits none =
       let clock : ℕ = v.now in
       goes_over (Comes (Polls t)) fits refl (λ w h. h) tt
-      (no_due (IsLate (after (Comes (Polls t)) v).stand) t (option_map (member_after (reader.Polls clock)) (v.consumers.rows t))
-      (gone_map (member_after (reader.Polls clock)) (v.consumers.rows t) (poll_gone clock) (k.gone t))) tt (λ l. refl) k.alarms k.fine k.bare
+      (goes_on_none (IsLate (after (Comes (Polls t)) v).stand) t (option_map (member_after (reader.Polls clock)) (v.consumers.rows t))
+      (gone_map (member_after (reader.Polls clock)) (v.consumers.rows t) (poll_gone clock) (k.gone t))
+      (hushed_map (member_after (reader.Polls clock)) (v.consumers.rows t) (poll_hushed clock) (k.hushed t))) tt (λ l. refl) k.alarms k.fine k.bare
       (λ u. elim (u == t) as (λ b. Gone (row_by member_by (cond b (IsPolled clock ∷ []) []) (v.consumers.rows u))) [
         | true ↦ gone_map (member_after (reader.Polls clock)) (v.consumers.rows u) (poll_gone clock) (k.gone u)
         | false ↦ k.gone u
+      ])
+      (λ u. elim (u == t) as (λ b. Hushed (row_by member_by (cond b (IsPolled clock ∷ []) []) (v.consumers.rows u))) [
+        | true ↦ hushed_map (member_after (reader.Polls clock)) (v.consumers.rows u) (poll_hushed clock) (k.hushed u)
+        | false ↦ k.hushed u
       ]) (λ l e. absurd cc)
 
   over_on : (a : Act) → first g ≡ Some a → Over o (Then a ∷ log)
@@ -567,6 +625,7 @@ module _ (o : Options) (log : List Entry) (run : IsRun o log) (k : Over o log) w
     fine = λ w. ap is_fine (begun_same (λ u. u.stand w) e v refl) ∙ k.fine w;
     bare = λ m. ap (λ ps. next_batch_at (ps.topics m)) (begun_same (λ u. u.producers) e v refl) ∙ k.bare m;
     gone = λ t. subst (λ cs. Gone (cs.rows t)) (sym (begun_same (λ u. u.consumers) e v refl)) (k.gone t);
+    hushed = λ t. subst (λ cs. Hushed (cs.rows t)) (sym (begun_same (λ u. u.consumers) e v refl)) (k.hushed t);
     links = λ l. inl (begun_dead e l v (all_dead (none_now g.now g.here g.behind g.parts rests) l));
   }
 
@@ -602,21 +661,20 @@ over_starts o log who run fits =
           (each_opens P ((told ++ waits) ++ readers) (each_map IsLastNotice P ((told ++ waits) ++ readers) (λ n is. inl is)
           (each_append IsLastNotice (told ++ waits) readers
           (each_append IsLastNotice told waits (each_flat IsLastNotice (λ e. stopped_with v.addresses e.0) v.alarms (λ e. last_with v.addresses e.0))
+          (each_append IsLastNotice (map stopped_one (waiting v.producers) ++ map stopped_call (unsent v.producers)) (stopped_takers v.producers.multis)
           (each_append IsLastNotice (map stopped_one (waiting v.producers)) (map stopped_call (unsent v.producers)) (all_wait (waiting v.producers))
-          (all_unsent (unsent v.producers))))
+          (all_unsent (unsent v.producers))) (all_wait (map who_of (multis_waiting v.producers.multis)))))
           (each_map IsStoppedWord IsLastNotice readers (λ n h. stopped_last n.outcome h) (stopped_words v))))));
       pauses = λ l. refl;
       alarms = refl;
       is_stopped = refl;
       fine = λ w. calm_fine (v.stand w) (calm_stop o w who log run fits);
       bare = λ m. bare_halted (v.producers.topics m);
-      gone = λ t. gone_stopped (v.consumers.rows t);
+      gone = λ t. stop_cuts (v.consumers.rows t);
+      hushed = λ t. stop_hushes (v.consumers.rows t);
       links = λ l. links_of l (v.links.live l) refl;
     }
   where
-    gone_stopped : (row : Option Member) → Gone (option_map consumer.stopped row)
-    gone_stopped None = tt
-    gone_stopped (Some m) = refl
 
     stopped_last : (u : Outcome) → is_stopped_word u ≡ true → is_last_word u ≡ true
     stopped_last outcome.Stopped h = refl

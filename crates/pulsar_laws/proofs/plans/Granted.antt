@@ -1,7 +1,7 @@
 -- What plans do comes right behind what leads to it, and numbers, commands and batches that they are granted right behind what they do.
 use Rattle.std.proofs.Common.{◌≡◌, ◌⊎◌, inl, inr, ◌∙◌, sym, ap, subst, ℕ, List, [], ◌∷◌, ◌++◌, refl, map, drop, Bool, true, false, ◌&&◌, cond, Option, Some, None}
 use Rattle.std.specs.Option.{option_map, option_to_list}
-use Rattle.pulsar_laws.proofs.ActWords.{Act, Action, Alarm, Answers, Ask, Batch, Comes, Does, Drains, End, Ends, FailConsumer, Flush, Idles, Notice, OfTopic, Outcome, Overdue, Part, PassTurn, Polls, Procedure, Reads, Retry, Revive, Rings, Shut, Starts, StopAll, Stops, Store, Tell, TellAll, ToLink, Told, Wake, Who, below, opens, turn_of, OfConsumer}
+use Rattle.pulsar_laws.proofs.ActWords.{Act, Action, Alarm, Answers, Ask, Batch, Comes, Does, Drains, End, Ends, FailConsumer, Flush, Idles, Notice, OfMulti, OfTopic, Outcome, Overdue, Part, PassTurn, Polls, Procedure, Reads, Retry, Revive, Rings, Shut, Starts, StopAll, Stops, Store, Tell, TellAll, ToLink, Told, Wake, Who, below, opens, turn_of, OfConsumer}
 use Rattle.pulsar_laws.proofs.PlanWords.{begins, closed_notice, News, Plan, Stays, told}
 use Rattle.pulsar_laws.proofs.RunWords.{after, agenda, Answered, arranged, at_once, Begins, causes, Each, each_append, each_either, each_flat, each_map, Entry, first_of, In, IsRun, joins, lost_on, notice, Options, over_each, performs, readied, ready_notice, rest, rest_of, rules, stays, stays_some, stopped_on, tells, Then, told_some, turn_notice, Turned, turned_by, view, View}
 use Rattle.pulsar_laws.proofs.LinkWords.{Addresses, Base, Becomes, Change, Fault, IsOver, over_links, Pause, rings, Runs, Seat, Series, stop_act}
@@ -14,7 +14,7 @@ use Rattle.pulsar_calls.specs.declared.act.Outcome.TheVariants as outcome
 use Rattle.pulsar_calls.specs.declared.act.Procedure.TheVariants as procedure
 use Rattle.pulsar_producer_table.specs.declared.table.Topic.{Topic}
 use Rattle.pulsar_laws.proofs.Lists.{each_alone, each_arranged, each_asker, each_made, each_opens, each_put_all}
-use Rattle.pulsar_laws.proofs.plans.AtOnce.{AtOnce, dials, does_it, is_notice, is_part, nothing, once_each, performs_once, raised_told, says, stops_all}
+use Rattle.pulsar_laws.proofs.plans.AtOnce.{AtOnce, begins_too, dials, does_it, is_notice, is_part, nothing, once_each, performs_once, raised_told, says, stops_all}
 pub use Rattle.pulsar_laws.proofs.plans.AtOnce.{GivenBy, GivesSo, SaysSo}
 use Rattle.pulsar_laws.proofs.Cases.{cond_so}
 use Rattle.pulsar_laws.specs.Laws.{Acted}
@@ -23,13 +23,24 @@ use Rattle.pulsar_producer.specs.Topic as topic
 use Rattle.pulsar_producer_table.specs.Producers.{is_woken, numbers_at, stored_by, turn_passed, unsent, waiting}
 use Rattle.pulsar_acts.specs.Rules.{caused, failed_by, failed_on, served_on, stopped_one, stopped_with, waiters_of, woken}
 use Rattle.pulsar_links.specs.LinkRules.{answered_by, answered_on, dropped, ended_by, ended_on, failed, failed_at, failed_over, fails_so, lost, lost_so, lost_with, moved_on, served_by, stopped_at}
-use Rattle.pulsar_producer_table.specs.Notices.{stopped_call}
+use Rattle.pulsar_producer_table.specs.Notices.{stopped_call, stopped_takers}
+use Rattle.pulsar_outgoing.specs.declared.multi_topic.Multi.{Multi}
+use Rattle.pulsar_outgoing.specs.declared.multi_topic.MultiAsk.{MultiAsk}
+use Rattle.pulsar_outgoing.specs.declared.multi_topic.MultiAsk.TheVariants.{PassTurn as PassMultiTurn}
+use Rattle.pulsar_producer.specs.MultiTopic as multi
+use Rattle.pulsar_producer_table.specs.MultiAsks as of_multi
+use Rattle.pulsar_producer_table.specs.MultiAsks.{removed_by, taker_notice}
+use Rattle.pulsar_producer_table.specs.Multis.{next_on, waiting as multis_waiting}
+use Rattle.pulsar_producer_table.specs.Takers.{who_of}
+use Rattle.pulsar_consumer_table.specs.Notices.{redelivered_at}
+use Rattle.pulsar_acts.specs.View.{around_multi, multi_at}
+use Rattle.pulsar_calls.specs.declared.act.Alarm.TheVariants.{Redelivery}
 use Rattle.pulsar_client.proofs.Acts.{each_drop}
 use Rattle.pulsar_client.proofs.Raising.{IsRaised, raises}
 use Rattle.pulsar_laws.proofs.plans.Led.{deeds_follow_lem}
 use Rattle.pulsar_laws.proofs.plans.Spots.{same_self}
 use Rattle.pulsar_laws.proofs.plans.Fitting.{Fits, all_settling, begins_fits, fits, is_said, is_settling, is_stop, says_so, settles_so, spot, told_fits}
-use Rattle.pulsar_laws.proofs.plans.Wording.{IsStoppedWord, IsWord, heard_words, is_stopped_word, is_word, is_worded, joins_words, lost_words, stopped_words}
+use Rattle.pulsar_laws.proofs.plans.Wording.{IsStoppedWord, IsWord, heard_words, is_stopped_word, is_word, is_worded, joins_words, lost_words, redelivered_words, stopped_words}
 use Rattle.pulsar_acts.specs.Reading.{heard_on}
 
 -- what one is granted only by what it does; a turn, that a batch was cut, and that all is settled come by others too
@@ -148,6 +159,7 @@ readied_free n act row = each_either IsCaused (is_woken act row) (ready_notice n
 woken_free : (v : View) (a : Alarm) → Each IsCaused (woken v a)
 woken_free v (Wake who) = (refl, tt)
 woken_free v (Batch n) = readied_free n topic.Cuts (v.producers.topics n)
+woken_free v (Redelivery n t) = words_free (redelivered_at v.now t (v.consumers.rows t)) (redelivered_words v.now t (v.consumers.rows t))
 woken_free v _ = tt
 
 pause_free : (known : Addresses) (row : Option Pause) → Each IsCaused (stopped_at known row)
@@ -192,8 +204,10 @@ causes_inner v (Comes (Rings a)) =
 causes_inner v (Does who StopAll) =
     each_opens IsCaused _ (each_append IsCaused _ (stopped_on v)
     (each_append IsCaused _ _ (each_flat IsCaused (λ e. stopped_with v.addresses e.0) v.alarms (λ e. stopped_free v.addresses e.0))
+    (each_append IsCaused _ (stopped_takers v.producers.multis)
     (each_append IsCaused _ _ (each_made IsCaused stopped_one (λ w. refl) (waiting v.producers))
-    (each_made IsCaused stopped_call (λ t. refl) (unsent v.producers))))
+    (each_made IsCaused stopped_call (λ t. refl) (unsent v.producers)))
+    (each_made IsCaused stopped_one (λ w. refl) (map who_of (multis_waiting v.producers.multis)))))
     (each_map IsStoppedWord IsCaused (stopped_on v) (λ n h. halt_free n.outcome h) (stopped_words v)))
 causes_inner v _ = tt
 
@@ -311,13 +325,20 @@ IsToldTo who (Told n) = n.who ≡ who
 IsToldTo who _ = Unit {0}
 
 told_to : (v : View) (who : Who) (action : Action) → Each (IsToldTo who) (performs v who action)
-told_to v who action = once_each (IsToldTo who) (λ u k b. refl) (λ p. tt) (λ l. tt) (performs_once v who action)
+told_to v who action = once_each (IsToldTo who) (λ u k b. refl) (λ p. tt) (λ l. tt) (λ w e s. tt) (performs_once v who action)
+
+-- one that asks a producer of many topics is granted nothing
+multi_plain : {v : View} (m : Multi) (ask : MultiAsk) (u : Outcome) → SaysSo v (OfMulti m ask) u → is_grant u ≡ false
+multi_plain m ask (outcome.Granted n) h = absurd h
+multi_plain m ask _ h = refl
 
 -- it is told no more than that
 once_rest : {v : View} {who : Who} {action : Action} {xs : List Act} → AtOnce v who action xs → Each IsPlain (drop 1 xs)
 once_rest nothing = tt
 once_rest (says k b) = tt
 once_rest dials = tt
+once_rest {v} {who} (begins_too {m} {ask} j k) =
+    each_drop IsPlain _ (once_each IsPlain (λ u says b. multi_plain m ask u says) (λ p. refl) (λ l. refl) (λ w e s. refl) (begins_too j k))
 once_rest {v} {who} stops_all =
     each_drop IsPlain (over_links stop_act v.links ++ tells who outcome.Stopped)
     (each_append IsPlain (over_links stop_act v.links) (tells who outcome.Stopped) (over_each IsPlain stop_act v.links (λ l seat. (refl, tt))) (refl, tt))
@@ -364,6 +385,7 @@ IsPassed m = IsTurn m × (is_part m.outcome ≡ false)
 
 abbrev pub JoinSo : Act → Notice → Type 0
 JoinSo (Does who (OfTopic n PassTurn)) m = IsPassed m
+
 JoinSo (Does who (Tell n)) m = is_said m.outcome ≡ true
 JoinSo (Does who (TellAll ns)) m = is_settling m.outcome ≡ true
 JoinSo _ m = IsCaused m
@@ -375,6 +397,22 @@ passed_so n (Some next) = ((refl, refl), tt)
 readied_so : (n : ℕ) (act : topic.Act) (row : Option Topic) → Each IsCaused (readied n act row)
 readied_so n act row = each_either IsCaused (is_woken act row) (ready_notice n ∷ []) [] (refl, tt) tt
 
+-- the turn of a producer of many topics, and what its policies settle of those whose messages were stored
+multi_served : (x : of_multi.Around) (ask : MultiAsk) (row : Option multi.Seen) → Each IsCaused (of_multi.given x ask row).serves
+multi_served x ask None = tt
+multi_served x PassMultiTurn (Some s) = next (next_on (Some s))
+  where
+    next : (t : Option Taker) → Each IsCaused (option_to_list (option_map taker_notice t))
+    next None = tt
+    next (Some t) = (refl, tt)
+multi_served x ask (Some s) = tt
+
+multi_joins : (v : View) (who : Who) (m : Multi) (ask : MultiAsk) → Each IsCaused (joins v (Does who (OfMulti m ask)))
+multi_joins v who m ask =
+    let numbers : List ℕ = removed_by ask (multi_at v m) in
+    each_append IsCaused (of_multi.given (around_multi v who) ask (multi_at v m)).serves (map closed_notice (stored_by v.producers numbers))
+    (multi_served (around_multi v who) ask (multi_at v m)) (each_made IsCaused closed_notice (λ u. refl) (stored_by v.producers numbers))
+
 worded : (v : View) (a : Act) → is_worded a ≡ true → Each IsCaused (joins v a)
 worded v a h = words_free (joins v a) (joins_words v a h)
 
@@ -382,14 +420,15 @@ pub joins_so : (o : Options) (log : List Entry) (a : Act) → IsRun o (Then a �
 joins_so o log (Does who (OfTopic n PassTurn)) run = passed_so n (turn_passed ((view o log).producers.topics n))
 joins_so o log (Does who (OfTopic n (Store entry))) run = readied_so n (topic.Stores (turn_of who) entry) ((view o log).producers.topics n)
 joins_so o log (Does who (OfTopic n Flush)) run = readied_so n (topic.Flushes (turn_of who)) ((view o log).producers.topics n)
+joins_so o log (Does who (OfMulti m ask)) run = multi_joins (view o log) who m ask
+
 joins_so o log (Does who (Shut t)) run =
     each_made IsCaused closed_notice (λ u. refl) (stored_by (view o log).producers (numbers_at ((view o log).producers.built t)))
 joins_so o log (Does who (Tell n)) run = (tell_said o log who n run, tt)
 joins_so o log (Does who (TellAll ns)) run = tell_settling o log who ns run
 joins_so o log (Comes (Polls t)) run = worded (view o log) (Comes (Polls t)) refl
 joins_so o log (Does who (Ask l request)) run = worded (view o log) (Does who (Ask l request)) refl
-joins_so o log (Does who (OfConsumer (Revive l))) run = worded (view o log) (Does who (OfConsumer (Revive l))) refl
-joins_so o log (Does who (OfConsumer (FailConsumer f))) run = worded (view o log) (Does who (OfConsumer (FailConsumer f))) refl
+joins_so o log (Does who (OfConsumer ask)) run = worded (view o log) (Does who (OfConsumer ask)) refl
 joins_so o log (Answers who verdict) run = worded (view o log) (Answers who verdict) refl
 joins_so o log _ run = tt
 
@@ -428,7 +467,7 @@ clean_run o (Then a ∷ log) run =
 -- WHAT ONE IS GRANTED
 
 pub gives_so : (v : View) (who : Who) (action : Action) → Each (GivesSo v action) (performs v who action)
-gives_so v who action = once_each (GivesSo v action) (λ u k b. k) (λ p. tt) (λ l. tt) (performs_once v who action)
+gives_so v who action = once_each (GivesSo v action) (λ u k b. k) (λ p. tt) (λ l. tt) (λ w e s. tt) (performs_once v who action)
 
 pub in_each : {A : Type 0} (P : A → Type 0) (x : A) (xs : List A) → Each P xs → In x xs → P x
 in_each P x [] k h = absurd h

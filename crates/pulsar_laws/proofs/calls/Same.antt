@@ -33,3 +33,11 @@ same_producer m n h = eqb-true m n (and_parts (m == n) true h).0
 
 pub same_test : (m n : ℕ) → is_same (Producer m) (Producer n) ≡ true → (m == n) ≡ true
 same_test m n h = (and_parts (m == n) true h).0
+
+-- the plan of a consumer itself has no key
+pub own_plan : (n t u key : ℕ) → ((key == 0) && (t == u)) ≡ true → Consumer n u key ≡ Consumer n t 0
+own_plan n t u key h =
+    let e = and_parts (key == 0) (t == u) h in
+    let p : key ≡ 0 = eqb-true key 0 e.0 in
+    let q : t ≡ u = eqb-true t u e.1 in
+    cc

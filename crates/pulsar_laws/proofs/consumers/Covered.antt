@@ -7,6 +7,7 @@ use Rattle.pulsar_laws.proofs.ActWords.{Act, Answers, Arrival, Ask, Consumer, Do
 use Rattle.pulsar_laws.proofs.RunWords.{Begins, EndsOnce, Entry, IsRun, notice, Options, Then, view, View}
 use Rattle.pulsar_laws.proofs.LinkWords.{answer_at, Fault, is_body, place_of, Reply, Seat, url_at}
 use Rattle.pulsar_messages.specs.Words as words
+use Rattle.pulsar_consumer.specs.Frames.{frame_in}
 use Rattle.pulsar_consumer.specs.Laws.{asked_since}
 use Rattle.pulsar_consumer.specs.Topic.{Act as Done, Lives, Hears, Loses, Fails, Ends as Over, Polls as Polled, Asks, IsAt, TakesCopy, IsCopied, FailsCopy, Stops, Forgets, Checks, Seen, Live, Setup, first_due, link_of, lives_on, seen}
 use Rattle.pulsar_incoming.specs.declared.polled.Ending.TheVariants.{TopicEnded}
@@ -15,6 +16,7 @@ use Rattle.pulsar_calls.specs.declared.act.Outcome.TheVariants as outcome
 use Rattle.pulsar_calls.specs.declared.act.Word.TheVariants as word
 use Rattle.pulsar_consumer_table.specs.Consumers.{Arrives, CloseAsked, Deed, LinkEnds, Member, Revived, is_closed_by}
 use Rattle.pulsar_laws.proofs.Cases.{none_some, some_is}
+use Rattle.pulsar_laws.proofs.calls.Same.{own_plan}
 use Rattle.pulsar_laws.proofs.calls.Ticketed.{consumer_ticket}
 use Rattle.pulsar_laws.specs.ConsumerLaws.{Flow, arrival_does, does_to, done_since, done_to, flows_after, flows_since, frame_does, loss_does, made_with, permits_of, subscription_does}
 use Rattle.pulsar_laws.proofs.producers.Drawing.{Every, here}
@@ -57,15 +59,15 @@ pub either_new : (b : Bool) (xs ys : List Done) → makes_new xs ≡ false → m
 either_new true xs ys p q = p
 either_new false xs ys p q = q
 
-frame_new : (l : ℕ) (r : Reply) (s : Seen) → makes_new (frame_does l r s) ≡ false
-frame_new l r s =
-    either_new (is_body 9 r.content.body) _ _ refl
+frame_new : (now l : ℕ) (r : Reply) (s : Seen) → makes_new (frame_does now l r s) ≡ false
+frame_new now l r s =
+    either_new (is_body 9 r.content.body) (cond (lives_on l s) (Hears l (frame_in r) ∷ IsAt now ∷ []) []) _ (either_new (lives_on l s) _ _ refl refl)
     (either_new (is_body 27 r.content.body) (cond (lives_on l s) (Over TopicEnded ∷ []) []) _ (either_new (lives_on l s) _ _ refl refl)
     (either_new (is_body 16 r.content.body) _ _ refl refl))
 
-arrival_new : (l : ℕ) (a : Arrival) (s : Seen) → makes_new (arrival_does l a s) ≡ false
-arrival_new l (arrivals.Gives n r) s = either_new (s.number == n) (frame_does l r s) [] (frame_new l r s) refl
-arrival_new l _ s = refl
+arrival_new : (now l : ℕ) (a : Arrival) (s : Seen) → makes_new (arrival_does now l a s) ≡ false
+arrival_new now l (arrivals.Gives n r) s = either_new (s.number == n) (frame_does now l r s) [] (frame_new now l r s) refl
+arrival_new now l _ s = refl
 
 loss_new : (l : ℕ) (cause : Option Fault) → makes_new (loss_does l cause) ≡ false
 loss_new l None = refl
@@ -88,26 +90,26 @@ none_new (Forgets id ∷ xs) ys p q = none_new xs ys p q
 none_new (Checks clock ∷ xs) ys p q = none_new xs ys p q
 none_new (Asks ∷ xs) ys p q = none_new xs ys p q
 
-other_new : (v : View) (t : ℕ) (a : Act) → is_revival a ≡ false → (m : Member) → makes_new (does_to v t m a) ≡ false
+other_new : (v : View) (t : ℕ) (a : Act) → is_revival a ≡ false → (m : Member) → v.consumers.rows t ≡ Some m → makes_new (does_to v t m a) ≡ false
 other_new v t a h = did_so (λ xs s. makes_new xs ≡ false) (λ s. refl) (λ xs ys s q p. none_new xs ys p q) v t a one
   where
     one : (d : Deed) → CameFrom v t a d → (m : Member) → makes_new (deed_does d m) ≡ false
-    one (Arrives l x) c m = arrival_new l x m.seen
+    one (Arrives now l x) c m = arrival_new now l x m.seen
     one (LinkEnds l cause) c m = loss_new l cause
     one (CloseAsked closed l b) c m = either_new (b && is_closed_by closed l m) _ _ refl refl
-    one (Revived l url) c m = let f : true ≡ false = sym (ap is_revival c.1) ∙ h in absurd cc
+    one (Revived now l url) c m = let f : true ≡ false = sym (ap is_revival c.1) ∙ h in absurd cc
     one _ c m = refl
 
 -- an act makes none, or begins the flows anew
-does_new : (v : View) (t : ℕ) (m : Member) (a : Act) (fs : List Flow) → (makes_new (does_to v t m a) ≡ false) ⊎ (flows_after v t a fs ≡ [])
-does_new v t m (Does who (OfConsumer (Revive l))) fs = by (t == ticket_of who) (v.links.live l)
+does_new : (v : View) (t : ℕ) (m : Member) (a : Act) (fs : List Flow) → v.consumers.rows t ≡ Some m → (makes_new (does_to v t m a) ≡ false) ⊎ (flows_after v t a fs ≡ [])
+does_new v t m (Does who (OfConsumer (Revive l))) fs there = by (t == ticket_of who) (v.links.live l)
   where
     by : (b : Bool) (row : Option Seat) →
-        (makes_new (cond b (subscription_does l (url_at row)) []) ≡ false) ⊎ (cond (b && is_some row) [] fs ≡ [])
+        (makes_new (cond b (subscription_does v.now l (url_at row)) []) ≡ false) ⊎ (cond (b && is_some row) [] fs ≡ [])
     by true None = inl refl
     by true (Some seat) = inr refl
     by false row = inl refl
-does_new v t m a fs = inl (other_new v t a refl m)
+does_new v t m a fs there = inl (other_new v t a refl m there)
 
 -- ALONG A LOG
 
@@ -181,7 +183,7 @@ module _ (once : EndsOnce) (o : Options) (log : List Entry) (t : ℕ) (k : Every
   plain_covered a l s m run (inl (was, e, on)) is made same =
       let old = here (Covered o t) log k was l s e on made in
       let f : permits_of (flows_after v t a fs) ≡ permits_of fs = ap permits_of same in
-      elim (does_new v t m a fs) [
+      elim (does_new v t m a fs is) [
         | inl new ↦ (let more = taken_more s (does_to v t m a) (done_to o t log) new in omega (arith, old, f, more))
         | inr none ↦ none_covered (flows_after v t a fs) _ none
       ]
@@ -190,25 +192,25 @@ module _ (once : EndsOnce) (o : Options) (log : List Entry) (t : ℕ) (k : Every
 
   kept_covered : (a : Act) (l : ℕ) (s : Setup) (m : Member) → IsRun o (Then a ∷ log) → LinkFrom o log a t l → v.consumers.rows t ≡ Some m →
       made_with o t log ≡ Some s → permits_of (flows_after v t a fs) ≤ asked_since s (does_to v t m a ++ done_to o t log)
-  kept_covered (Does (Consumer n u key) (Ask j (words.SendFlow m' p))) l s m run from is made = elim (cases_Bool (t == u)) [
+  kept_covered (Does (Consumer n u key) (Ask j (words.SendFlow m' p))) l s m run from is made = elim (cases_Bool ((key == 0) && (t == u))) [
     | inl d ↦
-        (let a : Act = Does (Consumer n u 0) (Ask j (words.SendFlow m' p)) in
+        (let a : Act = Does (Consumer n u key) (Ask j (words.SendFlow m' p)) in
         let run2 : IsRun o (Then (Does (Consumer n t 0) (Ask j (words.SendFlow m' p))) ∷ log) =
-        subst (λ y. IsRun o (Then (Does (Consumer n y 0) (Ask j (words.SendFlow m' p))) ∷ log)) (sym (eqb-true t u d)) run in
+        subst (λ w. IsRun o (Then (Does w (Ask j (words.SendFlow m' p))) ∷ log)) (own_plan n t u key d) run in
         let x : IsPlaced o log n t j m' p = is_placed once o log n t j m' p run2 in
         let old = asked_covered once o log n t j m' p run.0 x k s made in
-        let more = taken_more s (does_to v t m a) (done_to o t log) (ask_new m n u j m' p) in
+        let more = taken_more s (does_to v t m a) (done_to o t log) (ask_new n u key j m' p) in
         let new : Flow = record { place = place_of (answer_at v.now (words.SendFlow m' p) (v.links.live j)); permits = p } in
         let f : permits_of (new ∷ fs) ≡ p + permits_of fs = sum_by-cons (λ (y : Flow). y.permits) new fs in
         let g : permits_of (flows_after v t a fs) ≡ permits_of (new ∷ fs) = ap (λ b. permits_of (cond b (new ∷ fs) fs)) d in
         omega (arith, old, more, f, g))
     | inr d ↦
-        plain_covered (Does (Consumer n u 0) (Ask j (words.SendFlow m' p))) l s m run from is made
+        plain_covered (Does (Consumer n u key) (Ask j (words.SendFlow m' p))) l s m run from is made
         (ap (λ b. cond b (record { place = place_of (answer_at v.now (words.SendFlow m' p) (v.links.live j)); permits = p } ∷ fs) fs) d)
   ]
     where
-      ask_new : (m : Member) (n u j m' p : ℕ) → makes_new (does_to v t m (Does (Consumer n u 0) (Ask j (words.SendFlow m' p)))) ≡ false
-      ask_new m n u j m' p = other_new v t (Does (Consumer n u 0) (Ask j (words.SendFlow m' p))) refl m
+      ask_new : (n u key j m' p : ℕ) → makes_new (does_to v t m (Does (Consumer n u key) (Ask j (words.SendFlow m' p)))) ≡ false
+      ask_new n u key j m' p = other_new v t (Does (Consumer n u key) (Ask j (words.SendFlow m' p))) refl m is
   kept_covered (Does who (OfConsumer (Revive j))) l s m run from is made = elim (cases_Bool (t == ticket_of who && is_some (v.links.live j))) [
     | inl d ↦ none_covered (flows_after v t (Does who (OfConsumer (Revive j))) fs) _ (ap (λ b. cond b [] fs) d)
     | inr d ↦ plain_covered (Does who (OfConsumer (Revive j))) l s m run from is made (ap (λ b. cond b [] fs) d)

@@ -36,7 +36,7 @@ use Rattle.pulsar_consumer.specs.Laws.{given, given_by as given_in, is_pending_i
 use Rattle.pulsar_incoming.specs.declared.polled.Ending.{Ending}
 use Rattle.pulsar_incoming.specs.declared.polled.Ending.TheVariants.{Closed, TopicEnded}
 use Rattle.pulsar_incoming.specs.declared.polled.Polled.{Polled as Answer}
-use Rattle.pulsar_consumer.proofs.Checking.{setup_is}
+use Rattle.pulsar_consumer.proofs.Checking.{setup_is, setup_of}
 use Rattle.pulsar_consumer.proofs.Histories.{polls_give_arrivals, polls_give_the_next}
 use Rattle.pulsar_consumer.proofs.Plain.{plain_gives_all}
 use Rattle.pulsar_consumer_table.specs.Consumers.{Arrives, ClientStops, CloseAsked, Copied, CopyLost, CopyTaken, Deed, FlowTaken, IsChecked, IsForgotten, IsPolled, IsSought, LinkEnds, Member, NotRevived, Revived, is_closed_by, polled, polled_so}
@@ -428,5 +428,5 @@ polls_follow_lem once o log t m run e =
           ∙ ap (map handed) (polls_give_arrivals k.0 h),
       next,
       ap (polled_so t m.seen.topic) next ∙ shows_left t m.seen.topic (left k.0 h) why,
-      λ none. plain_gives_all k.0 h (sym (ap (λ x. x.config.dead_letter_policy) (k.2 ∙ setup_is k.0 h)) ∙ none),
+      λ none. plain_gives_all k.0 h (sym (ap (λ x. x.config.dead_letter_policy) (ap setup_of k.2 ∙ setup_is k.0 h)) ∙ none),
     )

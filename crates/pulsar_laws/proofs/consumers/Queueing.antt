@@ -5,6 +5,7 @@ use Rattle.std.proofs.lemmas.Bool.Decides.{nat_tests}
 use Rattle.std.proofs.lemmas.List.Sums.{sum_by-cons}
 use Rattle.std.specs.List.{list_any}
 use Rattle.std.specs.Option.{is_some, option_map}
+use Rattle.pulsar_laws.proofs.calls.Same.{own_plan}
 use Rattle.pulsar_laws.proofs.ActWords.{Act, Ask, Consumer, Does, numbers_from, Revive, ticket_of, Who, OfConsumer}
 use Rattle.pulsar_laws.proofs.RunWords.{Begins, Each, each_map, EndsOnce, Entry, IsRun, Options, Then, view, View}
 use Rattle.pulsar_laws.proofs.LinkWords.{answer_at, is_numbered, place_of, Seat, seat_asked}
@@ -161,10 +162,12 @@ module _ (once : EndsOnce) (o : Options) (log : List Entry) (t : ℕ) (was : Flo
 
   -- none was asked for where there is no consumer
   pub fresh_none : (a : Act) → IsRun o (Then a ∷ log) → v.consumers.rows t ≡ None → flows_after v t a fs ≡ []
-  fresh_none (Does (Consumer n u key) (Ask l (words.SendFlow m p))) run e = elim (cases_Bool (t == u)) [
+  fresh_none (Does (Consumer n u key) (Ask l (words.SendFlow m p))) run e = elim (cases_Bool ((key == 0) && (t == u))) [
     | inl d ↦
-        (let x : IsPlaced o log n u l m p = is_placed once o log n u l m p run in
-        absurd (none_some (sym e ∙ ap v.consumers.rows (eqb-true t u d) ∙ x.is_there)))
+        (let run2 : IsRun o (Then (Does (Consumer n t 0) (Ask l (words.SendFlow m p))) ∷ log) =
+        subst (λ w. IsRun o (Then (Does w (Ask l (words.SendFlow m p))) ∷ log)) (own_plan n t u key d) run in
+        let x : IsPlaced o log n t l m p = is_placed once o log n t l m p run2 in
+        absurd (none_some (sym e ∙ x.is_there)))
     | inr d ↦
         ap (λ b. cond b (record { place = place_of (answer_at v.now (words.SendFlow m p) (v.links.live l)); permits = p } ∷ fs) fs) d ∙ was.none e
   ]
@@ -189,37 +192,39 @@ module _ (once : EndsOnce) (o : Options) (log : List Entry) (t : ℕ) (was : Flo
 
   kept_below : (a : Act) → IsRun o (Then a ∷ log) → (m : Member) (k : ℕ) → v.consumers.rows t ≡ Some m → link_of m.seen ≡ Some k →
       IsAt (AreBelow (flows_after v t a fs)) ((view o (Then a ∷ log)).links.live k)
-  kept_below (Does (Consumer n u key) (Ask l (words.SendFlow m' p))) run m k e on = elim (cases_Bool (t == u)) [
+  kept_below (Does (Consumer n u key) (Ask l (words.SendFlow m' p))) run m k e on = elim (cases_Bool ((key == 0) && (t == u))) [
     | inl d ↦
-        (let a : Act = Does (Consumer n u 0) (Ask l (words.SendFlow m' p)) in
-        let x : IsPlaced o log n u l m' p = is_placed once o log n u l m' p run in
-        let same : m ≡ x.member = some_is (sym e ∙ ap v.consumers.rows (eqb-true t u d) ∙ x.is_there) in
+        (let a : Act = Does (Consumer n u key) (Ask l (words.SendFlow m' p)) in
+        let run2 : IsRun o (Then (Does (Consumer n t 0) (Ask l (words.SendFlow m' p))) ∷ log) =
+        subst (λ w. IsRun o (Then (Does w (Ask l (words.SendFlow m' p))) ∷ log)) (own_plan n t u key d) run in
+        let x : IsPlaced o log n t l m' p = is_placed once o log n t l m' p run2 in
+        let same : m ≡ x.member = some_is (sym e ∙ x.is_there) in
         let link : l ≡ k = some_is (sym x.on ∙ ap (λ (y : Member). link_of y.seen) (sym same) ∙ on) in
         subst (λ b. IsAt (AreBelow (cond b (record { place = place_of (answer_at v.now (words.SendFlow m' p) (v.links.live l)); permits = p } ∷ fs) fs))
         ((view o (Then a ∷ log)).links.live k)) (sym d)
         (subst (λ j. IsAt (AreBelow (record { place = place_of (answer_at v.now (words.SendFlow m' p) (v.links.live l)); permits = p } ∷ fs))
-        ((view o (Then a ∷ log)).links.live j)) link (new l m' p n u x.seat x.live x.answer
+        ((view o (Then a ∷ log)).links.live j)) link (new (Consumer n u key) l m' p x.seat x.live x.answer
         (subst (λ j. IsAt (AreBelow fs) (v.links.live j)) (sym link) (was.below m k e on)))))
     | inr d ↦
         subst (λ b. IsAt (AreBelow (cond b (record { place = place_of (answer_at v.now (words.SendFlow m' p) (v.links.live l)); permits = p } ∷ fs) fs))
-        ((view o (Then (Does (Consumer n u 0) (Ask l (words.SendFlow m' p))) ∷ log)).links.live k)) (sym d)
-        (same_below (Does (Consumer n u 0) (Ask l (words.SendFlow m' p))) run m k e on)
+        ((view o (Then (Does (Consumer n u key) (Ask l (words.SendFlow m' p))) ∷ log)).links.live k)) (sym d)
+        (same_below (Does (Consumer n u key) (Ask l (words.SendFlow m' p))) run m k e on)
   ]
     where
-      new : (l m' p n u : ℕ) (seat : Seat) → v.links.live l ≡ Some seat → answer_at v.now (words.SendFlow m' p) (Some seat) ≡ Ok (place_on seat.seen) →
+      new : (who : Who) (l m' p : ℕ) (seat : Seat) → v.links.live l ≡ Some seat → answer_at v.now (words.SendFlow m' p) (Some seat) ≡ Ok (place_on seat.seen) →
           IsAt (AreBelow fs) (v.links.live l) →
           IsAt (AreBelow (record { place = place_of (answer_at v.now (words.SendFlow m' p) (v.links.live l)); permits = p } ∷ fs))
-          ((view o (Then (Does (Consumer n u 0) (Ask l (words.SendFlow m' p))) ∷ log)).links.live l)
-      new l m' p n u seat live answer h =
+          ((view o (Then (Does who (Ask l (words.SendFlow m' p))) ∷ log)).links.live l)
+      new who l m' p seat live answer h =
           let r : IsInLine seat.seen = in_seat o log l seat live in
           let old : AreBelow fs seat.seen = subst (IsAt (AreBelow fs)) live h in
           subst (IsAt (AreBelow (record { place = place_of (answer_at v.now (words.SendFlow m' p) (v.links.live l)); permits = p } ∷ fs)))
-          (sym (asked_is v (Consumer n u 0) l (words.SendFlow m' p) l))
+          (sym (asked_is v who l (words.SendFlow m' p) l))
           (subst (λ row. IsAt (AreBelow (record { place = place_of (answer_at v.now (words.SendFlow m' p) row); permits = p } ∷ fs))
-          (cond (l == l) (option_map (seat_asked (Consumer n u 0) v.now (words.SendFlow m' p)) row) row)) (sym live)
+          (cond (l == l) (option_map (seat_asked who v.now (words.SendFlow m' p)) row) row)) (sym live)
           (subst (λ b. IsAt (AreBelow (record { place = place_of (answer_at v.now (words.SendFlow m' p) (Some seat)); permits = p } ∷ fs))
-          (cond b (Some (seat_asked (Consumer n u 0) v.now (words.SendFlow m' p) seat)) (Some seat))) (sym (eq-eqb l l refl))
-          (asked_below v.now m' p (Consumer n u 0) seat fs r answer old)))
+          (cond b (Some (seat_asked who v.now (words.SendFlow m' p) seat)) (Some seat))) (sym (eq-eqb l l refl))
+          (asked_below v.now m' p who seat fs r answer old)))
   kept_below (Does who (OfConsumer (Revive l))) run m k e on = by (t == ticket_of who && is_some (v.links.live l))
     where
       by : (b : Bool) → IsAt (AreBelow (cond b [] fs)) ((view o (Then (Does who (OfConsumer (Revive l))) ∷ log)).links.live k)

@@ -3,6 +3,7 @@ use Rattle.std.proofs.Common.{◌≡◌, ◌⊎◌, inl, inr, ◌∙◌, sym, ap
 use Rattle.std.proofs.lemmas.List.Sums.{sum_by-cons}
 use Rattle.std.specs.Option.{is_some, option_map}
 use Rattle.pulsar_messages.specs.Words as words
+use Rattle.pulsar_consumer.specs.Frames.{frame_in}
 use Rattle.pulsar_consumer.specs.Laws.{asked_since}
 use Rattle.pulsar_consumer.specs.Topic.{Act as Done, Lives, Hears, Loses, Fails, Ends as Over, Polls as Polled, Asks, IsAt, TakesCopy, IsCopied, FailsCopy, Stops, Forgets, Checks, Seen, Live, Setup, first_due, first_in, is_ended, link_of, lives_on, seen}
 use Rattle.pulsar_calls.specs.declared.act.Arrival.TheVariants as arrivals
@@ -10,6 +11,7 @@ use Rattle.pulsar_calls.specs.declared.act.Outcome.TheVariants as outcome
 use Rattle.pulsar_calls.specs.declared.act.Word.TheVariants as word
 use Rattle.pulsar_consumer_table.specs.Consumers.{Arrives, CloseAsked, Deed, FlowTaken, LinkEnds, Member, Revived, flow_at, flow_on, is_closed_by}
 use Rattle.pulsar_laws.proofs.Cases.{none_some, some_is}
+use Rattle.pulsar_laws.proofs.calls.Same.{own_plan}
 use Rattle.pulsar_laws.proofs.calls.Ticketed.{consumer_ticket}
 use Rattle.pulsar_laws.specs.ConsumerLaws.{Flow, FlowsAreCounted, arrival_does, does_to, done_to, flows_after, flows_since, frame_does, loss_does, made_with, permits_of, subscription_does}
 use Rattle.pulsar_laws.proofs.producers.Drawing.{Every, here}
@@ -58,15 +60,15 @@ either_takes : (b : Bool) (xs ys : List Done) → takes_in xs ≡ false → take
 either_takes true xs ys p q = p
 either_takes false xs ys p q = q
 
-frame_takes : (l : ℕ) (r : Reply) (s : Seen) → takes_in (frame_does l r s) ≡ false
-frame_takes l r s =
-    either_takes (is_body 9 r.content.body) _ _ refl
+frame_takes : (now l : ℕ) (r : Reply) (s : Seen) → takes_in (frame_does now l r s) ≡ false
+frame_takes now l r s =
+    either_takes (is_body 9 r.content.body) (cond (lives_on l s) (Hears l (frame_in r) ∷ IsAt now ∷ []) []) _ (either_takes (lives_on l s) _ _ refl refl)
     (either_takes (is_body 27 r.content.body) (cond (lives_on l s) (Over TopicEnded ∷ []) []) _ (either_takes (lives_on l s) _ _ refl refl)
     (either_takes (is_body 16 r.content.body) _ _ refl refl))
 
-arrival_takes : (l : ℕ) (a : Arrival) (s : Seen) → takes_in (arrival_does l a s) ≡ false
-arrival_takes l (arrivals.Gives n r) s = either_takes (s.number == n) (frame_does l r s) [] (frame_takes l r s) refl
-arrival_takes l _ s = refl
+arrival_takes : (now l : ℕ) (a : Arrival) (s : Seen) → takes_in (arrival_does now l a s) ≡ false
+arrival_takes now l (arrivals.Gives n r) s = either_takes (s.number == n) (frame_does now l r s) [] (frame_takes now l r s) refl
+arrival_takes now l _ s = refl
 
 loss_takes : (l : ℕ) (cause : Option Fault) → takes_in (loss_does l cause) ≡ false
 loss_takes l None = refl
@@ -95,15 +97,15 @@ is_taker (Does who (OfConsumer TakeFlow)) = true
 is_taker (Does who (OfConsumer (Revive l))) = true
 is_taker _ = false
 
-other_takes : (v : View) (t : ℕ) (a : Act) → is_taker a ≡ false → (m : Member) → takes_in (does_to v t m a) ≡ false
+other_takes : (v : View) (t : ℕ) (a : Act) → is_taker a ≡ false → (m : Member) → v.consumers.rows t ≡ Some m → takes_in (does_to v t m a) ≡ false
 other_takes v t a h = did_so (λ xs s. takes_in xs ≡ false) (λ s. refl) (λ xs ys s q p. none_takes xs ys p q) v t a one
   where
     one : (d : Deed) → CameFrom v t a d → (m : Member) → takes_in (deed_does d m) ≡ false
-    one (Arrives l x) c m = arrival_takes l x m.seen
+    one (Arrives now l x) c m = arrival_takes now l x m.seen
     one (LinkEnds l cause) c m = loss_takes l cause
     one (CloseAsked closed l b) c m = either_takes (b && is_closed_by closed l m) (Over Closed ∷ []) [] refl refl
     one FlowTaken c m = let f : true ≡ false = sym (ap is_taker c.1) ∙ h in absurd cc
-    one (Revived l url) c m = let f : true ≡ false = sym (ap is_taker c.1) ∙ h in absurd cc
+    one (Revived now l url) c m = let f : true ≡ false = sym (ap is_taker c.1) ∙ h in absurd cc
     one _ c m = refl
 
 -- it was taken last, or it is told of it last
@@ -189,13 +191,13 @@ flow_none m h = by m.seen.engine.live h
         by_due None f = refl
         by_due (Some p) f = absurd (none_some (sym f))
 
-made_zero : (s : Setup) (l : ℕ) (row : Option Seat) → asked_since s (subscription_does l (url_at row)) ≡ 0
-made_zero s l None = refl
-made_zero s l (Some seat) = refl
+made_zero : (s : Setup) (now l : ℕ) (row : Option Seat) → asked_since s (subscription_does now l (url_at row)) ≡ 0
+made_zero s now l None = refl
+made_zero s now l (Some seat) = refl
 
 -- who asks, and what is revived
-abbrev asker : Act → Option ℕ
-asker (Does (Consumer n t key) action) = Some t
+abbrev asker : Act → Option (ℕ × ℕ)
+asker (Does (Consumer n t key) action) = Some (t, key)
 asker _ = None
 
 abbrev revived_on : Act → Option ℕ
@@ -250,7 +252,7 @@ module _ (once : EndsOnce) (o : Options) (log : List Entry) (t : ℕ) (k : Every
           ∙ ap (λ y. asked_since s (done_to o t log) + unwrap_or y 0) due in
           omega (arith, le, a)
 
-      by : (n u : ℕ) → w ≡ Consumer n u → t ≡ u → (row : Option (ℕ × ℕ)) → flow_at (v.consumers.rows t) ≡ row → Goal (Does w (OfConsumer TakeFlow)) s m
+      by : (n u : ℕ) → w ≡ Consumer n u 0 → t ≡ u → (row : Option (ℕ × ℕ)) → flow_at (v.consumers.rows t) ≡ row → Goal (Does w (OfConsumer TakeFlow)) s m
       by n u e f None none = at from
         where
           at : LinkFrom o log (Does w (OfConsumer TakeFlow)) t l → Goal (Does w (OfConsumer TakeFlow)) s m
@@ -261,7 +263,7 @@ module _ (once : EndsOnce) (o : Options) (log : List Entry) (t : ℕ) (k : Every
           at (inr (inl g)) = absurd (none_some (sym g ∙ is))
           at (inr (inr (who, j, g, h))) = absurd cc
       by n u e f (Some flow) due =
-          inr (n, flow.0, flow.1, log, due, inl (ap (λ y. Then (Does y (OfConsumer TakeFlow)) ∷ log) (e ∙ ap (Consumer n) (sym f))))
+          inr (n, flow.0, flow.1, log, due, inl (ap (λ y. Then (Does y (OfConsumer TakeFlow)) ∷ log) (e ∙ ap (λ x. Consumer n x 0) (sym f))))
 
   -- it is told of the one that it took
   told_next : (x : Notice) → IsRun o (Then (Told x) ∷ log) → Pending o log t → Pending o (Then (Told x) ∷ log) t
@@ -272,15 +274,15 @@ module _ (once : EndsOnce) (o : Options) (log : List Entry) (t : ℕ) (k : Every
       by (inr (n, l, p, e)) = absurd cc
 
   -- another asks
-  other_next : (n u j m p : ℕ) → IsRun o (Then (Does (Consumer n u 0) (Ask j (words.SendFlow m p))) ∷ log) → (t == u) ≡ false → Pending o log t →
-      Pending o (Then (Does (Consumer n u 0) (Ask j (words.SendFlow m p))) ∷ log) t
-  other_next n u j m p run d pending = absurd (by (pending_next o log t (Does (Consumer n u 0) (Ask j (words.SendFlow m p))) run pending))
+  other_next : (n u key j m p : ℕ) → IsRun o (Then (Does (Consumer n u key) (Ask j (words.SendFlow m p))) ∷ log) → ((key == 0) && (t == u)) ≡ false →
+      Pending o log t → Pending o (Then (Does (Consumer n u key) (Ask j (words.SendFlow m p))) ∷ log) t
+  other_next n u key j m p run d pending = absurd (by (pending_next o log t (Does (Consumer n u key) (Ask j (words.SendFlow m p))) run pending))
     where
-      by : Follows o log t (Does (Consumer n u 0) (Ask j (words.SendFlow m p))) → ⊥
+      by : Follows o log t (Does (Consumer n u key) (Ask j (words.SendFlow m p))) → ⊥
       by (inl x) = let e = x.6 in cc
       by (inr x) =
-          let e : u ≡ t = some_is (ap asker x.3) in
-          let f : true ≡ false = sym (eq-eqb t u (sym e)) ∙ d in cc
+          let e : (u, key) ≡ (t, 0) = some_is (ap asker x.3) in
+          let f : true ≡ false = (λ i. eq-eqb key 0 (ap (λ y. y.1) e) (~ i) && eq-eqb t u (sym (ap (λ y. y.0) e)) (~ i)) ∙ d in cc
 
   -- it is subscribed again
   revived_settled : (who : Who) (j l : ℕ) (s : Setup) (m n : Member) → IsRun o (Then (Does who (OfConsumer (Revive j))) ∷ log) → v.consumers.rows t ≡ Some m →
@@ -293,8 +295,8 @@ module _ (once : EndsOnce) (o : Options) (log : List Entry) (t : ℕ) (k : Every
       url : Parts
       url = seat.address.url
 
-      does : does_to v t m (Does who (OfConsumer (Revive j))) ≡ Lives j url ∷ []
-      does = (λ i. (cond (d i) (subscription_does j (url_at (e i))) []))
+      does : does_to v t m (Does who (OfConsumer (Revive j))) ≡ Lives j url ∷ IsAt v.now ∷ []
+      does = (λ i. (cond (d i) (subscription_does v.now j (url_at (e i))) []))
 
       by : (b : Bool) → is_ended m.seen ≡ b → asked_since s (does_to v t m (Does who (OfConsumer (Revive j))) ++ done_to o t log) ≡ 0
       by true ended =
@@ -315,7 +317,7 @@ module _ (once : EndsOnce) (o : Options) (log : List Entry) (t : ℕ) (k : Every
           ap (λ xs. asked_since s (xs ++ done_to o t log)) does ∙ ap (λ b. cond b (asked_since s (done_to o t log)) 0) e
 
   revives_takes : (m : Member) (j : ℕ) (b : Bool) (row : Option Seat) → (b && is_some row) ≡ false →
-      takes_in (cond b (subscription_does j (url_at row)) []) ≡ false
+      takes_in (cond b (subscription_does v.now j (url_at row)) []) ≡ false
   revives_takes m j true None h = refl
   revives_takes m j true (Some seat) h = absurd cc
   revives_takes m j false row h = refl
@@ -323,38 +325,38 @@ module _ (once : EndsOnce) (o : Options) (log : List Entry) (t : ℕ) (k : Every
   kept_settled : (a : Act) (l : ℕ) (s : Setup) (m n : Member) → IsRun o (Then a ∷ log) → LinkFrom o log a t l → v.consumers.rows t ≡ Some m →
       made_with o t log ≡ Some s → n.seen ≡ applied (does_to v t m a) m.seen → link_of n.seen ≡ Some l → Goal a s m
   kept_settled (Comes (ToLink j Reads)) l s m n run from is made seen_so on =
-      quiet_settled (Comes (ToLink j Reads)) l s m from is made (λ w i e f. absurd cc) (other_takes v t (Comes (ToLink j Reads)) refl m) refl
+      quiet_settled (Comes (ToLink j Reads)) l s m from is made (λ w i e f. absurd cc) (other_takes v t (Comes (ToLink j Reads)) refl m is) refl
       (never (Comes (ToLink j Reads)) run refl)
   kept_settled (Comes (ToLink j (Ends end))) l s m n run from is made seen_so on =
-      quiet_settled (Comes (ToLink j (Ends end))) l s m from is made (λ w i e f. absurd cc) (other_takes v t (Comes (ToLink j (Ends end))) refl m) refl
+      quiet_settled (Comes (ToLink j (Ends end))) l s m from is made (λ w i e f. absurd cc) (other_takes v t (Comes (ToLink j (Ends end))) refl m is) refl
       (never (Comes (ToLink j (Ends end))) run refl)
   kept_settled (Comes (Polls u)) l s m n run from is made seen_so on =
-      quiet_settled (Comes (Polls u)) l s m from is made (λ w i e f. absurd cc) (other_takes v t (Comes (Polls u)) refl m) refl
+      quiet_settled (Comes (Polls u)) l s m from is made (λ w i e f. absurd cc) (other_takes v t (Comes (Polls u)) refl m is) refl
       (never (Comes (Polls u)) run refl)
   kept_settled (Told x) l s m n run from is made seen_so on =
-      quiet_settled (Told x) l s m from is made (λ w i e f. absurd cc) (other_takes v t (Told x) refl m) refl (told_next x run)
-  kept_settled (Does (Consumer c u key) (Ask j (words.SendFlow m' p))) l s m n run from is made seen_so on = elim (cases_Bool (t == u)) [
+      quiet_settled (Told x) l s m from is made (λ w i e f. absurd cc) (other_takes v t (Told x) refl m is) refl (told_next x run)
+  kept_settled (Does (Consumer c u key) (Ask j (words.SendFlow m' p))) l s m n run from is made seen_so on = elim (cases_Bool ((key == 0) && (t == u))) [
     | inl d ↦
-        (let a : Act = Does (Consumer c u 0) (Ask j (words.SendFlow m' p)) in
+        (let a : Act = Does (Consumer c u key) (Ask j (words.SendFlow m' p)) in
         let run2 : IsRun o (Then (Does (Consumer c t 0) (Ask j (words.SendFlow m' p))) ∷ log) =
-        subst (λ y. IsRun o (Then (Does (Consumer c y 0) (Ask j (words.SendFlow m' p))) ∷ log)) (sym (eqb-true t u d)) run in
+        subst (λ w. IsRun o (Then (Does w (Ask j (words.SendFlow m' p))) ∷ log)) (own_plan c t u key d) run in
         let old = asked_settled once o log c t j m' p run2 k s made in
-        let x = taken_same s (does_to v t m a) (done_to o t log) (ask_takes m c u j m' p) in
+        let x = taken_same s (does_to v t m a) (done_to o t log) (ask_takes c u key j m' p) in
         let new : Flow = record { place = place_of (answer_at v.now (words.SendFlow m' p) (v.links.live j)); permits = p } in
         let f : permits_of (new ∷ fs) ≡ p + permits_of fs = sum_by-cons (λ (y : Flow). y.permits) new fs in
         let g : permits_of (flows_after v t a fs) ≡ permits_of (new ∷ fs) = ap (λ b. permits_of (cond b (new ∷ fs) fs)) d in
         inl (omega (arith, old, x, f, g)))
     | inr d ↦
-        quiet_settled (Does (Consumer c u 0) (Ask j (words.SendFlow m' p))) l s m from is made (λ w i e f. absurd cc) (ask_takes m c u j m' p)
+        quiet_settled (Does (Consumer c u key) (Ask j (words.SendFlow m' p))) l s m from is made (λ w i e f. absurd cc) (ask_takes c u key j m' p)
         (ap (λ b. cond b (record { place = place_of (answer_at v.now (words.SendFlow m' p) (v.links.live j)); permits = p } ∷ fs) fs) d)
-        (other_next c u j m' p run d)
+        (other_next c u key j m' p run d)
   ]
     where
-      ask_takes : (m : Member) (c u j m' p : ℕ) → takes_in (does_to v t m (Does (Consumer c u 0) (Ask j (words.SendFlow m' p)))) ≡ false
-      ask_takes m c u j m' p = other_takes v t (Does (Consumer c u 0) (Ask j (words.SendFlow m' p))) refl m
+      ask_takes : (c u key j m' p : ℕ) → takes_in (does_to v t m (Does (Consumer c u key) (Ask j (words.SendFlow m' p)))) ≡ false
+      ask_takes c u key j m' p = other_takes v t (Does (Consumer c u key) (Ask j (words.SendFlow m' p))) refl m is
   kept_settled (Does who (Ask j request)) l s m n run from is made seen_so on =
       quiet_settled (Does who (Ask j request)) l s m from is made (λ w i e f. absurd cc)
-      (other_takes v t (Does who (Ask j request)) refl m) refl
+      (other_takes v t (Does who (Ask j request)) refl m is) refl
       (never (Does who (Ask j request)) run refl)
   kept_settled (Does who (OfConsumer TakeFlow)) l s m n run from is made seen_so on = elim (cases_Bool (t == ticket_of who)) [
     | inl d ↦ took_settled who l s m run from is made d
@@ -381,20 +383,20 @@ module _ (once : EndsOnce) (o : Options) (log : List Entry) (t : ℕ) (k : Every
       revivers {w} {i} e = cc
   kept_settled (Does who (OfConsumer (FailConsumer f))) l s m n run from is made seen_so on =
       quiet_settled (Does who (OfConsumer (FailConsumer f))) l s m from is made (λ w i e g. absurd cc)
-      (other_takes v t (Does who (OfConsumer (FailConsumer f))) refl m) refl
+      (other_takes v t (Does who (OfConsumer (FailConsumer f))) refl m is) refl
       (never (Does who (OfConsumer (FailConsumer f))) run refl)
   kept_settled (Does who StopAll) l s m n run from is made seen_so on =
-      quiet_settled (Does who StopAll) l s m from is made (λ w i e f. absurd cc) (other_takes v t (Does who StopAll) refl m) refl
+      quiet_settled (Does who StopAll) l s m from is made (λ w i e f. absurd cc) (other_takes v t (Does who StopAll) refl m is) refl
       (never (Does who StopAll) run refl)
   kept_settled a l s m n run from is made seen_so on =
-      quiet_settled a l s m from is made (λ w i e f. absurd cc) (other_takes v t a refl m) refl (never a run refl)
+      quiet_settled a l s m from is made (λ w i e f. absurd cc) (other_takes v t a refl m is) refl (never a run refl)
 
   row_settled : (a : Act) → IsRun o (Then a ∷ log) → (n : Member) (l : ℕ) (s : Setup) → (view o (Then a ∷ log)).consumers.rows t ≡ Some n →
       link_of n.seen ≡ Some l → made_with o t (Then a ∷ log) ≡ Some s → LinkFrom o log a t l → RowFrom o log a t →
       (asked_since s (done_to o t (Then a ∷ log)) ≤ permits_of (flows_after v t a fs)) ⊎ Pending o (Then a ∷ log) t
   row_settled a run n l s is on made from (IsNone e f) = absurd (none_some (sym f ∙ is))
   row_settled a run n l s is on made from (IsMade s2 l2 e f how did) =
-      let z : asked_since s (done_to o t (Then a ∷ log)) ≡ 0 = ap (asked_since s) did ∙ made_zero s l2 (v.links.live l2) in inl (omega (arith, z))
+      let z : asked_since s (done_to o t (Then a ∷ log)) ≡ 0 = ap (asked_since s) did ∙ made_zero s v.now l2 (v.links.live l2) in inl (omega (arith, z))
   row_settled a run n l s is on made from (IsKept m e r how did) =
       let same : r.row ≡ n = some_is (sym r.is_it ∙ is) in
       subst (λ h. (asked_since s h ≤ permits_of (flows_after v t a fs)) ⊎ Pending o (Then a ∷ log) t) (sym did)

@@ -1,6 +1,6 @@
 -- What the plans of consumers do: it touches no producer, sends no message, tells nobody, and stops nothing. And what calls on consumers begin.
 use Rattle.std.proofs.Common.{◌≡◌, ℕ, List, [], ◌∷◌, refl, Bool, true, false, Option, Some, None}
-use Rattle.pulsar_laws.proofs.ActWords.{Action, Ask, Asked, Get, Procedure, CallRefusal, Rest, TakeNumber, Wait, OfConsumer, OfTopic, Shut, StopAll, Store, TakeBatch, Tell, TellAll}
+use Rattle.pulsar_laws.proofs.ActWords.{Action, Ask, Asked, Get, Procedure, CallRefusal, Rest, TakeNumber, Wait, OfConsumer, OfTopic, Shut, StopAll, Store, TakeBatch, Tell, TellAll, FailConsumer, FindConsumer, RecallConsumer, Revive, TakeFlow}
 use Rattle.pulsar_laws.proofs.PlanWords.{Ways}
 use Rattle.pulsar_laws.proofs.RunWords.{Chosen, may_call, procedure_for, Tickets, unless_refused, ways_of}
 use Rattle.pulsar_messages.specs.Words as words
@@ -32,6 +32,15 @@ is_discreet (OfTopic n TakeBatch) = false
 is_discreet StopAll = false
 is_discreet (Shut number) = false
 is_discreet _ = true
+
+-- and one that copies its dead letters asks only for those
+abbrev pub is_copied : Action → Bool
+is_copied (OfConsumer (FindConsumer t)) = false
+is_copied (OfConsumer TakeFlow) = false
+is_copied (OfConsumer RecallConsumer) = false
+is_copied (OfConsumer (Revive l)) = false
+is_copied (OfConsumer (FailConsumer f)) = false
+is_copied _ = true
 
 -- WHAT CALLS ON CONSUMERS BEGIN: one of these, or they are refused
 

@@ -1,5 +1,5 @@
 -- No plan asks to acknowledge: only a procedure that begins so does.
-use Rattle.std.proofs.Common.{◌≡◌, subst, ℕ, List, refl, Bool, true, false, Option, Some, None, Result, Ok, Err}
+use Rattle.std.proofs.Common.{◌≡◌, ◌⊎◌, inl, inr, subst, ℕ, List, refl, Bool, true, false, Option, Some, None, Result, Ok, Err}
 use Rattle.pulsar_laws.proofs.ActWords.{Action, Ask, Checks, Flushes, Link, Outcome, Procedure}
 use Rattle.pulsar_laws.proofs.PlanWords.{action_of, Batches, Batching, begins, BuildingProducer as Build, Command, Deed, Errand, Heard as Heard', Looking, Making, Naming, News, news_in, news_of, Plan, ProducerOrder, Producing, SearchTransition, Sending as Send, Served, Serving, Subscribing, told, Ways}
 use Rattle.pulsar_laws.proofs.LinkWords.{Failure, Named, Place, Words}
@@ -206,11 +206,16 @@ MildPlan _ = Unit {0}
 abbrev pub IsMildTurn : Plan → Action → Type 0
 IsMildTurn plan action = MildPlan plan × IsMild action
 
--- and what it is to ask for of a consumer is no acknowledgement
+-- or it asks for just what it is told to ask for
+abbrev pub IsSaid : Outcome → Action → Type 0
+IsSaid u a = (l : ℕ) × (request : Words) × (u ≡ outcome.Word (word.Asks l request)) × (a ≡ Ask l request)
+
+abbrev pub IsToldTurn : Outcome → Plan → Action → Type 0
+IsToldTurn u plan action = MildPlan plan × (IsMild action ⊎ IsSaid u action)
+
 abbrev pub MildOutcome : Outcome → Type 0
 MildOutcome (outcome.Word (word.Recalled c)) = IsMildCommand c
 MildOutcome (outcome.Granted (news.Recalled c)) = IsMildCommand c
-MildOutcome (outcome.Word (word.Asks l request)) = is_ack request ≡ false
 MildOutcome _ = Unit {0}
 
 news_mild : (u : Outcome) → MildOutcome u → MildNews (news_of u)
@@ -236,12 +241,12 @@ multi_mild m (multi_builds e) k = build_mild e k
 multi_mild m multi_rests k = (k, refl)
 multi_mild m _ k = (tt, refl)
 
-copy_mild : {w : Ways} {t : List ℕ} {s q : CopyState} {u : Outcome} {a : Action} → CopyArc w t s u q a → MildCopy s → MildNews (news_of u) → MildOutcome u →
-    MildCopy q × IsMild a
-copy_mild (handing_goes d e) k y h = multi_mild Own e k
-copy_mild (sending_goes d e) k y h = send_mild e k y
-copy_mild settled_asks k y h = (tt, h)
-copy_mild _ k y h = (tt, refl)
+copy_mild : {w : Ways} {t : List ℕ} {s q : CopyState} {u : Outcome} {a : Action} → CopyArc w t s u q a → MildCopy s → MildNews (news_of u) →
+    MildCopy q × (IsMild a ⊎ IsSaid u a)
+copy_mild (handing_goes d e) k y = let x = multi_mild Own e k in (x.0, inl x.1)
+copy_mild (sending_goes d e) k y = let x = send_mild e k y in (x.0, inl x.1)
+copy_mild (settled_asks {l} {request}) k y = (tt, inr (l, request, refl, refl))
+copy_mild _ k y = (tt, inl refl)
 
 asks_mild : (r : Round) (n : ℕ) → is_ack (asks_of r n) ≡ false
 asks_mild Checks n = refl
@@ -253,38 +258,38 @@ built_so : (w : Ways) (o : ConsumerOrder) (b : ConsumerBuild) (y : ConsumerNews)
     consume.build_told w o b y ≡ transition.Stays q d → MildConsumer q × IsMildConsumerDeed d
 built_so w o b y h e = subst MildConsumers e (consumer_mild w o b y h)
 
-arc_mild : {p q : Plan} {u : Outcome} {a : Action} → Arc p u q a → MildPlan p → MildNews (news_of u) → MildOutcome u → IsMildTurn q a
-arc_mild got_asks k y h = (tt, k)
-arc_mild search_rests k y h = (k, refl)
-arc_mild (searches_gets {w} {s} {u} i) k y h = ((subst (MildTurn MildSearch) i (search_mild w s (news_in u) k)).0, refl)
-arc_mild (searches_asks {w} {s} {u} {request} i) k y h = let f = subst (MildTurn MildSearch) i (search_mild w s (news_in u) k) in (f.0, own_ack request f.1)
-arc_mild (searches_waits {w} {s} {u} i) k y h = ((subst (MildTurn MildSearch) i (search_mild w s (news_in u) k)).0, refl)
-arc_mild (builds_on d e) k y h = build_mild e k
-arc_mild (sends d e) k y h = send_mild e k y
-arc_mild (part_sends d e b) k y h = send_mild e k y
-arc_mild (batches_go d e) k y h = batch_mild e k y
-arc_mild (found_asks {r} {n}) k y h = (tt, asks_mild r n)
-arc_mild (subscribing_rests i) k y h = (k, refl)
-arc_mild (subscribes_on_gets {w} {o} {b} {y = n} i e) k y h = ((built_so w o b n k e).0, refl)
-arc_mild (subscribes_on_asks {w} {o} {b} {y = n} {request} i e) k y h = let f = built_so w o b n k e in (f.0, own_ack request f.1)
-arc_mild (subscribes_on_waits {w} {o} {b} {y = n} i e) k y h = ((built_so w o b n k e).0, refl)
-arc_mild (subscribed_numbers {w} {o} {b} {y = n} i e) k y h = ((built_so w o b n k e).0, refl)
-arc_mild (subscribed_rests {w} {o} {b} {y = n} i e) k y h = ((built_so w o b n k e).0, refl)
-arc_mild (serving_rests i) k y h = (k, refl)
-arc_mild (recalled_resumes_gets i) k y h = (h, refl)
-arc_mild (recalled_resumes_asks {w} i) k y h = (h, asks_so Any (consume.resume_begins w) (tt, tt) i)
-arc_mild (recalled_resumes_waits i) k y h = (h, refl)
-arc_mild (resumes_on_gets i) k y h = (k, refl)
+arc_mild : {p q : Plan} {u : Outcome} {a : Action} → Arc p u q a → MildPlan p → MildNews (news_of u) → MildOutcome u → IsToldTurn u q a
+arc_mild got_asks k y h = (tt, inl k)
+arc_mild search_rests k y h = (k, inl refl)
+arc_mild (searches_gets {w} {s} {u} i) k y h = ((subst (MildTurn MildSearch) i (search_mild w s (news_in u) k)).0, inl refl)
+arc_mild (searches_asks {w} {s} {u} {request} i) k y h = let f = subst (MildTurn MildSearch) i (search_mild w s (news_in u) k) in (f.0, inl (own_ack request f.1))
+arc_mild (searches_waits {w} {s} {u} i) k y h = ((subst (MildTurn MildSearch) i (search_mild w s (news_in u) k)).0, inl refl)
+arc_mild (builds_on d e) k y h = let x = build_mild e k in (x.0, inl x.1)
+arc_mild (sends d e) k y h = let x = send_mild e k y in (x.0, inl x.1)
+arc_mild (part_sends d e b) k y h = let x = send_mild e k y in (x.0, inl x.1)
+arc_mild (batches_go d e) k y h = let x = batch_mild e k y in (x.0, inl x.1)
+arc_mild (found_asks {r} {n}) k y h = (tt, inl (asks_mild r n))
+arc_mild (subscribing_rests i) k y h = (k, inl refl)
+arc_mild (subscribes_on_gets {w} {o} {b} {y = n} i e) k y h = ((built_so w o b n k e).0, inl refl)
+arc_mild (subscribes_on_asks {w} {o} {b} {y = n} {request} i e) k y h = let f = built_so w o b n k e in (f.0, inl (own_ack request f.1))
+arc_mild (subscribes_on_waits {w} {o} {b} {y = n} i e) k y h = ((built_so w o b n k e).0, inl refl)
+arc_mild (subscribed_numbers {w} {o} {b} {y = n} i e) k y h = ((built_so w o b n k e).0, inl refl)
+arc_mild (subscribed_rests {w} {o} {b} {y = n} i e) k y h = ((built_so w o b n k e).0, inl refl)
+arc_mild (serving_rests i) k y h = (k, inl refl)
+arc_mild (recalled_resumes_gets i) k y h = (h, inl refl)
+arc_mild (recalled_resumes_asks {w} i) k y h = (h, inl (asks_so Any (consume.resume_begins w) (tt, tt) i))
+arc_mild (recalled_resumes_waits i) k y h = (h, inl refl)
+arc_mild (resumes_on_gets i) k y h = (k, inl refl)
 arc_mild (resumes_on_asks {w} {s} {u} i) k y h =
-    (k, asks_so Any (consume.resume_told w s.command s.resuming (news_in u)) (resume_mild w s.command s.resuming (news_in u) k) i)
-arc_mild (resumes_on_waits i) k y h = (k, refl)
-arc_mild due_redelivers k y h = (tt, h)
-arc_mild (multi_goes {m} d e) k y h = multi_mild m e k
-arc_mild (copies_go e) k y h = copy_mild e k y h
-arc_mild _ k y h = (tt, refl)
+    (k, inl (asks_so Any (consume.resume_told w s.command s.resuming (news_in u)) (resume_mild w s.command s.resuming (news_in u) k) i))
+arc_mild (resumes_on_waits i) k y h = (k, inl refl)
+arc_mild (due_redelivers {l} {request}) k y h = (tt, inr (l, request, refl, refl))
+arc_mild (multi_goes {m} d e) k y h = let x = multi_mild m e k in (x.0, inl x.1)
+arc_mild (copies_go e) k y h = copy_mild e k y
+arc_mild _ k y h = (tt, inl refl)
 
-pub told_mild : (plan : Plan) (u : Outcome) → MildPlan plan → MildOutcome u → StaysSo IsMildTurn (told plan u)
-told_mild plan u k h = stays_by IsMildTurn plan u (λ q a e. arc_mild e k (news_mild u h) h)
+pub told_mild : (plan : Plan) (u : Outcome) → MildPlan plan → MildOutcome u → StaysSo (IsToldTurn u) (told plan u)
+told_mild plan u k h = stays_by (IsToldTurn u) plan u (λ q a e. arc_mild e k (news_mild u h) h)
 
 -- what begins so
 abbrev pub MildBegun : Procedure → Type 0

@@ -33,14 +33,23 @@ use Rattle.pulsar_consumer.specs.declared.resuming.Resuming.TheVariants as resum
 use Rattle.pulsar_incoming.specs.declared.orders.ConsumerOrder.{ConsumerOrder}
 use Rattle.pulsar_calls.specs.declared.act.Outcome.TheVariants as outcome
 use Rattle.pulsar_plans.specs.Plan.{builds, wished, consumer_news_of, goes, goes_on_sending, resubscribes, resubscribing, subscribes, told_service}
-use Rattle.pulsar_plans.specs.declared.plan.Plan.TheVariants.{Batching, Producing, Reporting, Searching, Sending, Serving, Subscribing}
+use Rattle.pulsar_plans.specs.declared.plan.Plan.TheVariants.{Batching, Producing, Reporting, Searching, Sending, Serving, Subscribing, Copying, MultiSending}
 use Rattle.pulsar_plans.specs.declared.service.Service.TheVariants as service
 use Rattle.pulsar_plans.specs.declared.states.Resubscribing.{Resubscribing}
+use Rattle.pulsar_plans.specs.Plan.{copy_hands, copy_sends, multi_news_of, multi_sends as multi_turns}
+use Rattle.pulsar_plans.specs.declared.copying.CopyState.TheVariants as copy
+use Rattle.pulsar_producer.specs.MultiPlans as multi
+use Rattle.pulsar_producer.specs.declared.deed.Deed.TheVariants as deed
+use Rattle.pulsar_producer.specs.declared.multi_topic.deed.MultiDeed.{MultiDeed}
+use Rattle.pulsar_producer.specs.declared.multi_topic.deed.MultiDeed.TheVariants as multi_deed
+use Rattle.pulsar_producer.specs.declared.multi_topic.deed.MultiNews.TheVariants as multi_news
+use Rattle.pulsar_producer.specs.declared.multi_topic.sending.MultiSending.{MultiSending as MultiSend}
+use Rattle.pulsar_producer.specs.declared.multi_topic.sending.MultiSending.TheVariants as multi_send
 use Rattle.pulsar_laws.proofs.plans.Again.{counts_either, looks_either, makes_either, makes_no_more, retried}
 use Rattle.pulsar_laws.proofs.plans.Retried.{SomeSo, StageSo}
 use Rattle.pulsar_laws.proofs.plans.Retries.{counts_so, staged, Under}
 use Rattle.pulsar_laws.proofs.plans.Waiting.{delay_by, stands_by, ways_at}
-use Rattle.pulsar_laws.specs.AgainLaws.{Busy, Counts, FailsWith, GivenUpAtOnce, GivesUp, GoesOn, InCount, InLook, InMaking, Looks, MadeAgainInTime, MadeAgainOrGivenUp, Makes, MayPass, Operation, Progress, Resting, RestsFor, Stage, answers_ask, batched_at, built_at, goes_at, goes_in, named_at, progress, resumed_at, retries, searched_at, sent_at, stage, subscribed_at}
+use Rattle.pulsar_laws.specs.AgainLaws.{Busy, Counts, FailsWith, GivenUpAtOnce, GivesUp, GoesOn, InCount, InLook, InMaking, Looks, MadeAgainInTime, MadeAgainOrGivenUp, Makes, MayPass, Operation, Progress, Resting, RestsFor, Stage, answers_ask, batched_at, built_at, goes_at, goes_in, named_at, progress, resumed_at, retries, searched_at, sent_at, stage, subscribed_at, multi_stage}
 use Rattle.pulsar_laws.specs.RetryLaws.{AgainOrNot, HasRetried, MayRetry}
 
 -- WHAT TELLS HOW A REQUEST WENT is told to each plan alike
@@ -52,14 +61,15 @@ record Tells (u : Outcome) : Type 0 where
   as_search : (w : Ways) (s : Search) → told (Searching w s) u ≡ goes w (search.told w s (news_in u))
   as_service : (w : Ways) (n : ℕ) (s : Resubscribing) →
       told_service w n (service.Resuming s) u ≡ resubscribes w n s.command (consume.resume_told w s.command s.resuming (news_in u))
+  as_multi : multi_news_of u ≡ multi_news.Told (granting.Told (news_in u))
 
 tells : (u : Outcome) → answers_ask u ≡ true → Tells u
 tells (outcome.Replied r) h =
-    record { goes_on = refl; as_news = refl; as_consumer = refl; as_search = λ w s. refl; as_service = λ w n s. refl }
-tells outcome.TimedOut h = record { goes_on = refl; as_news = refl; as_consumer = refl; as_search = λ w s. refl; as_service = λ w n s. refl }
-tells outcome.Disconnected h = record { goes_on = refl; as_news = refl; as_consumer = refl; as_search = λ w s. refl; as_service = λ w n s. refl }
+    record { goes_on = refl; as_news = refl; as_consumer = refl; as_search = λ w s. refl; as_service = λ w n s. refl; as_multi = refl }
+tells outcome.TimedOut h = record { goes_on = refl; as_news = refl; as_consumer = refl; as_search = λ w s. refl; as_service = λ w n s. refl; as_multi = refl }
+tells outcome.Disconnected h = record { goes_on = refl; as_news = refl; as_consumer = refl; as_search = λ w s. refl; as_service = λ w n s. refl; as_multi = refl }
 tells (outcome.Refused cause) h =
-    record { goes_on = refl; as_news = refl; as_consumer = refl; as_search = λ w s. refl; as_service = λ w n s. refl }
+    record { goes_on = refl; as_news = refl; as_consumer = refl; as_search = λ w s. refl; as_service = λ w n s. refl; as_multi = refl }
 tells _ h = absurd cc
 
 abbrev counted : Counting → Option Stage
@@ -169,6 +179,35 @@ module _ (May : Wish → Type 0) (Not : Type 0) (to : Progress) (w : Ways) (x : 
         (λ d. Batching w e (batch.Sending ms n (send.Making m c d))) (λ s a. refl) (λ s. refl) (λ f. refl) (made_told w c j o) k
     batch_again _ o k = absurd k
 
+  -- a send by a producer of many topics, that of a call or of a copy
+  multi_again : (F : multi.Dispatches → PlanTransition) (within : MultiSend → Plan) →
+      ((s : MultiSend) (a : Wish) → F (Stays s (multi_deed.Does (deed.Does a))) ≡ Stays (within s) (wished a)) →
+      ((s : MultiSend) (d : MultiDeed) → multi_stage s ≡ None → GivesUp (F (Stays s d))) → ((s : MultiSend) → stage (within s) ≡ multi_stage s) →
+      (s : MultiSend) (o : News) → SomeAt (multi_stage s) o → PlanAgain (F (multi.multi_send_told w s (multi_news.Told (granting.Told o))))
+  multi_again F within same stops stands (multi_send.Building p m (build.Naming n)) o k =
+      plan_around named (λ y. F (multi.send_builds p m (produce.build_names y))) (λ r. within (multi_send.Building p m (build.Naming r))) (λ s a. same _ a)
+      (λ s. ap (goes_in x) (sym (stands (multi_send.Building p m (build.Naming s))))) (λ f. stops (multi_send.Passing (Err f)) _ refl)
+      (names_told w p.topic n o) (names_again p.topic n o k)
+  multi_again F within same stops stands (multi_send.Building p m (build.Making c d i left made')) o k =
+      plan_around (made c) (λ y. F (multi.send_builds p m (produce.build_makes c i left made' y)))
+      (λ d. within (multi_send.Building p m (build.Making c d i left made'))) (λ s a. same _ a)
+      (λ s. ap (goes_in x) (sym (stands (multi_send.Building p m (build.Making c s i left made'))))) (closes made') (made_told w c d o) k
+    where
+      closes : (bs : List Built) (f : Failure) → GivesUp (F (multi.send_builds p m (produce.build_closes bs f)))
+      closes [] f = stops (multi_send.Passing (Err f)) _ refl
+      closes (b ∷ bs) f = stops (multi_send.Building p m (build.Closing bs f)) _ refl
+  multi_again F within same stops stands _ o k = absurd k
+
+  copy_again : (t : List ℕ) (e : Errand) (s : Send) (o : News) → SomeAt (sent_at s) o →
+      PlanAgain (copy_sends w t e (produce.send_told w e s (granting.Told o)))
+  copy_again t e (send.Looking m c l) o k =
+      plan_around looked (λ y. copy_sends w t e (produce.send_looks e m c y)) (λ l. Copying w t (copy.Sending e (send.Looking m c l))) (λ s a. refl)
+      (λ s. refl) (λ f. refl) (look_told w c.topic l o) (k c.topic)
+  copy_again t e (send.Making m c j) o k =
+      plan_around (made c) (λ y. copy_sends w t e (produce.send_makes e m c y)) (λ d. Copying w t (copy.Sending e (send.Making m c d))) (λ s a. refl)
+      (λ s. refl) (λ f. refl) (made_told w c j o) k
+  copy_again t e _ o k = absurd k
+
   subscribe_again : (p : ConsumerOrder) (b : ConsumerBuild) (o : News) → SomeAt (subscribed_at b) o →
       PlanAgain (subscribes w p (consume.build_told w p b (consumer_news.Told o)))
   subscribe_again p (consumer_build.Naming n) o k =
@@ -207,6 +246,14 @@ module _ (May : Ways → Wish → Type 0) (Not : Ways → Type 0) (to : Progress
       rw (t.goes_on) (subst (PlanAgain (May w) (Not w) to w x) (sym (t.as_service w n s))
       (resume_again (May w) (Not w) to w x n s.command s.resuming (news_in u) k))
   plan_again (Serving w n _) u t = λ k. absurd k
+  plan_again (MultiSending w m share s) u t = λ k.
+      rw (t.goes_on, t.as_multi)
+      (multi_again (May w) (Not w) to w x (multi_turns w m share) (MultiSending w m share) (λ s a. refl) (λ s d h. h) (λ s. refl) s (news_in u) k)
+  plan_again (Copying w topic (copy.Handing s)) u t = λ k.
+      rw (t.goes_on, t.as_multi)
+      (multi_again (May w) (Not w) to w x (copy_hands w topic) (λ s. Copying w topic (copy.Handing s)) (λ s a. refl) (λ s d h. h) (λ s. refl) s (news_in u) k)
+  plan_again (Copying w topic (copy.Sending e s)) u t = λ k. rw (t.goes_on, t.as_news) (copy_again (May w) (Not w) to w x topic e s (news_in u) k)
+  plan_again (Copying w topic _) u t = λ k. absurd k
   plan_again _ u t = tt
 
   -- so where its stage turns so
@@ -296,7 +343,7 @@ made_again_in_time_lem p x h = by (stage p) refl h
     by (Some s) at h =
         let (w, ways) = staged p s at in
         let hears : Tells outcome.Woken =
-        record { goes_on = refl; as_news = refl; as_consumer = refl; as_search = λ w s. refl; as_service = λ w n s. refl } in
+        record { goes_on = refl; as_news = refl; as_consumer = refl; as_search = λ w s. refl; as_service = λ w n s. refl; as_multi = refl } in
         elim (again_at (λ w a. Unit {0}) (λ w. ⊥) Busy x p s outcome.Woken w ways at hears (woken w x s h)) [
           | inl (a, m, q, e, i) ↦ (q, wished a, e, i)
           | inr n ↦ absurd n.0

@@ -326,6 +326,14 @@ module _ (w : Ways) where
       gets Looks = tt
       gets Makes = tt
 
+  begins_count : (x : Operation) (t : List ℕ) (k : ℕ) → Turns (λ d. Moved x None k (Some (InCount d))) Any (count_begins w t)
+  begins_count x t k = cond_so (Turns (λ d. Moved x None k (Some (InCount d))) Any) (search.is_partition t) (Gives (Ok 0)) (search.count_gets w true 0) tt (gets x)
+    where
+      gets : (x : Operation) → Moved x None k (Some (InCount (count.Getting true 0)))
+      gets Counts = refl
+      gets Looks = tt
+      gets Makes = tt
+
   same_count : (b : Progress) (k : ℕ) → comes_to b b k ≡ k
   same_count Absent k = refl
   same_count Busy k = refl
@@ -350,7 +358,7 @@ module _ (w : Ways) where
     abbrev Behind : Option Stage → ℕ → Stage → Type 0
     Behind before k s = Moved x before k (Some s)
 
-    abbrev NamesBehind : Option Stage → ℕ → Naming → Type 0
+    abbrev pub NamesBehind : Option Stage → ℕ → Naming → Type 0
     NamesBehind before k m = Behind before k (named_at m)
 
     names_on : (t : List ℕ) (n : Naming) (o : News) (k : ℕ) → StageSo x (named_at n) k →
@@ -391,6 +399,12 @@ module _ (w : Ways) where
     names_begin t =
         then_turns (λ m. StageSo x (named_at m) 0) Any (count_begins w t) name.Counting (names_of w t) (starts_count x t)
         (λ n e. of_on (λ s. StageSo x s 0) (starts_look x) t n)
+
+    -- names that are looked for behind something else
+    pub begins_names : (t : List ℕ) (k : ℕ) → Turns (NamesBehind None k) Any (names_begins w t)
+    begins_names t k =
+        then_turns (NamesBehind None k) Any (count_begins w t) name.Counting (names_of w t) (begins_count x t k)
+        (λ n e. of_on (Behind None k) (begins_look x None k (apart_none x)) t n)
 
     pub search_begin : (what : Sought) → Turns (λ q. SomeSo x (searched_at q) 0) Any (search.begins w what)
     search_begin (sought.CountPartitions t) =

@@ -1,7 +1,7 @@
 -- So it is along each run, for whoever has a plan: an operation that rests was made again fewer times than the options allow.
 use Rattle.std.proofs.Common.{◌≡◌, ◌∙◌, sym, ap, subst, ℕ, ◌+◌, List, ◌∷◌, refl, ◌&&◌, not, Bool, true, false, cond, arith, Option, Some, None, Ok, Err}
 use Rattle.pulsar_laws.proofs.ActWords.{Action, Notice, Outcome, Procedure, Share, Starts, Told, Who}
-use Rattle.pulsar_laws.proofs.PlanWords.{Batches, batches_on, Deed, Errand, Member, News as Granting, news_in, news_of, overrides, Plan, PlanTransition, Sending as Send, told, Ways}
+use Rattle.pulsar_laws.proofs.PlanWords.{ProducerOrder, Batches, batches_on, Deed, Errand, Member, News as Granting, news_in, news_of, overrides, Plan, PlanTransition, Sending as Send, told, Ways, BuildingProducer as Build}
 use Rattle.pulsar_laws.proofs.RunWords.{Entry, IsRun, notice, Options, stays, stays_some, Then, told_some, view}
 use Rattle.pulsar_searches.specs.declared.count.Counting.TheVariants as count
 use Rattle.pulsar_searches.specs.declared.look.Looking.TheVariants as look
@@ -15,13 +15,21 @@ use Rattle.pulsar_producer.specs.declared.batching.Batching.TheVariants as batch
 use Rattle.pulsar_producer.specs.declared.batching.Goes.{Goes}
 use Rattle.pulsar_plans.specs.Plan.{goes_on_sending, halted}
 use Rattle.pulsar_plans.specs.declared.plan.Plan.TheVariants.{Batching, Producing, Searching, Sending, Serving, Subscribing, Copying, MultiSending}
-use Rattle.pulsar_plans.proofs.Arcs.{Arc, BatchArc, Begun, StaysSo, batch_sends, batches_go, begins_by, begins_produce_asks, begins_produce_gets, begins_produce_waits, begins_search_asks, begins_search_gets, begins_search_waits, begins_subscribe_asks, begins_subscribe_gets, begins_subscribe_waits, builds_on, part_sends, recalled_resumes_asks, recalled_resumes_gets, recalled_resumes_waits, resumes_on_asks, resumes_on_gets, resumes_on_waits, search_rests, searches_asks, searches_gets, searches_waits, sends as sends_on, serving_rests, stays_by, subscribed_numbers, subscribed_rests, subscribes_on_asks, subscribes_on_gets, subscribes_on_waits, subscribing_rests}
+use Rattle.pulsar_plans.proofs.CopyArcs.{CopyArc, copy_fails, copy_sent, handing_goes, sending_goes}
+use Rattle.pulsar_plans.proofs.MultiArcs.{BuildBegun, MultiSendArc, absent_builds, build_names, build_numbers, multi_builds, multi_rests}
+use Rattle.pulsar_plans.specs.Plan.{copy_sends}
+use Rattle.pulsar_plans.specs.declared.copying.CopyState.{CopyState}
+use Rattle.pulsar_plans.specs.declared.copying.CopyState.TheVariants as copy
+use Rattle.pulsar_producer.specs.declared.multi_topic.deed.MultiDeed.{MultiDeed}
+use Rattle.pulsar_producer.specs.declared.multi_topic.deed.MultiNews.{MultiNews}
+use Rattle.pulsar_producer.specs.declared.multi_topic.sending.MultiSending.{MultiSending as MultiSend}
+use Rattle.pulsar_plans.proofs.Arcs.{Arc, BatchArc, Begun, StaysSo, batch_sends, batches_go, begins_by, begins_produce_asks, begins_produce_gets, begins_produce_waits, begins_search_asks, begins_search_gets, begins_search_waits, begins_subscribe_asks, begins_subscribe_gets, begins_subscribe_waits, builds_on, part_sends, recalled_resumes_asks, recalled_resumes_gets, recalled_resumes_waits, resumes_on_asks, resumes_on_gets, resumes_on_waits, search_rests, searches_asks, searches_gets, searches_waits, sends as sends_on, serving_rests, stays_by, subscribed_numbers, subscribed_rests, subscribes_on_asks, subscribes_on_gets, subscribes_on_waits, subscribing_rests, copies_go, multi_goes}
 use Rattle.pulsar_laws.proofs.Cases.{cond_so}
 use Rattle.pulsar_laws.proofs.calls.Same.{same_self}
-use Rattle.pulsar_laws.proofs.plans.Retried.{Any, apart_none, begins_look, BuildBehind, build_on, Moved, names_begin, ResumeBehind, resume_on, search_begin, search_on, send_on, SomeSo, StageSo, stays_on, subscribe_on, Turns}
+use Rattle.pulsar_laws.proofs.plans.Retried.{Any, apart_none, begins_look, BuildBehind, build_on, Moved, names_begin, ResumeBehind, resume_on, search_begin, search_on, send_on, SomeSo, StageSo, stays_on, subscribe_on, Turns, NamesBehind, begins_names}
 use Rattle.pulsar_laws.proofs.plans.Standing.{moves, run_older, stands_so}
 use Rattle.pulsar_laws.proofs.plans.Waiting.{delay_by, stands_by, ways_at}
-use Rattle.pulsar_laws.specs.AgainLaws.{AgainWhileAllowed, Counts, InCount, InLook, InMaking, Looks, Makes, Operation, Resting, Stage, batched_at, comes_to, goes_at, goes_in, named_at, progress, resumed_at, retries, searched_at, sent_at, served_at, stage, subscribed_at}
+use Rattle.pulsar_laws.specs.AgainLaws.{AgainWhileAllowed, Counts, InCount, InLook, InMaking, Looks, Makes, Operation, Resting, Stage, batched_at, comes_to, goes_at, goes_in, named_at, progress, resumed_at, retries, searched_at, sent_at, served_at, stage, subscribed_at, built_at, copied_at, multi_stage}
 use Rattle.pulsar_laws.specs.RetryLaws.{MayRetry}
 
 abbrev pub Under : Option Ways → Operation → Option Stage → ℕ → Type 0
@@ -65,6 +73,11 @@ module _ (x : Operation) where
     halts None u = tt
     halts (Some h) u = tt
 
+    copy_turn : (t : List ℕ) (y : produce.Sent) → Turns (λ q. Moved w x (sent_at s) k (sent_at q)) Any y → PlanTurns (sent_at s) k (copy_sends w t e y)
+    copy_turn t (Stays q d) i = i
+    copy_turn t (Gives (Ok r)) i = tt
+    copy_turn t (Gives (Err f)) i = tt
+
     batch_turn : (ms : List Member) (c : ℕ) (t : produce.Sent) → Turns (λ q. Moved w x (sent_at s) k (sent_at q)) Any t →
         PlanBehind (sent_at s) k (Batching w e (batches.sends ms c t).state)
     batch_turn ms c (Stays q d) i = i
@@ -76,12 +89,32 @@ module _ (x : Operation) where
   abbrev sends : Plan → Bool
   sends (Sending w e share s) = true
   sends (Batching w e (batch.Sending ms c s)) = true
+  sends (Copying w t (copy.Sending e s)) = true
   sends _ = false
 
   batch_on : {w : Ways} {e : Errand} {b q : Batches} {y : Granting} {d : Deed} → BatchArc w e b y q d → sends (Batching w e b) ≡ false → (k : ℕ) →
       PlanBehind (batched_at b) k (Batching w e q)
   batch_on (batch_sends a) h k = absurd cc
   batch_on _ h k = tt
+
+  begun_build_on : {w : Ways} {o : ProducerOrder} {b : Build} {d : Deed} → BuildBegun w o b d → (k : ℕ) → Moved w x None k (built_at b)
+  begun_build_on {w} {o} (build_names a e) k = subst (Turns (NamesBehind w x None k) Any) e (begins_names w x o.topic k)
+  begun_build_on (build_numbers m left) k = tt
+
+  multi_on : {w : Ways} {s q : MultiSend} {y : MultiNews} {d : MultiDeed} → MultiSendArc w s y q d → (k : ℕ) → SomeSo w x (multi_stage s) k →
+      Moved w x (multi_stage s) k (multi_stage q)
+  multi_on (absent_builds b) k i = begun_build_on b k
+  multi_on {w} (multi_builds a) k i = build_on w x a k i
+  multi_on {w} (multi_rests {b}) k i = stays_on w x (built_at b) k i
+  multi_on _ k i = tt
+
+  copy_on : {w : Ways} {t : List ℕ} {s q : CopyState} {u : Outcome} {a : Action} → CopyArc w t s u q a → sends (Copying w t s) ≡ false → (k : ℕ) →
+      SomeSo w x (copied_at s) k → Moved w x (copied_at s) k (copied_at q)
+  copy_on (handing_goes d a) h k i = multi_on a k i
+  copy_on (sending_goes d a) h k i = absurd cc
+  copy_on (copy_sent e) h k i = absurd cc
+  copy_on (copy_fails e) h k i = absurd cc
+  copy_on _ h k i = tt
 
   arc_on : {p q : Plan} {u : Outcome} {a : Action} → Arc p u q a → sends p ≡ false → (k : ℕ) → PlanSo x p k → PlanBehind (stage p) k q
   arc_on (search_rests {w} {s}) h k i = stays_on w x (searched_at s) k i
@@ -108,6 +141,8 @@ module _ (x : Operation) where
       subst (Turns (ResumeBehind w x s.command (Some (resumed_at s.command s.resuming)) k) Any) e (resume_on w x s.command s.resuming (news_in u) k i)
   arc_on (resumes_on_waits {w} {s} {u} e) h k i =
       subst (Turns (ResumeBehind w x s.command (Some (resumed_at s.command s.resuming)) k) Any) e (resume_on w x s.command s.resuming (news_in u) k i)
+  arc_on (multi_goes d a) h k i = multi_on a k i
+  arc_on (copies_go a) h k i = copy_on a h k i
   arc_on _ h k i = tt
 
   told_on : (p : Plan) (u : Outcome) (k : ℕ) → PlanSo x p k → PlanTurns (stage p) k (told p u)
@@ -118,6 +153,8 @@ module _ (x : Operation) where
       cond_so (PlanTurns (sent_at s) k) (overrides u) (batches_on w e (batches.halted (batch.Sending ms c s))) _
       (cond_so {A = Goes} (λ g. PlanBehind (sent_at s) k (Batching w e g.state)) (is_sent_send s) _ _ tt tt)
       (batch_turn w e s k ms c (produce.send_told w e s (news_of u)) (send_on w x e s (news_of u) k i))
+  told_on (Copying w t (copy.Sending e s)) u k i =
+      cond_so (PlanTurns (sent_at s) k) (overrides u) _ _ tt (copy_turn w e s k t (produce.send_told w e s (news_of u)) (send_on w x e s (news_of u) k i))
   told_on p u k i = stays_by (λ q a. PlanBehind (stage p) k q) p u (λ q a arc. arc_on arc refl k i)
 
   begun_on : {p : Procedure} {q : Plan} {a : Action} → Begun p q a → PlanSo x q 0

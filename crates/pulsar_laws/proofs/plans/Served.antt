@@ -1,5 +1,6 @@
 -- Only the plan of a consumer serves one, and only that takes flows, and subscribes a consumer again, where it is told a reply.
-use Rattle.std.proofs.Common.{◌≡◌, inl, inr, ◌∙◌, sym, ap, subst, ℕ, List, ◌∷◌, refl, Bool, true, false, Some}
+use Rattle.std.proofs.Common.{◌≡◌, inl, inr, ◌∙◌, sym, ap, subst, ℕ, List, ◌∷◌, refl, Bool, true, false, Some, suc, zero}
+use Rattle.pulsar_laws.proofs.plans.Consuming.{is_copied}
 use Rattle.pulsar_laws.proofs.plans.Doing.{IsCommon, IsCopied, copy_does, multi_does}
 use Rattle.pulsar_laws.proofs.ActWords.{Action, Call, Consumer, Does, Outcome, Procedure, Producer, Revive, TakeFlow, Told, Who, OfConsumer}
 use Rattle.pulsar_laws.proofs.PlanWords.{action_of, Deed, Plan, PlanTransition, Stays, told}
@@ -14,7 +15,7 @@ use Rattle.pulsar_laws.proofs.plans.Batchers.{batcher_does}
 use Rattle.pulsar_laws.proofs.plans.Granted.{BeginsSo, IsLedSo, does_from}
 use Rattle.pulsar_laws.proofs.plans.Parted.{is_batches, starts_part}
 use Rattle.pulsar_laws.proofs.consumers.Reached.{reached_run}
-use Rattle.pulsar_laws.proofs.plans.Servers.{is_server}
+use Rattle.pulsar_laws.proofs.plans.Servers.{is_server, copier_does}
 use Rattle.pulsar_laws.proofs.plans.Subscribed.{Plain, TurnSo, begins_plain, is_reply, is_reviving, told_on}
 
 -- OTHER PLANS serve no consumer
@@ -30,7 +31,7 @@ begun_not _ h = cc
 -- ALONG A LOG
 
 -- no call serves a consumer
-calls_serve_none : (o : Options) (log : List Entry) (t : ℕ) (p : Plan) → IsRun o log → (view o log).stand (Call t) ≡ Some p → is_server p ≡ false
+pub calls_serve_none : (o : Options) (log : List Entry) (t : ℕ) (p : Plan) → IsRun o log → (view o log).stand (Call t) ≡ Some p → is_server p ≡ false
 calls_serve_none o log t p run h =
     stands_so o (Call t) (IsRun o) (run_older o) (λ log q. is_server q ≡ false) (λ e log q m r s k. k)
     (λ log p q a r e. begun_not (begun_arc e) (starts_part o log t p r).call) (λ log b u q a r s k e. arc_not (told_arc e) k) log p run h
@@ -45,7 +46,8 @@ takes_by : (t : PlanTransition) (p q : Plan) (u : Outcome) → TurnSo p u t → 
 takes_by t p q u k e = (subst (TurnSo p u) e k).2
 
 pub flow_takers : (o : Options) (log : List Entry) (w : Who) → IsRun o (Then (Does w (OfConsumer TakeFlow)) ∷ log) → (n t : ℕ) × (w ≡ Consumer n t 0)
-flow_takers o log (Consumer n t key) run = (n, t, refl)
+flow_takers o log (Consumer n t zero) run = (n, t, refl)
+flow_takers o log (Consumer n t (suc key)) run = absurd (let f : is_copied (OfConsumer TakeFlow) ≡ true = copier_does o log n t key (OfConsumer TakeFlow) run in cc)
 flow_takers o log (Producer n) run = let k = batcher_does o log n (OfConsumer TakeFlow) run in absurd (no_flow k.0 k.1)
 flow_takers o log (Call t) run = elim (does_from o log (Call t) (OfConsumer TakeFlow) run) [ inl k ↦ absurd (begun k) | inr k ↦ absurd (led k) ]
   where
@@ -159,7 +161,9 @@ no_revive : (l : ℕ) (d : Deed) → OfConsumer (Revive l) ≡ action_of d → �
 no_revive l d h = deed_not d (sym (ap is_revive h))
 
 pub revivers : (o : Options) (log : List Entry) (w : Who) (l : ℕ) → IsRun o (Then (Does w (OfConsumer (Revive l))) ∷ log) → (n t : ℕ) × (w ≡ Consumer n t 0)
-revivers o log (Consumer n t key) l run = (n, t, refl)
+revivers o log (Consumer n t zero) l run = (n, t, refl)
+revivers o log (Consumer n t (suc key)) l run =
+    absurd (let f : is_copied (OfConsumer (Revive l)) ≡ true = copier_does o log n t key (OfConsumer (Revive l)) run in cc)
 revivers o log (Producer n) l run = let k = batcher_does o log n (OfConsumer (Revive l)) run in absurd (no_revive l k.0 k.1)
 revivers o log (Call t) l run =
     let k : IsRevived o log (Call t) l = is_revived o log (Call t) l run in

@@ -1,13 +1,14 @@
 -- The plans of a consumer: the one that serves it, and the one that copies its dead letters. They do only what such plans do.
-use Rattle.std.proofs.Common.{◌≡◌, ◌⊎◌, inl, inr, ◌∙◌, sym, ap, arith, subst, ℕ, List, ◌∷◌, refl, Bool, true, false, Some}
+use Rattle.std.proofs.Common.{◌≡◌, ◌⊎◌, inl, inr, ◌∙◌, sym, ap, arith, subst, ℕ, List, ◌∷◌, refl, Bool, true, false, Some, suc}
+use Rattle.pulsar_plans.specs.declared.plan.Plan.TheVariants.{Copying}
 use Rattle.pulsar_laws.proofs.ActWords.{Action, Consumer, Does, Nothing, Outcome, Procedure, Starts, Verdict}
 use Rattle.pulsar_laws.proofs.PlanWords.{action_of, begins, BuildingProducer as Build, Deed, Errand, Gives, News, Plan, ProducerOrder, Sending as Send, Serving, told, Ways}
 use Rattle.pulsar_laws.proofs.RunWords.{Entry, IsRun, Options, Then, view}
 use Rattle.pulsar_calls.specs.declared.act.Procedure.TheVariants as procedure
 pub use Rattle.pulsar_plans.proofs.Arcs.{is_server}
-use Rattle.pulsar_laws.proofs.plans.Doing.{IsCommon, copy_does}
+use Rattle.pulsar_laws.proofs.plans.Doing.{IsCommon, copy_does, IsCopied}
 use Rattle.pulsar_laws.proofs.plans.Granted.{BeginsSo, IsLedSo, does_from}
-use Rattle.pulsar_laws.proofs.plans.Consuming.{is_discreet, is_modest}
+use Rattle.pulsar_laws.proofs.plans.Consuming.{is_discreet, is_modest, is_copied}
 use Rattle.pulsar_plans.proofs.Arcs.{Arc, Begun, End, begins_copy, begins_serve, begun_arc, copies_go, copies_over, ends, flowed_takes, over, told_arc, told_end}
 use Rattle.pulsar_producer.proofs.Arcs.{BuildArc, SendArc, draws, naming_rests}
 use Rattle.pulsar_laws.proofs.plans.Standing.{OwnService, run_older, stands_so, starts_so}
@@ -25,6 +26,14 @@ abbrev pub is_service : Plan → Bool
 is_service (Serving w n s) = true
 is_service _ = false
 
+abbrev pub is_copier : Plan → Bool
+is_copier (Copying w t s) = true
+is_copier _ = false
+
+abbrev copies_it : Procedure → Bool
+copies_it (procedure.Copy ways topic) = true
+copies_it _ = false
+
 -- PLANS
 
 send_discreet : {w : Ways} {e : Errand} {s q : Send} {y : News} {d : Deed} → SendArc w e s y q d → is_discreet (action_of d) ≡ true
@@ -38,6 +47,26 @@ build_discreet _ = refl
 common_discreet : IsCommon (λ a. is_discreet a ≡ true)
 common_discreet =
     record { gets = λ at. refl; asks = λ l request. refl; waits = λ delay. refl; numbers = refl; rests = refl; builds = λ k. build_discreet k }
+
+build_copied : {w : Ways} {o : ProducerOrder} {b q : Build} {y : News} {d : Deed} → BuildArc w o b y q d → is_copied (action_of d) ≡ true
+build_copied naming_rests = refl
+build_copied _ = refl
+
+send_copied : {w : Ways} {e : Errand} {s q : Send} {y : News} {d : Deed} → SendArc w e s y q d → is_copied (action_of d) ≡ true
+send_copied draws = refl
+send_copied _ = refl
+
+copying_copied : IsCopied (λ a. is_copied a ≡ true)
+copying_copied = record {
+  common =
+    record { gets = λ at. refl; asks = λ l request. refl; waits = λ delay. refl; numbers = refl; rests = refl; builds = λ k. build_copied k };
+  multis = λ m ask. refl;
+  turns = λ n. refl;
+  takes = refl;
+  sent = refl;
+  failed = refl;
+  sends = λ k. send_copied k;
+}
 
 -- it stays one, and does what such a plan does
 abbrev pub IsServer : Plan → Action → Type 0
@@ -57,6 +86,12 @@ IsService plan action = (is_service plan ≡ true) × (is_modest action ≡ true
 arc_service : {p q : Plan} {u : Outcome} {a : Action} → Arc p u q a → is_service p ≡ true → IsService q a
 arc_service flowed_takes h = (refl, refl)
 arc_service _ h = (cc, cc)
+
+-- and the one that copies its dead letters serves nothing
+arc_copier : {p q : Plan} {u : Outcome} {a : Action} → Arc p u q a → is_copier p ≡ true → (is_copier q ≡ true) × (is_copied a ≡ true)
+arc_copier flowed_takes h = absurd cc
+arc_copier (copies_go k) h = (refl, copy_does (λ a. is_copied a ≡ true) copying_copied k)
+arc_copier _ h = absurd cc
 
 -- it makes nothing
 end_makes : {p : Plan} {u : Outcome} {v : Verdict} → End p u v → is_server p ≡ true → v.makes ≡ Nothing
@@ -86,6 +121,24 @@ own_serves n key p (inr k) = ap is_serve k.3
 own_service : (n : ℕ) (p : Procedure) → OwnService n 0 p → serves_it p ≡ true
 own_service n p (inl k) = ap serves_it k.2
 own_service n p (inr k) = absurd (let some = k.0 in omega (arith, some))
+
+begun_copier : {p : Procedure} {q : Plan} {a : Action} → Begun p q a → copies_it p ≡ true → (is_copier q ≡ true) × (is_copied a ≡ true)
+begun_copier begins_copy h = (refl, refl)
+begun_copier begins_serve h = absurd cc
+begun_copier _ h = absurd cc
+
+own_copier : (n key : ℕ) (p : Procedure) → OwnService n (suc key) p → copies_it p ≡ true
+own_copier n key p (inl k) = absurd (let none : suc key ≡ 0 = k.0 in cc)
+own_copier n key p (inr k) = ap copies_it k.3
+
+module _ (o : Options) (n t key : ℕ) where
+  starts_copier : (log : List Entry) (p : Procedure) → IsRun o (Then (Starts (Consumer n t (suc key)) p) ∷ log) → copies_it p ≡ true
+  starts_copier log p run = own_copier n key p (starts_so o log (Consumer n t (suc key)) p run)
+
+  pub copier_stands : (log : List Entry) (q : Plan) → IsRun o log → (view o log).stand (Consumer n t (suc key)) ≡ Some q → is_copier q ≡ true
+  copier_stands =
+      stands_so o (Consumer n t (suc key)) (IsRun o) (run_older o) (λ log q. is_copier q ≡ true) (λ e log q m r s k. k)
+      (λ log p q a r e. (begun_copier (begun_arc e) (starts_copier log p r)).0) (λ log b u q a r s k e. (arc_copier (told_arc e) k).0)
 
 module _ (o : Options) (n t key : ℕ) where
   starts_serve : (log : List Entry) (p : Procedure) → IsRun o (Then (Starts (Consumer n t key) p) ∷ log) → is_serve p ≡ true
@@ -137,3 +190,14 @@ service_does o log n t action run = elim (does_from o log (Consumer n t 0) actio
 
     led : IsLedSo o log (Consumer n t 0) action → is_modest action ≡ true
     led k = (arc_service (told_arc k.leads) (service_stands o n t k.older k.before (subst (IsRun o) k.is_there run.0).0 k.stood)).1
+
+-- whatever the one that copies its dead letters does is of its letters, or of a producer
+pub copier_does : (o : Options) (log : List Entry) (n t key : ℕ) (action : Action) → IsRun o (Then (Does (Consumer n t (suc key)) action) ∷ log) →
+    is_copied action ≡ true
+copier_does o log n t key action run = elim (does_from o log (Consumer n t (suc key)) action run) [ inl k ↦ begun k | inr k ↦ led k ]
+  where
+    begun : BeginsSo o log (Consumer n t (suc key)) action → is_copied action ≡ true
+    begun k = (begun_copier (begun_arc k.leads) (starts_copier o n t key k.older k.procedure (subst (IsRun o) k.is_there run.0))).1
+
+    led : IsLedSo o log (Consumer n t (suc key)) action → is_copied action ≡ true
+    led k = (arc_copier (told_arc k.leads) (copier_stands o n t key k.older k.before (subst (IsRun o) k.is_there run.0).0 k.stood)).1

@@ -1,11 +1,17 @@
 -- Each number of a topic producer was drawn by the call that built it, and by no other; and as it joined there was none of that number.
 use Rattle.std.proofs.Common.{◌≡◌, ◌⊎◌, inl, inr, ◌∙◌, sym, ap, subst, ℕ, ◌+◌, ◌-◌, ◌^◌, ◌<◌, ◌≤◌, ◌==◌, arith, List, [], ◌∷◌, ◌++◌, refl, map, Bool, true, false, ◌&&◌, nat_lt, cond, Option, Some, None}
+use Rattle.pulsar_calls.specs.declared.act.ConsumerAsk.TheVariants as consumer_ask
+use Rattle.pulsar_calls.specs.declared.act.ConsumerAsk.{ConsumerAsk}
+use Rattle.pulsar_plans.specs.declared.plan.Plan.TheVariants.{Copying}
+use Rattle.pulsar_outgoing.specs.declared.multi_topic.Multi.TheVariants.{Own}
+use Rattle.pulsar_plans.specs.declared.copying.CopyState.{CopyState}
+use Rattle.pulsar_plans.proofs.CopyArcs.{CopyArc, handing_goes, sending_goes}
 use Rattle.std.proofs.lemmas.Bool.{cases_Bool, eqb-true}
 use Rattle.std.proofs.lemmas.Bool.Decides.{nat_tests}
 use Rattle.std.specs.Option.{is_some}
-use Rattle.pulsar_laws.proofs.ActWords.{Act, Action, Answers, Asked, Call, Calls, Comes, Does, Heard, Makes, Nothing, Notice, Number, OfMulti, Outcome, Procedure, Starts, ticket_of, Told, Verdict, Who, is_same, lacks_tickets, shares}
+use Rattle.pulsar_laws.proofs.ActWords.{Act, Action, Answers, Asked, Call, Calls, Comes, Does, Heard, Makes, Nothing, Notice, Number, OfMulti, Outcome, Procedure, Starts, ticket_of, Told, Verdict, Who, is_same, lacks_tickets, shares, OfConsumer}
 use Rattle.pulsar_laws.proofs.PlanWords.{action_of, Asking, Awaiting, begins, Built, Deed as Doing, fails, Gives, MultiSending, Plan, PlanTransition, Producing, Stays, told, Ways}
-use Rattle.pulsar_laws.proofs.RunWords.{Answered, Begins, begun_same, counted, each_map, Entry, In, IsRun, may_call, notice, Options, producers_listed, started, stays, stays_some, Then, told_some, view, View, rules}
+use Rattle.pulsar_laws.proofs.RunWords.{Answered, Begins, begun_same, counted, each_map, Entry, In, IsRun, may_call, notice, Options, producers_listed, started, stays, stays_some, Then, told_some, view, View, rules, Each}
 use Rattle.pulsar_laws.proofs.LinkWords.{Exhausted}
 use Rattle.pulsar_messages.specs.Content.{ProducerMessageValues}
 use Rattle.pulsar_messages.specs.Claims.{is_spent}
@@ -16,7 +22,7 @@ use Rattle.pulsar_producer.specs.Topic.{Act as Deed, fresh}
 use Rattle.pulsar_outgoing.specs.declared.storage.Limits.{Limits}
 use Rattle.pulsar_outgoing.specs.declared.news.News.TheVariants as news
 use Rattle.pulsar_calls.specs.declared.act.Makes.TheVariants.{Producer}
-use Rattle.pulsar_acts.specs.View.{producers_left}
+use Rattle.pulsar_acts.specs.View.{producers_left, producers_asked}
 use Rattle.pulsar_calls.specs.declared.act.Outcome.TheVariants as outcome
 use Rattle.pulsar_calls.specs.declared.act.Who.TheVariants as one
 use Rattle.pulsar_calls.specs.declared.content.BuiltProducer.{BuiltProducer}
@@ -34,7 +40,7 @@ use Rattle.pulsar_outgoing.specs.declared.multi_topic.Multi.{Multi}
 use Rattle.pulsar_outgoing.specs.declared.multi_topic.MultiAsk.{MultiAsk}
 use Rattle.pulsar_outgoing.specs.declared.multi_topic.MultiAsk.TheVariants.{Join}
 use Rattle.pulsar_plans.specs.Plan.{multi_action_of}
-use Rattle.pulsar_plans.proofs.Arcs.{Arc, Begun, batches_go, begins_multi_send, begun_arc, builds_on, multi_closes_on, multi_goes, part_sends, sends, told_arc}
+use Rattle.pulsar_plans.proofs.Arcs.{Arc, Begun, batches_go, begins_multi_send, begun_arc, builds_on, multi_closes_on, multi_goes, part_sends, sends, told_arc, copies_go}
 use Rattle.pulsar_plans.proofs.MultiArcs.{MultiSendArc, absent_builds, multi_builds, multi_rests}
 use Rattle.pulsar_laws.proofs.Cases.{none_some, some_is}
 use Rattle.pulsar_calls.specs.Content as content
@@ -46,7 +52,7 @@ use Rattle.pulsar_laws.proofs.plans.Batchers.{batcher_stands}
 use Rattle.pulsar_laws.proofs.plans.Follow.{same_is}
 use Rattle.pulsar_laws.proofs.plans.Granted.{BeginsSo, GivenBy, IsLedSo, does_from, granted_by, grants_given, in_each, is_grant}
 use Rattle.pulsar_laws.proofs.plans.Led.{deeds_follow_lem}
-use Rattle.pulsar_laws.proofs.producers.Numbering.{IsSound, JoinSound, MakesSound, TurnSound, begins_sound, drawn_in, multi_drawn, number_of, told_sound}
+use Rattle.pulsar_laws.proofs.producers.Numbering.{IsSound, JoinSound, MakesSound, TurnSound, begins_sound, drawn_in, multi_drawn, number_of, told_sound, copy_drawn}
 use Rattle.pulsar_laws.proofs.plans.Owned.{batcher_told, batches_begun, starts_own}
 use Rattle.pulsar_laws.proofs.calls.Same.{same_self}
 use Rattle.pulsar_laws.proofs.plans.Servers.{server_gives, server_stands, serve_goes_on}
@@ -238,12 +244,23 @@ numbers_next : (t : ℕ) (r : Option Joining) (ps : Producers) → (with_numbers
 numbers_next t None ps = refl
 numbers_next t (Some j) ps = refl
 
+asked_next : (who : Who) (ask : ConsumerAsk) (ps : Producers) → (producers_asked who ask ps).next ≡ ps.next
+asked_next who (consumer_ask.Find t) ps = refl
+asked_next who consumer_ask.TakeFlow ps = refl
+asked_next who consumer_ask.Recall ps = refl
+asked_next who (consumer_ask.Revive l) ps = refl
+asked_next who (consumer_ask.Fail f) ps = refl
+asked_next who consumer_ask.TakeCopy ps = refl
+asked_next who consumer_ask.CopySent ps = refl
+asked_next who consumer_ask.CopyFailed ps = refl
+
 pub next_after : (v : View) (a : Act) → v.producers.next ≤ (seen.after a v).producers.next
 next_after v (Comes (Calls asked advice)) = let e = called_kept v asked advice in rw e (omega arith)
 next_after v (Does who Number) = next_more v.producers
 next_after v (Answers who verdict) =
     let e = left_next who (producers_listed v.chosen who verdict.makes v.producers) ∙ made_next v who verdict.makes in rw e (omega arith)
 next_after v (Does who (OfMulti m ask)) = let e = numbers_next (ticket_of who) (joined_by ask (multi_at v m)) v.producers in rw e (omega arith)
+next_after v (Does who (OfConsumer ask)) = let e = asked_next who ask v.producers in rw e (omega arith)
 next_after v _ = omega arith
 
 -- ALONG A LOG
@@ -260,6 +277,7 @@ pub record Drawn (o : Options) (log : List Entry) : Type 0 where
 sound_map : (Q R : ℕ → Type 0) (p : Plan) → ((n : ℕ) → Q n → R n) → IsSound Q p → IsSound R p
 sound_map Q R (Producing w o b) f k = each_map Q R (drawn_in b) f k
 sound_map Q R (MultiSending w m share s) f k = each_map Q R (multi_drawn s) f k
+sound_map Q R (Copying w t s) f k = each_map Q R (copy_drawn s) f k
 sound_map Q R (Asking w) f k = k
 sound_map Q R (Awaiting w) f k = k
 sound_map Q R _ f k = tt
@@ -488,18 +506,18 @@ no_producer o log m verdict b makes run = elim (answers_from o log (one.Producer
 ]
 
 -- and no consumer does
-no_consumer : (o : Options) (log : List Entry) (n t : ℕ) (verdict : Verdict) (b : BuiltProducer) → verdict.makes ≡ Producer b →
-    IsRun o (Then (Answers (one.Consumer n t 0) verdict) ∷ log) → ⊥
-no_consumer o log n t verdict b makes run = elim (answers_from o log (one.Consumer n t 0) verdict run) [
+no_consumer : (o : Options) (log : List Entry) (n t key : ℕ) (verdict : Verdict) (b : BuiltProducer) → verdict.makes ≡ Producer b →
+    IsRun o (Then (Answers (one.Consumer n t key) verdict) ∷ log) → ⊥
+no_consumer o log n t key verdict b makes run = elim (answers_from o log (one.Consumer n t key) verdict run) [
   | inl k ↦
-      (let r : IsRun o (Then (Told (notice (one.Consumer n t 0) k.outcome)) ∷ k.older) = subst (IsRun o) k.is_there run.0 in
+      (let r : IsRun o (Then (Told (notice (one.Consumer n t key) k.outcome)) ∷ k.older) = subst (IsRun o) k.is_there run.0 in
       let f : Nothing ≡ Producer b =
-      sym (server_gives k.before k.outcome verdict (server_stands o k.older n t k.before r.0 k.stood) k.leads) ∙ makes in
+      sym (server_gives k.before k.outcome verdict (server_stands o k.older n t key k.before r.0 k.stood) k.leads) ∙ makes in
       absurd cc)
   | inr x ↦ elim x [
     | inl k ↦
-        (let r : IsRun o (Then (Starts (one.Consumer n t 0) k.procedure) ∷ k.older) = subst (IsRun o) k.is_there run.0 in
-        serve_goes_on o k.older n t k.procedure verdict r k.leads)
+        (let r : IsRun o (Then (Starts (one.Consumer n t key) k.procedure) ∷ k.older) = subst (IsRun o) k.is_there run.0 in
+        serve_goes_on o k.older n t key k.procedure verdict r k.leads)
     | inr e ↦ (let f : (fails Exhausted).makes ≡ Producer b = sym (ap (λ y. y.makes) e) ∙ makes in absurd cc)
   ]
 ]
@@ -507,7 +525,7 @@ no_consumer o log n t verdict b makes run = elim (answers_from o log (one.Consum
 pub who_call : (o : Options) (log : List Entry) (w : Who) (verdict : Verdict) (b : BuiltProducer) → verdict.makes ≡ Producer b →
     IsRun o (Then (Answers w verdict) ∷ log) → w ≡ Call (rank w).1
 who_call o log (Call t) verdict b makes run = refl
-who_call o log (one.Consumer n t key) verdict b makes run = absurd (no_consumer o log n t verdict b makes run)
+who_call o log (one.Consumer n t key) verdict b makes run = absurd (no_consumer o log n t key verdict b makes run)
 who_call o log (one.Producer m) verdict b makes run = absurd (no_producer o log m verdict b makes run)
 
 topics_on : (o : Options) (log : List Entry) → Every (Drawn o) log → (a : Act) → IsRun o (Then a ∷ log) → (n : ℕ) (row : Topic) →
@@ -551,6 +569,12 @@ send_holds (multi_builds {d} b) m k j e Q = absurd (deed_not k j d e)
 send_holds multi_rests m k j e Q = absurd cc
 send_holds _ m k j e Q = tt
 
+copy_holds : {w : Ways} {t : List ℕ} {s q : CopyState} {u : Outcome} {a : Action} → CopyArc w t s u q a → (m : Multi) (j : Joining) → a ≡ OfMulti m (Join j) →
+    (Q : ℕ → Type 0) → Each Q (copy_drawn q)
+copy_holds (handing_goes d b) k j e Q = send_holds b Own k j e Q
+copy_holds (sending_goes d b) k j e Q = absurd (deed_not k j d e)
+copy_holds _ k j e Q = absurd cc
+
 arc_holds : {p q : Plan} {u : Outcome} {a : Action} → Arc p u q a → (m : Multi) (j : Joining) → a ≡ OfMulti m (Join j) → (Q : ℕ → Type 0) → IsSound Q q
 arc_holds (multi_goes {m} d b) k j e Q = send_holds b m k j e Q
 arc_holds (multi_closes_on ask b) k j e Q = tt
@@ -558,6 +582,7 @@ arc_holds (builds_on d b) k j e Q = absurd (deed_not k j d e)
 arc_holds (sends d b) k j e Q = absurd (deed_not k j d e)
 arc_holds (part_sends d b i) k j e Q = absurd (deed_not k j d e)
 arc_holds (batches_go d b) k j e Q = absurd (deed_not k j d e)
+arc_holds (copies_go b) k j e Q = copy_holds b k j e Q
 arc_holds _ k j e Q = absurd cc
 
 begins_not : {p : Procedure} {r : Plan} {a : Action} → Begun p r a → (m : Multi) (j : Joining) → a ≡ OfMulti m (Join j) → ⊥
@@ -569,7 +594,7 @@ joined_stand : (o : Options) (log : List Entry) (w : Who) (m : Multi) (j : Joini
 joined_stand o log w m j run p h Q = elim (does_from o log w (OfMulti m (Join j)) run) [ inl x ↦ begun x | inr x ↦ led x ]
   where
     begun : BeginsSo o log w (OfMulti m (Join j)) → IsSound Q p
-    begun x = absurd (begins_not (begun_arc x.leads) m j refl)
+    begun x = absurd (begins_not {p = x.procedure} {r = x.plan} {a = OfMulti m (Join j)} (begun_arc x.leads) m j refl)
 
     led : IsLedSo o log w (OfMulti m (Join j)) → IsSound Q p
     led x =
@@ -578,7 +603,7 @@ joined_stand o log w m j run p h Q = elim (does_from o log w (OfMulti m (Join j)
         (ap (λ y. cond y (stays_some (told_some ((view o x.older).stand w) x.outcome)) ((view o x.older).stand w)) (same_self w)
         ∙ ap (λ r. stays_some (told_some r x.outcome)) x.stood
         ∙ ap stays x.leads) in
-        subst (IsSound Q) (some_is (sym now ∙ h)) (arc_holds (told_arc x.leads) m j refl Q)
+        subst (IsSound Q) (some_is (sym now ∙ h)) (arc_holds {p = x.before} {q = x.plan} {u = x.outcome} {a = OfMulti m (Join j)} (told_arc x.leads) m j refl Q)
 
 row_none : (es : List Deed) → row_by topic_after es None ≡ None
 row_none [] = refl
@@ -619,7 +644,7 @@ module _ (o : Options) (log : List Entry) (k : Every (Drawn o) log) (a : Act) (r
       none_some (sym none ∙ ap (view o log).stand (sym e) ∙ now)
 
   not_joined : is_join a ≡ false → Goal
-  not_joined no = others (λ n t j q. by j.who j.owner j.limits j.parts j.by q)
+  not_joined none = others (λ n t j q. by j.who j.owner j.limits j.parts j.by q)
     where
       by : (who : Who) (owner : Owner) (limits : Limits) (parts : List Built) → JoinsBy a who owner limits parts → w ≡ who → ⊥
       by who owner limits parts (ByVerdict verdict b is makes) q = ended who verdict b is makes q

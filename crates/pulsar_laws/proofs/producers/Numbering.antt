@@ -1,6 +1,11 @@
 -- The numbers of topic producers. Each is drawn once, greater than all before it; a building has just those that it drew; and so a producer
 -- that joins has numbers that no other has.
 use Rattle.std.proofs.Common.{◌≡◌, sym, ap, subst, ℕ, List, [], ◌∷◌, ◌++◌, refl, map, Bool, true, false, cond, Option, Some, None, Ok}
+use Rattle.pulsar_plans.specs.declared.plan.Plan.TheVariants.{Copying}
+use Rattle.pulsar_outgoing.specs.declared.multi_topic.Multi.TheVariants.{Own}
+use Rattle.pulsar_plans.specs.declared.copying.CopyState.TheVariants as copy
+use Rattle.pulsar_plans.specs.declared.copying.CopyState.{CopyState}
+use Rattle.pulsar_plans.proofs.CopyArcs.{CopyArc, handing_goes, sending_goes}
 use Rattle.pulsar_laws.proofs.ActWords.{Action, Makes, OfMulti, Nothing, Outcome, Procedure, Verdict}
 use Rattle.pulsar_laws.proofs.PlanWords.{Asking, Awaiting, begins, BuildingProducer as Build, Built, Deed, Gives, is_answer, MultiSending, News, news_of, Plan, PlanTransition, ProducerOrder, Producing, Stays, told, Ways, Wish}
 use Rattle.pulsar_laws.proofs.RunWords.{Each, each_append}
@@ -24,7 +29,7 @@ use Rattle.pulsar_calls.specs.declared.act.Makes.TheVariants.{Producer}
 use Rattle.pulsar_calls.specs.declared.act.Outcome.TheVariants as outcome
 use Rattle.pulsar_plans.specs.Plan.{action_of, makes_of, multi_action_of, multi_news_of, wished}
 use Rattle.pulsar_messages.specs.Words as words
-use Rattle.pulsar_plans.proofs.Arcs.{Arc, Begun, BegunEnd, End, answers, batches_go, begins_asking, begins_none, builds_on, by_arcs, by_begun, departs_asks, got_asks, multi_closes_on, multi_goes, part_sends, produced, queued_waits, sends, stands_on}
+use Rattle.pulsar_plans.proofs.Arcs.{Arc, Begun, BegunEnd, End, answers, batches_go, begins_asking, begins_none, builds_on, by_arcs, by_begun, departs_asks, got_asks, multi_closes_on, multi_goes, part_sends, produced, queued_waits, sends, stands_on, copies_go}
 use Rattle.pulsar_plans.proofs.MultiArcs.{BuildBegun, MultiCloseArc, MultiSendArc, absent_builds, absent_joins, build_names, build_numbers, built_joins, multi_builds, multi_rests, removed_passes, removing_passes, turned_removes}
 use Rattle.pulsar_producer.proofs.Arcs.{BuildArc, BuildEnd, build_done, building_rests, builds_on_asks, builds_on_gets, builds_on_waits, built_numbers, held_numbers, none_named, numbered_makes}
 
@@ -51,10 +56,16 @@ multi_drawn (send.Building o m b) = drawn_in b
 multi_drawn (send.Joining t m) = []
 multi_drawn (send.Passing given) = []
 
+-- and what the sends of copies have
+abbrev pub copy_drawn : CopyState → List ℕ
+copy_drawn (copy.Handing s) = multi_drawn s
+copy_drawn _ = []
+
 -- so are the numbers that a plan has drawn; and a request makes no producer
 abbrev pub IsSound : (ℕ → Type 0) → Plan → Type 0
 IsSound Q (Producing w o b) = Each Q (drawn_in b)
 IsSound Q (MultiSending w m share s) = Each Q (multi_drawn s)
+IsSound Q (Copying w t s) = Each Q (copy_drawn s)
 IsSound Q (Asking w) = makes_producer w.makes ≡ false
 IsSound Q (Awaiting w) = makes_producer w.makes ≡ false
 IsSound Q _ = Unit {0}
@@ -128,6 +139,23 @@ module _ (Q : ℕ → Type 0) where
   close_joins m removed_passes = tt
   close_joins m (removing_passes f) = tt
 
+  of_multi : (u : Outcome) (m : ℕ) → multi_news_of u ≡ IsTold (news.Numbered m) → u ≡ outcome.Granted (news.Numbered m)
+  of_multi (outcome.Granted n) m h = (let e : n ≡ news.Numbered m = cc in ap outcome.Granted e)
+  of_multi (outcome.OfMulti x) m h = absurd cc
+  of_multi outcome.Queued m h = absurd cc
+  of_multi outcome.InLine m h = absurd cc
+  of_multi _ m h = absurd cc
+
+  copy_sound : {w : Ways} {t : List ℕ} {s q : CopyState} {u : Outcome} {a : Action} → CopyArc w t s u q a → Each Q (copy_drawn s) →
+      ((m : ℕ) → u ≡ outcome.Granted (news.Numbered m) → Q m) → Each Q (copy_drawn q)
+  copy_sound (handing_goes {u} d b) k q = multi_sound b k (λ m h. q m (of_multi u m h))
+  copy_sound _ k q = tt
+
+  copy_joins : {w : Ways} {t : List ℕ} {s q : CopyState} {u : Outcome} {a : Action} → CopyArc w t s u q a → Each Q (copy_drawn s) → JoinSound Q a
+  copy_joins (handing_goes d b) k = multi_joins Own b k
+  copy_joins (sending_goes d b) k = deed_joins d
+  copy_joins _ k = tt
+
   -- a reply makes what its request does
   makes_plain : (m : Makes) → makes_producer m ≡ false → MakesSound Q m
   makes_plain (Producer made) h = absurd cc
@@ -150,13 +178,7 @@ module _ (Q : ℕ → Type 0) where
       of_number outcome.InLine m h = absurd cc
       of_number _ m h = absurd cc
   arc_sound (multi_goes {u} d b) k q = multi_sound b k (λ m h. q m (of_multi u m h))
-    where
-      of_multi : (u : Outcome) (m : ℕ) → multi_news_of u ≡ IsTold (news.Numbered m) → u ≡ outcome.Granted (news.Numbered m)
-      of_multi (outcome.Granted n) m h = (let e : n ≡ news.Numbered m = cc in ap outcome.Granted e)
-      of_multi (outcome.OfMulti x) m h = absurd cc
-      of_multi outcome.Queued m h = absurd cc
-      of_multi outcome.InLine m h = absurd cc
-      of_multi _ m h = absurd cc
+  arc_sound (copies_go x) k q = copy_sound x k q
   arc_sound (got_asks {request} {s} {l}) k q = plain_of l (subscribed request)
   arc_sound queued_waits k q = k
   arc_sound stands_on k q = k
@@ -170,6 +192,7 @@ module _ (Q : ℕ → Type 0) where
   arc_joins (batches_go d b) k = deed_joins d
   arc_joins (multi_goes {m} d b) k = multi_joins m b k
   arc_joins (multi_closes_on {m} ask b) k = close_joins m b
+  arc_joins (copies_go x) k = copy_joins x k
   arc_joins _ k = tt
 
   end_sound : {p : Plan} {u : Outcome} {v : Verdict} → End p u v → IsSound Q p → MakesSound Q v.makes

@@ -4,6 +4,12 @@ use Rattle.std.proofs.lemmas.Bool.{cases_Bool, eq-eqb}
 use Rattle.std.proofs.lemmas.Bool.Decides.{nat_tests}
 use Rattle.std.specs.List.{filter}
 use Rattle.std.specs.Option.{is_none}
+use Rattle.std.specs.Option.{option_map}
+use Rattle.pulsar_calls.specs.declared.act.Alarm.TheVariants.{Redelivery}
+use Rattle.pulsar_calls.specs.declared.act.Notice.{Notice}
+use Rattle.pulsar_calls.specs.declared.act.Word.TheVariants as word
+use Rattle.pulsar_consumer_table.specs.Consumers.{who_of}
+use Rattle.pulsar_consumer_table.specs.Notices.{asks_word, redelivered_at, word_to}
 use Rattle.pulsar_laws.proofs.ActWords.{Act, Alarm, Batch, CheckIdle, Comes, Dials, Ends, Idles, KeepAlive, numbers_from, opens, Pings, Retry, Rings, Told, ToLink, Wake, Who}
 use Rattle.pulsar_laws.proofs.RunWords.{Arises, Begins, Entry, In, InOne, is_live, notice, Options, parts, readied, ready_notice, rules, Then, View, view}
 use Rattle.pulsar_laws.proofs.LinkWords.{over_links, rings}
@@ -170,6 +176,13 @@ module _ (o : Options) (newer older : List Entry) where
       now_done (KeepAlive l) done x r
       (subst (λ row. In x (keeps_alive l row)) (sym h) (subst (λ b. In x (cond b (x ∷ []) [])) (sym (ap is_none none)) (inl refl)))
 
+  asks_again : (n t : ℕ) → Done (Redelivery n t) → rings v.now (Redelivery n t) v.alarms ≡ true → ActsSo o (Redelivery n t) newer older
+  asks_again n t done r m l request there due =
+      let it : Notice = notice (who_of t m) (outcome.Word (word.Asks l request)) in
+      let told : redelivered_at v.now t (v.consumers.rows t) ≡ it ∷ [] =
+      ap (redelivered_at v.now t) there ∙ ap (λ x. word_to t m (option_map asks_word x) ++ []) due in
+      told_done (Redelivery n t) done (Told it) r (subst (λ ns. InOne (Told it) (map (map Told) (opens ns))) (sym told) (inl (inl refl)))
+
   idles : Done CheckIdle → rings v.now CheckIdle v.alarms ≡ true → ActsSo o CheckIdle newer older
   idles done r l seat h unused =
       let x : Act = Comes (ToLink l (Ends Idles)) in
@@ -185,6 +198,7 @@ module _ (o : Options) (newer older : List Entry) where
   acts_so (Wake who) done r = wakes who done r
   acts_so (Batch n) done r = is_cut n done r
   acts_so (KeepAlive l) done r = keeps l done r
+  acts_so (Redelivery n t) done r = asks_again n t done r
   acts_so CheckIdle done r = idles done r
 
 pub alarms_act_lem : AlarmsAct

@@ -1,5 +1,5 @@
 -- An alarm stands at the moment to which the newest act set it that set or cleared it.
-use Rattle.std.proofs.Common.{◌≡◌, inl, inr, ◌∙◌, sym, ap, subst, ℕ, List, [], ◌∷◌, refl, Bool, true, false, ◌&&◌, ◌||◌, not, cond, Option, Some, None}
+use Rattle.std.proofs.Common.{◌≡◌, ◌⊎◌, inl, inr, ◌∙◌, sym, ap, subst, ℕ, List, [], ◌∷◌, refl, Bool, true, false, ◌&&◌, ◌||◌, not, cond, Option, Some, None}
 use Rattle.std.proofs.lemmas.Bool.{cases_Bool}
 use Rattle.std.proofs.lemmas.Map.Entries.{lookup-filter-keys}
 use Rattle.std.specs.Cmp.{eq_by_cmp_equiv}
@@ -7,7 +7,7 @@ use Rattle.std.specs.List.{list_any}
 use Rattle.std.specs.Ordering.{is_eq, match_ordering}
 use Rattle.std.specs.declared.cmp.Ordering.{Ordering}
 use Rattle.std.specs.declared.cmp.Ordering.TheVariants.{Less, Equal, Greater}
-use Rattle.pulsar_laws.proofs.ActWords.{Act, Alarm, Answers, Batch, CheckIdle, Comes, Does, Flush, KeepAlive, OfTopic, Retry, Rings, Shut, StopAll, Store, ToLink, turn_of, Wait, Wake}
+use Rattle.pulsar_laws.proofs.ActWords.{Act, Alarm, Answers, Batch, CheckIdle, Comes, Does, Flush, KeepAlive, Makes, OfMulti, OfTopic, Redelivery, Retry, Rings, Shut, StopAll, Store, ToLink, turn_of, Wait, Wake, Who}
 use Rattle.pulsar_laws.proofs.RunWords.{Begins, begun_same, Chosen, Then, Turned, turned, view, View}
 use Rattle.pulsar_laws.proofs.LinkWords.{Becomes, Change, IsOver, Pause, Remains, rings}
 use Rattle.pulsar_producer.specs.Topic as topic
@@ -15,9 +15,17 @@ use Rattle.pulsar_producer_table.specs.declared.table.Topic.{Topic}
 use Rattle.pulsar_producer_table.specs.Producers.{is_bare, numbers_at, timeout_at}
 use Rattle.pulsar_links.specs.Alarms.{alarm_cmp, clear, is_same_alarm, moment_of, set}
 use Rattle.pulsar_links.proofs.Ringing.{alarm_total, exact_alarm, is_this}
-use Rattle.pulsar_links.specs.Seats.{later}
-use Rattle.pulsar_acts.specs.View.{alarms_after, alarms_on, alarms_over, alarms_rung, alarms_turned, alarms_waiting, builds, clear_all, delay_of}
-use Rattle.pulsar_laws.specs.RetryLaws.{MomentsAreSet, cleared_on, clears, is_over, moment_by, row_with, set_again, set_by, set_on, set_stored, sets}
+use Rattle.pulsar_links.specs.Seats.{later, url_at}
+use Rattle.std.specs.Option.{option_map}
+use Rattle.url.specs.Parts.{Parts}
+use Rattle.pulsar_calls.specs.declared.act.Makes.TheVariants as makes
+use Rattle.pulsar_calls.specs.declared.act.Who.TheVariants.{Call, Consumer, Producer}
+use Rattle.pulsar_consumer.specs.Redelivery.{first_check, next_check}
+use Rattle.pulsar_consumer.specs.Topic.{Setup, of_raw}
+use Rattle.pulsar_consumer_table.specs.Consumers.{Consumers, Member, check_after, member_of}
+use Rattle.pulsar_producer_table.specs.MultiAsks.{removed_by}
+use Rattle.pulsar_acts.specs.View.{alarms_after, alarms_on, alarms_over, alarms_rung, alarms_turned, alarms_waiting, builds, clear_all, delay_of, alarms_built, alarms_made, checked_first, checked_next, member_made, member_on, multi_at, setup_of}
+use Rattle.pulsar_laws.specs.RetryLaws.{MomentsAreSet, cleared_on, clears, is_over, moment_by, row_with, set_again, set_by, set_by_end, set_checked, set_made, set_on, set_stored, sets}
 
 -- ONE THAT IS SET, AND ONE THAT IS CLEARED
 
@@ -100,20 +108,33 @@ module _ (now : ℕ) (a : Alarm) (es : List (Alarm × ℕ)) where
   on_moment o None = refl
   on_moment o (Some t) = turned_moment o t.link t.change t.pause
 
-  again_moment : (o : Chosen) (b : Alarm) → Is (set_again o b) (is_same_alarm a b) (alarms_rung o now b es)
-  again_moment o (Retry l) = clear_moment a (Retry l) es
-  again_moment o (Wake who) = clear_moment a (Wake who) es
-  again_moment o (Batch n) = clear_moment a (Batch n) es
-  again_moment o (KeepAlive l) =
+  -- a check is set again where there is one, and else no more
+  next_moment : (n t : ℕ) (check : Option ℕ) →
+      Is (option_map (λ moment. (Redelivery n t, 500)) check) (is_same_alarm a (Redelivery n t)) (checked_next n t (next_check now check) es)
+  next_moment n t None = clear_moment a (Redelivery n t) es
+  next_moment n t (Some due) =
+      set_moment a (Redelivery n t) (later now 500) es ∙ set_cleared (is_same_alarm a (Redelivery n t)) (later now 500) (moment_of a es)
+
+  checked_moment : (n t : ℕ) (row : Option Member) →
+      Is (set_checked n t row) (is_same_alarm a (Redelivery n t)) (checked_next n t (check_after now row) es)
+  checked_moment n t None = clear_moment a (Redelivery n t) es
+  checked_moment n t (Some m) = next_moment n t m.seen.engine.check
+
+  again_moment : (o : Chosen) (cs : Consumers) (b : Alarm) → Is (set_again o cs b) (is_same_alarm a b) (alarms_rung o cs now b es)
+  again_moment o cs (Retry l) = clear_moment a (Retry l) es
+  again_moment o cs (Wake who) = clear_moment a (Wake who) es
+  again_moment o cs (Batch n) = clear_moment a (Batch n) es
+  again_moment o cs (Redelivery n t) = checked_moment n t (cs.rows t)
+  again_moment o cs (KeepAlive l) =
       set_moment a (KeepAlive l) (later now o.connection.keep_alive) es
       ∙ set_cleared (is_same_alarm a (KeepAlive l)) (later now o.connection.keep_alive) (moment_of a es)
-  again_moment o CheckIdle =
+  again_moment o cs CheckIdle =
       set_moment a CheckIdle (later now 60000) es ∙ set_cleared (is_same_alarm a CheckIdle) (later now 60000) (moment_of a es)
 
-  rung_moment : (o : Chosen) (b : Alarm) (r : Bool) →
-      Is (cond r (set_again o b) None) (r && is_same_alarm a b) (cond r (alarms_rung o now b es) es)
-  rung_moment o b true = again_moment o b
-  rung_moment o b false = refl
+  rung_moment : (o : Chosen) (cs : Consumers) (b : Alarm) (r : Bool) →
+      Is (cond r (set_again o cs b) None) (r && is_same_alarm a b) (cond r (alarms_rung o cs now b es) es)
+  rung_moment o cs b true = again_moment o cs b
+  rung_moment o cs b false = refl
 
   -- what is stored waits, or nothing is stored any longer
   waiting_moment : (timeout : Option ℕ) (n : ℕ) (was is : Bool) →
@@ -128,9 +149,56 @@ module _ (now : ℕ) (a : Alarm) (es : List (Alarm × ℕ)) where
   built_moment true = set_moment a CheckIdle (later now 60000) es
   built_moment false = refl
 
+  -- the first check of a consumer that is made is set half a second later
+  abbrev IsFirst : Option ℕ → Type 0
+  IsFirst check = (check ≡ None) ⊎ (check ≡ Some (later now 500))
+
+  first_moment : (n t : ℕ) (check : Option ℕ) → IsFirst check → Is (option_map (λ moment. (Redelivery n t, 500)) check) false (checked_first n t check es)
+  first_moment n t check (inl e) = rw e refl
+  first_moment n t check (inr e) = rw e (set_moment a (Redelivery n t) (later now 500) es)
+
+  made_moment : (w : Who) (m : Member) → IsFirst m.seen.engine.check → Is (set_made w (Some m)) false (alarms_made w (Some m) es)
+  made_moment (Call t) m first = first_moment m.seen.number t m.seen.engine.check first
+  made_moment (Consumer n t key) m first = refl
+  made_moment (Producer n) m first = refl
+
+-- how a consumer is made
+first_of : (now : ℕ) (delay : Option ℕ) → (first_check delay now ≡ None) ⊎ (first_check delay now ≡ Some (later now 500))
+first_of now None = inl refl
+first_of now (Some delay) = inr refl
+
+made_first : (now l : ℕ) (s : Setup) (url : Option Parts) →
+    ((member_of s now l url).seen.engine.check ≡ None) ⊎ ((member_of s now l url).seen.engine.check ≡ Some (later now 500))
+made_first now l s None = inl refl
+made_first now l s (Some url) = first_of now s.config.unacked_message_redelivery_delay
+
+not_first : (b : Bool) → (b && false) ≡ false
+not_first true = refl
+not_first false = refl
+
+-- a verdict sets the check of idle links, or the first of a consumer that it makes, or none
+answered_moment : (v : View) (w : Who) (m : Makes) (a : Alarm) →
+    moment_of a (alarms_made w (member_made v.links.live v.now v.consumers.next_key m) (alarms_built v.now (not v.calls.is_built && builds m false) v.alarms))
+    ≡ moment_by v.now (set_by_end v w m) false a (moment_of a v.alarms)
+answered_moment v w makes.Client a = by (not v.calls.is_built && true)
+  where
+    by : (b : Bool) → moment_of a (alarms_built v.now b v.alarms) ≡ moment_by v.now (cond b (Some (CheckIdle, 60000)) None) false a (moment_of a v.alarms)
+    by true = set_moment a CheckIdle (later v.now 60000) v.alarms
+    by false = refl
+answered_moment v w (makes.Consumer j) a =
+    let m : Member = member_on v.links.live v.now j.link (setup_of v.consumers.next_key j) in
+    rw (not_first (not v.calls.is_built))
+    (made_moment v.now a v.alarms w m (made_first v.now j.link (setup_of v.consumers.next_key j) (url_at (v.links.live j.link))))
+answered_moment v w (makes.RawConsumer l s) a =
+    let m : Member = member_on v.links.live v.now l (of_raw s) in
+    rw (not_first (not v.calls.is_built)) (made_moment v.now a v.alarms w m (made_first v.now l (of_raw s) (url_at (v.links.live l))))
+answered_moment v w makes.Nothing a = rw (not_first (not v.calls.is_built)) refl
+answered_moment v w (makes.Producer b) a = rw (not_first (not v.calls.is_built)) refl
+answered_moment v w (makes.MultiProducer name settings) a = rw (not_first (not v.calls.is_built)) refl
+
 after_moment : (v : View) (act : Act) (a : Alarm) → moment_of a (alarms_after v act) ≡ moment_by v.now (sets v act) (clears v act a) a (moment_of a v.alarms)
 after_moment v (Comes (ToLink l x)) a = on_moment v.now a v.alarms v.chosen (turned v (Comes (ToLink l x)))
-after_moment v (Comes (Rings b)) a = rung_moment v.now a v.alarms v.chosen b (rings v.now b v.alarms)
+after_moment v (Comes (Rings b)) a = rung_moment v.now a v.alarms v.chosen v.consumers b (rings v.now b v.alarms)
 after_moment v (Does who (Wait delay)) a = set_moment a (Wake who) (later v.now delay) v.alarms
 after_moment v (Does who (OfTopic n (Store x))) a =
     let row : Option Topic = v.producers.topics n in
@@ -138,9 +206,10 @@ after_moment v (Does who (OfTopic n (Store x))) a =
 after_moment v (Does who (OfTopic n Flush)) a =
     let row : Option Topic = v.producers.topics n in
     waiting_moment v.now a v.alarms (timeout_at v.producers row) n (is_bare row) (is_bare (row_with (topic.Flushes (turn_of who)) row))
+after_moment v (Does who (OfMulti m ask)) a = clear_all_moment a (removed_by ask (multi_at v m)) v.alarms
 after_moment v (Does who (Shut t)) a = clear_all_moment a (numbers_at (v.producers.built t)) v.alarms
 after_moment v (Does who StopAll) a = refl
-after_moment v (Answers who verdict) a = built_moment v.now a v.alarms (not v.calls.is_built && builds verdict.makes false)
+after_moment v (Answers who verdict) a = answered_moment v who verdict.makes a
 after_moment v _ a = refl
 
 pub moments_are_set_lem : MomentsAreSet

@@ -2,7 +2,7 @@
 use Rattle.std.proofs.Common.{◌≡◌, ◌⊎◌, inl, inr, ◌∙◌, sym, ap, subst, refl, ℕ, zero, suc, ◌==◌, append-nil, append_assoc, take, List, [], ◌∷◌, ◌++◌, Bool, true, false, ◌&&◌, cond, Option, Some, None}
 use Rattle.pulsar_outgoing.specs.declared.storage.Limits.{Limits}
 use Rattle.pulsar_laws.proofs.PlanWords.{Built}
-use Rattle.pulsar_producer_table.specs.declared.table.Owner.Owner.{Owner}
+use Rattle.pulsar_producer_table.specs.declared.table.Owner.{Owner}
 use Rattle.std.proofs.lemmas.Bool.{cases_Bool, eqb-true}
 use Rattle.std.specs.Option.{option_to_list}
 use Rattle.pulsar_laws.proofs.ActWords.{Act, Does, OfTopic, Producer, Starts, TakeBatch, TellAll, Who, is_same}

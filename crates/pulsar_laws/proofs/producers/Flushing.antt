@@ -230,13 +230,13 @@ taken_then o log a run none k n t h = by ((view o log).producers.topics n) refl
         under : (view o log).producers.topics n ≡ None → under_way o n (Then a ∷ log) ≡ None
         under e = elim (row_from (view o log) a n t h) [
           | inl was ↦ absurd (none_some (sym e ∙ was.was))
-          | inr j ↦ joined j.by ∙ none n e
+          | inr j ↦ by_joining j.by ∙ none n e
         ]
 
-        joined : {who : Who} {owner : Owner} {limits : Limits} {parts : List Built} → JoinsBy a who owner limits parts →
+        by_joining : {who : Who} {owner : Owner} {limits : Limits} {parts : List Built} → JoinsBy a who owner limits parts →
             under_way o n (Then a ∷ log) ≡ under_way o n log
-        joined (ByVerdict verdict b is makes) = ap (λ (y : Act). under_way o n (Then y ∷ log)) is
-        joined (BySend m x is) = ap (λ (y : Act). under_way o n (Then y ∷ log)) is
+        by_joining (ByVerdict verdict b is makes) = ap (λ (y : Act). under_way o n (Then y ∷ log)) is
+        by_joining (BySend m x is) = ap (λ (y : Act). under_way o n (Then y ∷ log)) is
 
     by : (r : Option Topic) → (view o log).producers.topics n ≡ r → Keeps o (Then a ∷ log) n t
     by None e = fresh e

@@ -130,6 +130,8 @@ module _ (n : ℕ) where
     once_head log older s x xs ys nothing stop k c = each_head log s ys k
     once_head log older s x xs ys (says g b) stop k c = ((λ e. inl c), k)
     once_head log older s x xs ys dials stop k c = (tt, k)
+    once_head log older s x xs ys (begins_too {xs = more} j h) stop k c =
+        begun_head log s (batches_joined (ways_of (view o older).chosen) j) (more ++ ys) (once_head log older s x more ys h stop k c)
     once_head log older s x xs ys stops_all stop k c = absurd cc
 
     -- IT GOES ON

@@ -7,7 +7,7 @@ pub use Rattle.pulsar_calls.specs.declared.act.Act.TheVariants.{Answers, Comes, 
 pub use Rattle.pulsar_calls.specs.declared.act.Action.{Action}
 pub use Rattle.pulsar_calls.specs.declared.act.Action.TheVariants.{Ask, Get, Hold, Number, OfConsumer, OfMulti, OfTopic, Rest, Shut, StopAll, TakeNumber, Tell, TellAll, Wait}
 pub use Rattle.pulsar_calls.specs.declared.act.Alarm.{Alarm}
-pub use Rattle.pulsar_calls.specs.declared.act.Alarm.TheVariants.{Batch, CheckIdle, KeepAlive, Retry, Wake}
+pub use Rattle.pulsar_calls.specs.declared.act.Alarm.TheVariants.{Batch, CheckIdle, KeepAlive, Redelivery, Retry, Wake}
 pub use Rattle.pulsar_calls.specs.declared.act.Arrival.{Arrival}
 pub use Rattle.pulsar_calls.specs.declared.act.ConsumerAsk.{ConsumerAsk}
 pub use Rattle.pulsar_calls.specs.declared.act.ConsumerAsk.TheVariants.{CopyFailed, CopySent, Fail as FailConsumer, Find as FindConsumer, Recall as RecallConsumer, Revive, TakeCopy, TakeFlow}

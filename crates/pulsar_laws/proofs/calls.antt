@@ -13,6 +13,7 @@ pub mod Stopping
 pub mod Built
 pub mod Once
 pub mod CausedLists
+pub mod CausedWords
 pub mod Caused
 pub mod Gathered
 pub mod Reported

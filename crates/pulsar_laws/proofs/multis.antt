@@ -1,3 +1,4 @@
 pub mod Alone
 pub mod Served
+pub mod Wanting
 pub mod Failing

@@ -382,6 +382,12 @@ BringsEntry o x e older =
     (asked : Asked) × (sent : ℕ × List ProducerMessageValues) × (m : ProducerMessageValues)
     × (e ≡ Then (Comes (call_part o.policies (view o older) asked))) × (sent_by asked ≡ Some sent) × In m sent.1 × (entry_of m ≡ Some x)
 
+-- a call begins so, in the step in which it is made
+abbrev pub StoresFirst : Options → (ticket number : ℕ) → EntryValues → List Entry → Type 0
+StoresFirst o t n x log =
+    (share : Option Share) × (older : List Entry) × (log ≡ Then (Starts (Call t) (procedure.Store n share x)) ∷ older)
+    × InThisStep (BringsEntry o x) older
+
 -- a producer of many topics has handed its message on, to be stored so, and its turn there is over
 abbrev pub IsHandedOn : Options → (ticket number : ℕ) → EntryValues → List Entry → Type 0
 IsHandedOn o t n x log =
@@ -392,9 +398,7 @@ IsHandedOn o t n x log =
 -- message, right behind its turn there.
 abbrev pub StoredAtOnce : Type 0
 StoredAtOnce = (o : Options) (log : List Entry) (t n : ℕ) (x : EntryValues) → IsRun o (Then (Does (Call t) (OfTopic n (Store x))) ∷ log) →
-    ((share : Option Share) × (older : List Entry) × (log ≡ Then (Starts (Call t) (procedure.Store n share x)) ∷ older)
-    × InThisStep (BringsEntry o x) older)
-    ⊎ IsHandedOn o t n x log
+    StoresFirst o t n x log ⊎ IsHandedOn o t n x log
 
 -- a topic producer tells a call what became of its message, with all who are in the batch (MembersAreTold)
 abbrev pub TellsFate : (ticket : ℕ) → Result (Values send_receipt) Failure → Entry → List Entry → Type 0

@@ -2,7 +2,7 @@
 use Rattle.std.proofs.Common.{◌≡◌, ◌⊎◌, inl, inr, ◌∙◌, sym, ap, subst, ℕ, List, ◌∷◌, ◌++◌, refl, map, Bool, true, false, cond, Option, Some, None, Result, Ok, Err, []}
 use Rattle.std.specs.List.{filter_map, flat_map}
 use Rattle.std.specs.Option.{option_map, option_to_list}
-use Rattle.pulsar_laws.proofs.ActWords.{Act, Action, Alarm, Answers, Arrival, Ask, Batch, CheckIdle, Comes, Consumer, Does, Drains, Draw, End, Ends, FailConsumer, Find, FindConsumer, Flush, Get, Hold, Idles, KeepAlive, Makes, Notice, Number, OfTopic, Outcome, Overdue, Part, PassTurn, Polls, Reads, Recall, RecallConsumer, Remake, Rest, Retry, Revive, Rings, Shut, StopAll, Stops, Store, TakeBatch, TakeFlow, TakeNumber, TakeTurn, Tell, TellAll, ToLink, Told, Verdict, Wait, Wake, Who, Word, is_same, opens, ticket_of, turn_of, OfConsumer}
+use Rattle.pulsar_laws.proofs.ActWords.{Act, Action, Alarm, Answers, Arrival, Ask, Batch, CheckIdle, Comes, Consumer, CopyFailed, CopySent, Does, Drains, Draw, End, Ends, FailConsumer, Find, FindConsumer, Flush, Get, Hold, Idles, KeepAlive, Makes, Notice, Number, OfMulti, OfTopic, Outcome, Overdue, Part, PassTurn, Polls, Reads, Recall, RecallConsumer, Redelivery, Remake, Rest, Retry, Revive, Rings, Shut, StopAll, Stops, Store, TakeBatch, TakeCopy, TakeFlow, TakeNumber, TakeTurn, Tell, TellAll, ToLink, Told, Verdict, Wait, Wake, Who, Word, is_same, opens, ticket_of, turn_of, OfConsumer}
 use Rattle.pulsar_laws.proofs.PlanWords.{closed_notice, Command, Drawn}
 use Rattle.pulsar_laws.proofs.RunWords.{Arises, at_once, Begins, Cause, causes, chosen_same, Each, Entry, further, In, InOne, IsRun, joins, lost_on, member_on, notice, Options, over_each, parts, readied, ready_notice, room_of, rules, setup_of, stopped_on, tells, Then, turn_notice, turned_by, view, View}
 use Rattle.pulsar_laws.proofs.LinkWords.{address_key, Addresses, answer_at, arrival_at, closed_by, closed_consumer, closing, ConnectionError, Exhausted, Failure, Fault, is_asked, is_reachable, Nobody, over_links, Pause, Pauses, Place, rings, Runs, Seat, Series, Serves, stop_act, tells_asker, told_at, url_at, Words}
@@ -17,16 +17,31 @@ use Rattle.pulsar_calls.specs.declared.act.End.TheVariants.{Unopened, Lost, Brok
 use Rattle.pulsar_laws.proofs.Lists.{in_append, in_each, in_map}
 use Rattle.pulsar_laws.proofs.calls.Causes.{IsToldBy, OutcomesAreCaused}
 use Rattle.pulsar_laws.proofs.links.Late.{lost_same}
-use Rattle.pulsar_laws.specs.Laws.{AttemptEnds, CutsSo, LineEnds, RequestEnds, base_of, GrantsSo, BuiltDue, PolledDue, RevivedDue, SaysSo}
+use Rattle.pulsar_laws.specs.Laws.{AttemptEnds, CutsSo, GrantsSo, LineEnds, MultiSaysSo, RequestEnds, Shuts, base_of}
 use Rattle.pulsar_links.specs.Links.{arrival, change_at, change_in, line_places, new_places, times_out}
-use Rattle.pulsar_acts.specs.Rules.{caused, failed_by, failed_on, gets_from, served_on, stopped_with, waiters_of, woken, grants, number_said, stopped_one, says_to}
+use Rattle.pulsar_acts.specs.Rules.{batches_joined, caused, failed_by, failed_on, gets_from, served_on, stopped_with, waiters_of, woken, grants, number_said, stopped_one, says_to}
 use Rattle.pulsar_links.specs.LinkRules.{answered_by, answered_on, dropped, ended_by, ended_on, failed, failed_over, failed_so, fails_so, lost, lost_so, lost_with, moved_on, served_by, stopped_at}
-use Rattle.pulsar_producer_table.specs.Notices.{stopped_call}
-use Rattle.pulsar_acts.specs.View.{pause_for, pause_of}
-use Rattle.pulsar_calls.specs.Who.{in_turn}
-use Rattle.pulsar_producer_table.specs.Takers.{who_at}
-use Rattle.pulsar_laws.proofs.producers.Users.{passes_by_ticket}
+use Rattle.pulsar_producer_table.specs.Notices.{stopped_call, stopped_takers}
+use Rattle.pulsar_acts.specs.View.{around_multi, multi_asked_of, multi_at, pause_for, pause_of, ways_of}
+use Rattle.pulsar_calls.specs.Who.{key_of}
+use Rattle.pulsar_producer_table.specs.Takers.{taker_of, who_of}
+use Rattle.pulsar_outgoing.specs.declared.multi_topic.Handing.{Handing}
+use Rattle.pulsar_outgoing.specs.declared.multi_topic.Joining.{Joining as MultiJoining}
+use Rattle.pulsar_outgoing.specs.declared.multi_topic.Multi.{Multi}
+use Rattle.pulsar_outgoing.specs.declared.multi_topic.MultiAsk.{MultiAsk}
+use Rattle.pulsar_outgoing.specs.declared.multi_topic.MultiAsk.TheVariants.{Hand, Join, PassTurn as PassMultiTurn, Remove, TakeTurn as TakeMultiTurn}
+use Rattle.pulsar_outgoing.specs.declared.multi_topic.MultiSaid.{MultiSaid}
+use Rattle.pulsar_outgoing.specs.declared.multi_topic.MultiSaid.TheVariants.{Absent, Done, Handed, HasTurn, Removed}
 use Rattle.pulsar_outgoing.specs.declared.multi_topic.Taker.{Taker}
+use Rattle.pulsar_producer.specs.Dispatching.{dispatched}
+use Rattle.pulsar_producer.specs.MultiTopic as multi
+use Rattle.pulsar_producer.specs.MultiTopic.{advice_by, found, handed_to, is_free, order_for}
+use Rattle.pulsar_producer.specs.Producer as producer
+use Rattle.pulsar_producer_table.specs.MultiAsks as of_multi
+use Rattle.pulsar_producer_table.specs.MultiAsks.{joined_by, removed_by, says_it, taker_notice, turn_said as multi_turn_said}
+use Rattle.pulsar_producer_table.specs.Multis.{next_on, waiting as multis_waiting}
+use Rattle.pulsar_laws.proofs.calls.CausedWords as words
+use Rattle.pulsar_laws.proofs.plans.Left.{joined_each}
 use Rattle.pulsar_producer.specs.Topic as topic
 use Rattle.pulsar_producer_table.specs.declared.table.Topic.{Topic}
 use Rattle.pulsar_producer_table.specs.Producers.{drawn, is_settled_at, is_woken, link_at, next_batch_at, number_drawn, numbers_at, recalled, stored_at, stored_by, turn_passed, turn_taken, unsent, unsent_at, waiting, waiting_at}
@@ -101,6 +116,7 @@ stopped_by n known (Wake w) (inl e) = ap (λ m. m.outcome) e
 stopped_by n known (Wake w) (inr h) = absurd h
 stopped_by n known (Batch k) h = absurd h
 stopped_by n known (KeepAlive l) h = absurd h
+stopped_by n known (Redelivery m t) h = absurd h
 stopped_by n known CheckIdle h = absurd h
 
 -- WHAT THE LOSS OF A REQUEST TELLS
@@ -236,63 +252,48 @@ module _ (o : Options) (who : Who) (u : Outcome) (older : List Entry) where
   settled_caused w n true e h = done_caused w (OfTopic n Flush) e h
   settled_caused w n false e h = absurd h
 
-  -- WHAT ONE ASKS OF CONSUMERS
+  -- WHAT ONE ASKS OF A PRODUCER OF MANY TOPICS
 
-  word_said : (w : Who) (action : Action) (x : Word) → (who ≡ w → SaysSo who x action v) → In (Told it) (tells_word w x) →
-      Cause o who u (Then (Does w action)) older
-  word_said w action x so h =
-      let k = told_is w (outcome.Word x) h in named (Then (Does w action)) (outcome.Word x) k.1 (inl (action, did w action k.0, so k.0))
+  multi_said : (w : Who) (m : Multi) (ask : MultiAsk) (x : MultiSaid) → MultiSaysSo x (OfMulti m ask) v → In (Told it) (says_to w (says_it x)) →
+      Cause o who u (Then (Does w (OfMulti m ask))) older
+  multi_said w m ask x so h =
+      let k = told_is w (outcome.OfMulti x) h in
+      named (Then (Does w (OfMulti m ask))) (outcome.OfMulti x) k.1 (inl (OfMulti m ask, did w (OfMulti m ask) k.0, so))
 
-  numbering_caused : (w : Who) (wanted : Option ℕ) (x : Numbering) → consumer.numbering v.consumers wanted ≡ x → In (Told it) (tells w (numbering_said x)) →
-      Cause o who u (Then (Does w (TakeNumber wanted))) older
-  numbering_caused w wanted (Has n) e h = word_said w (TakeNumber wanted) (word.Numbered n) (λ is. e) h
-  numbering_caused w wanted InUse e h = word_said w (TakeNumber wanted) word.InUse (λ is. e) h
-  numbering_caused w wanted Spent e h =
-      let k = told_is w (outcome.Refused Exhausted) h in
-      named (Then (Does w (TakeNumber wanted))) (outcome.Refused Exhausted) k.1 (inr (TakeNumber wanted, did w (TakeNumber wanted) k.0, e))
+  hands_caused : (w : Who) (m : Multi) (h : Handing) (s : multi.Seen) → multi_at v m ≡ Some s → (row : Option producer.Seen) → found h.topic s.topics ≡ row →
+      In (Told it) (says_to w (says_it (handed_to row (advice_by row v.policies h.message) h s))) → Cause o who u (Then (Does w (OfMulti m (Hand h)))) older
+  hands_caused w m h s e None f i = multi_said w m (Hand h) (Absent (record { order = order_for h.topic s; message = h.message })) (s, e, (f, refl)) i
+  hands_caused w m h s e (Some p) f i =
+      multi_said w m (Hand h) (Handed (dispatched (advice_by (Some p) v.policies h.message) h.message p)) (s, e, (p, f, refl)) i
 
-  found_for : (b : Bool) (k : Option ℕ) (l : ℕ) → consumer.sought_for b k ≡ Found l → k ≡ Some l
-  found_for b (Some j) l e = cc
-  found_for true None l e = absurd cc
-  found_for false None l e = absurd cc
+  multi_turns : (w : Who) (m : Multi) (s : multi.Seen) → multi_at v m ≡ Some s → (t : Option Taker) → (b : Bool) → is_free s ≡ b →
+      In (Told it) (says_to w (multi_turn_said b t)) → Cause o who u (Then (Does w (OfMulti m TakeMultiTurn))) older
+  multi_turns w m s e None b f h = absurd h
+  multi_turns w m s e (Some t) true f h = multi_said w m TakeMultiTurn HasTurn (s, e, f) h
+  multi_turns w m s e (Some t) false f h = absurd h
 
-  found_link : (row : Option Member) (l : ℕ) → consumer.sought row ≡ Found l → consumer.link_at row ≡ Some l
-  found_link None l e = absurd cc
-  found_link (Some m) l e = found_for (reader.is_ended m.seen) (reader.link_of m.seen) l e
-
-  sought_caused : (w : Who) (t : ℕ) (x : LinkAnswer) → consumer.sought (v.consumers.rows t) ≡ x → In (Told it) (says_to w (sought_said x)) →
-      Cause o who u (Then (Does w (OfConsumer (FindConsumer t)))) older
-  sought_caused w t (Found l) e h =
-      let k = told_is w (outcome.GotLink l) h in
-      named (Then (Does w (OfConsumer (FindConsumer t)))) (outcome.GotLink l) k.1
-      (inr (inr (OfConsumer (FindConsumer t), did w (OfConsumer (FindConsumer t)) k.0, found_link (v.consumers.rows t) l e)))
-  sought_caused w t Gone e h = word_said w (OfConsumer (FindConsumer t)) word.Closed (λ is. e) h
-  sought_caused w t Later e h = absurd h
-
-  flow_caused : (w : Who) (x : Option (ℕ × ℕ)) → consumer.flow_at (v.consumers.rows (ticket_of w)) ≡ x → In (Told it) (tells_word w (flow_said x)) →
-      Cause o who u (Then (Does w (OfConsumer TakeFlow))) older
-  flow_caused w None e h =
-      word_said w (OfConsumer TakeFlow) word.NoFlow (λ is. subst (λ y. consumer.flow_at (v.consumers.rows (ticket_of y)) ≡ None) (sym is) e) h
-  flow_caused w (Some x) e h =
-      word_said w (OfConsumer TakeFlow) (word.Flow x.0 x.1)
-      (λ is. subst (λ y. consumer.flow_at (v.consumers.rows (ticket_of y)) ≡ Some (x.0, x.1)) (sym is) e) h
-
-  command_caused : (w : Who) (row : Option Member) → v.consumers.rows (ticket_of w) ≡ row → In (Told it) (tells w (recalled_said (consumer.recalled row))) →
-      Cause o who u (Then (Does w (OfConsumer RecallConsumer))) older
-  command_caused w None e h =
+  multi_caused : (w : Who) (m : Multi) (ask : MultiAsk) (row : Option multi.Seen) → multi_at v m ≡ row →
+      In (Told it) (says_to w (of_multi.given (around_multi v w) ask row).says) → Cause o who u (Then (Does w (OfMulti m ask))) older
+  multi_caused w m ask None e h =
       let k = told_is w outcome.Disconnected h in
-      named (Then (Does w (OfConsumer RecallConsumer))) outcome.Disconnected k.1
-      (inr (inr ((OfConsumer RecallConsumer), did w (OfConsumer RecallConsumer) k.0, subst (λ y. v.consumers.rows (ticket_of y) ≡ None) (sym k.0) e)))
-  command_caused w (Some m) e h =
-      word_said w (OfConsumer RecallConsumer) (word.Recalled (command_of m.seen))
-      (λ is. subst (λ y. consumer.recalled (v.consumers.rows (ticket_of y)) ≡ Some (command_of m.seen)) (sym is) (ap consumer.recalled e)) h
+      named (Then (Does w (OfMulti m ask))) outcome.Disconnected k.1 (inr (inr (OfMulti m ask, did w (OfMulti m ask) k.0, e)))
+  multi_caused w m TakeMultiTurn (Some s) e h = multi_turns w m s e (taker_of w) (is_free s) refl h
+  multi_caused w m PassMultiTurn (Some s) e h = multi_said w m PassMultiTurn Done (s, e, tt) h
+  multi_caused w m (Hand x) (Some s) e h = hands_caused w m x s e (found x.topic s.topics) refl h
+  multi_caused w m (Join j) (Some s) e h = multi_said w m (Join j) Done (s, e, tt) h
+  multi_caused w m (Remove topic) (Some s) e h = multi_said w m (Remove topic) (Removed (numbers_at (found topic s.topics))) (s, e, refl) h
 
-  revive_caused : (w : Who) (l : ℕ) (b : Bool) → consumer.is_ended_at (v.consumers.rows (ticket_of w)) ≡ b → In (Told it) (tells_word w (revived_said b)) →
-      Cause o who u (Then (Does w (OfConsumer (Revive l)))) older
-  revive_caused w l true e h =
-      word_said w (OfConsumer (Revive l)) word.Over (λ is. subst (λ y. consumer.is_ended_at (v.consumers.rows (ticket_of y)) ≡ true) (sym is) e) h
-  revive_caused w l false e h =
-      word_said w (OfConsumer (Revive l)) word.Lives (λ is. subst (λ y. consumer.is_ended_at (v.consumers.rows (ticket_of y)) ≡ false) (sym is) e) h
+  multi_once : (w : Who) (m : Multi) (ask : MultiAsk) → In (Told it) (at_once v (Does w (OfMulti m ask))) → Cause o who u (Then (Does w (OfMulti m ask))) older
+  multi_once w m ask h =
+      let j : Option MultiJoining = joined_by ask (multi_at v m) in
+      let says : List Act = says_to w (multi_asked_of v w m ask).says in
+      elim (in_append (Told it) (batches_joined (ways_of v.chosen) j) says h) [
+        | inl i ↦
+            absurd (in_each IsOther (Told it) (batches_joined (ways_of v.chosen) j) i (joined_each IsOther (ways_of v.chosen) j (λ ways e s x. absurd cc)) refl)
+        | inr i ↦ multi_caused w m ask (multi_at v m) refl i
+      ]
+
+  -- ALL THAT IS TOLD AT ONCE
 
   once_caused : (b : Act) → In (Told it) (at_once v b) → Cause o who u (Then b) older
   once_caused (Does w (Get p)) h = gets_caused w p (is_reachable p) refl h
@@ -310,12 +311,18 @@ module _ (o : Options) (who : Who) (u : Outcome) (older : List Entry) where
       let k = told_is w y h in
       named (Then (Does w (OfTopic n TakeBatch))) y k.1 (inl (OfTopic n TakeBatch, did w (OfTopic n TakeBatch) k.0, refl))
   once_caused (Does w (OfTopic n ask)) h = done_caused w (OfTopic n ask) tt h
-  once_caused (Does w (TakeNumber wanted)) h = numbering_caused w wanted (consumer.numbering v.consumers wanted) refl h
-  once_caused (Does w (OfConsumer (FindConsumer t))) h = sought_caused w t (consumer.sought (v.consumers.rows t)) refl h
-  once_caused (Does w (OfConsumer TakeFlow)) h = flow_caused w (consumer.flow_at (v.consumers.rows (ticket_of w))) refl h
-  once_caused (Does w (OfConsumer RecallConsumer)) h = command_caused w (v.consumers.rows (ticket_of w)) refl h
-  once_caused (Does w (OfConsumer (Revive l))) h = revive_caused w l (consumer.is_ended_at (v.consumers.rows (ticket_of w))) refl h
-  once_caused (Does w (OfConsumer (FailConsumer f))) h = word_said w (OfConsumer (FailConsumer f)) word.Over (λ is. tt) h
+  once_caused (Does w (OfMulti m ask)) h = multi_once w m ask h
+  once_caused (Does w (TakeNumber wanted)) h = words.numbering_caused o who u older w wanted (consumer.numbering v.consumers wanted) refl h
+  once_caused (Does w (OfConsumer (FindConsumer t))) h = words.sought_caused o who u older w t (consumer.sought (v.consumers.rows t)) refl h
+  once_caused (Does w (OfConsumer TakeFlow)) h = words.flow_caused o who u older w (consumer.flow_at (v.consumers.rows (ticket_of w))) refl h
+  once_caused (Does w (OfConsumer RecallConsumer)) h = words.command_caused o who u older w (v.consumers.rows (ticket_of w)) refl h
+  once_caused (Does w (OfConsumer (Revive l))) h =
+      words.revive_caused o who u older w l (consumer.is_ended_at (v.consumers.rows (ticket_of w))) refl h
+  once_caused (Does w (OfConsumer (FailConsumer f))) h = words.failed_caused o who u older w f h
+  once_caused (Does w (OfConsumer TakeCopy)) h = words.letter_caused o who u older w (consumer.letter_at (v.consumers.rows (ticket_of w))) refl h
+  once_caused (Does w (OfConsumer CopySent)) h =
+      words.ack_caused o who u older w (consumer.ack_for (key_of w) (v.consumers.rows (ticket_of w))) refl h
+  once_caused (Does w (OfConsumer CopyFailed)) h = words.no_ack_caused o who u older w h
   once_caused (Does w (Wait delay)) h = absurd h
   once_caused (Does w Rest) h = absurd h
   once_caused (Does w action) h = done_caused w action tt h
@@ -323,16 +330,21 @@ module _ (o : Options) (who : Who) (u : Outcome) (older : List Entry) where
 
   -- ONE JOINS
 
-  passed_caused : (w : Who) (n : ℕ) (row : Option (Taker × Option (List ℕ))) → IsRun o older → turn_passed (v.producers.topics n) ≡ row →
+  passed_caused : (w : Who) (n : ℕ) (row : Option (Taker × Option (List ℕ))) → turn_passed (v.producers.topics n) ≡ row →
       In it (option_to_list (option_map (turn_notice n) row)) → Cause o who u (Then (Does w (OfTopic n PassTurn))) older
-  passed_caused w n None run e h = absurd h
-  passed_caused w n (Some next) run e (inr h) = absurd h
-  passed_caused w n (Some next) run e (inl is) =
-      let k = passes_by_ticket o n next.0 next.1 older run e in
-      let a : who ≡ in_turn n k.0 = ap (λ m. m.who) is ∙ ap (who_at n) k.1 in
-      let b : u ≡ outcome.Granted (news.HasTurn next.1) = ap (λ m. m.outcome) is in
-      named (Then (Does w (OfTopic n PassTurn))) (outcome.Granted (news.HasTurn next.1)) b
-      (inr (inl (w, n, k.0, next.1, refl, a, refl, e ∙ ap (λ t. Some (t, next.1)) k.1)))
+  passed_caused w n None e h = absurd h
+  passed_caused w n (Some next) e (inr h) = absurd h
+  passed_caused w n (Some next) e (inl is) =
+      named (Then (Does w (OfTopic n PassTurn))) (outcome.Granted (news.HasTurn next.1)) (ap (λ m. m.outcome) is)
+      (inr (inl (w, n, next.0, next.1, refl, ap (λ m. m.who) is, refl, e)))
+
+  multi_passed : (w : Who) (m : Multi) (row : Option Taker) → next_on (multi_at v m) ≡ row → In it (option_to_list (option_map taker_notice row)) →
+      Cause o who u (Then (Does w (OfMulti m PassMultiTurn))) older
+  multi_passed w m None e h = absurd h
+  multi_passed w m (Some next) e (inr h) = absurd h
+  multi_passed w m (Some next) e (inl is) =
+      named (Then (Does w (OfMulti m PassMultiTurn))) (outcome.OfMulti HasTurn) (ap (λ n. n.outcome) is)
+      (inr (w, m, next, refl, ap (λ n. n.who) is, refl, e))
 
   tells_caused : (w : Who) (n : Notice) → is_said n.outcome ≡ true → In it (n ∷ []) → Cause o who u (Then (Does w (Tell n))) older
   tells_caused w n said (inr h) = absurd h
@@ -355,150 +367,61 @@ module _ (o : Options) (who : Who) (u : Outcome) (older : List Entry) where
   readied_caused n act e cuts h = readied_so n act e cuts (is_woken act (v.producers.topics n)) refl h
 
   -- a producer is closed, with what it stores
-  shut_caused : (w : Who) (t : ℕ) → In it (map closed_notice (stored_by v.producers (numbers_at (v.producers.built t)))) →
-      Cause o who u (Then (Does w (Shut t))) older
-  shut_caused w t h =
-      let ns : List ℕ = numbers_at (v.producers.built t) in
+  shut_caused : (w : Who) (closes : Action) (ns : List ℕ) → ((n : ℕ) → In n ns → Shuts v n closes) → In it (map closed_notice (stored_by v.producers ns)) →
+      Cause o who u (Then (Does w closes)) older
+  shut_caused w closes ns shuts h =
       let k = in_map closed_notice it (stored_by v.producers ns) h in
       let at = in_flat (λ n. stored_at (v.producers.topics n)) k.0 ns k.1 in
       let so : Outcome = outcome.Settled (Err (OfProducer ProducerClosed)) in
-      named (Then (Does w (Shut t))) so (ap (λ m. m.outcome) k.2)
-      (inr (w, t, at.0, k.0, refl, ap (λ m. m.who) k.2, at.1, at.2, refl))
+      named (Then (Does w closes)) so (ap (λ m. m.outcome) k.2)
+      (inr (w, closes, at.0, k.0, refl, ap (λ m. m.who) k.2, shuts at.0 at.1, at.2, refl))
 
-  -- OF ONE'S OWN CONSUMER
+  removes_it : (m : Multi) (ask : MultiAsk) (n : ℕ) → In n (removed_by ask (multi_at v m)) → Shuts v n (OfMulti m ask)
+  removes_it m (Remove topic) n i = i
+  removes_it m TakeMultiTurn n i = absurd i
+  removes_it m PassMultiTurn n i = absurd i
+  removes_it m (Hand h) n i = absurd i
+  removes_it m (Join j) n i = absurd i
 
-  -- it is told this word
-  record IsWorded (t : ℕ) (m : Member) (w : Option Word) : Type 0 where
-    word : Word
-    is_some : w ≡ Some word
-    who_is : who ≡ consumer.who_of t m
-    told : u ≡ outcome.Word word
+  multi_served : (w : Who) (m : Multi) (ask : MultiAsk) (row : Option multi.Seen) → multi_at v m ≡ row →
+      In it (of_multi.given (around_multi v w) ask row).serves → Cause o who u (Then (Does w (OfMulti m ask))) older
+  multi_served w m ask None e h = absurd h
+  multi_served w m PassMultiTurn (Some s) e h = multi_passed w m (next_on (Some s)) (ap next_on e) h
+  multi_served w m TakeMultiTurn (Some s) e h = absurd h
+  multi_served w m (Hand x) (Some s) e h = absurd h
+  multi_served w m (Join j) (Some s) e h = absurd h
+  multi_served w m (Remove topic) (Some s) e h = absurd h
 
-  worded_in : (t : ℕ) (m : Member) (w : Option Word) → In it (word_to t m w) → IsWorded t m w
-  worded_in t m None h = absurd h
-  worded_in t m (Some x) (inl e) = record { word = x; is_some = refl; who_is = ap (λ n. n.who) e; told = ap (λ n. n.outcome) e }
-  worded_in t m (Some x) (inr h) = absurd h
-
-  due_if : (b : Bool) (x : Word) → consumer.word_if b word.Due ≡ Some x → (b ≡ true) × (x ≡ word.Due)
-  due_if true x e = (refl, cc)
-  due_if false x e = absurd cc
-
-  record IsDueSo (t : ℕ) (m : Member) : Type 0 where
-    due : reader.is_due m.seen ≡ true
-    who_is : who ≡ consumer.who_of t m
-    told : u ≡ outcome.Word word.Due
-
-  due_in : (t : ℕ) (m : Member) → In it (due_to t m) → IsDueSo t m
-  due_in t m h =
-      let k = worded_in t m (consumer.word_if (reader.is_due m.seen) word.Due) h in
-      let d = due_if (reader.is_due m.seen) k.word k.is_some in
-      record { due = d.0; who_is = k.who_is; told = k.told ∙ ap outcome.Word d.1 }
-
-  due_there : (t : ℕ) (m : Member) → In it (due_at t (Some m)) → IsDueSo t m
-  due_there t m h = elim (in_append it (due_to t m) [] h) [ inl i ↦ due_in t m i | inr i ↦ absurd i ]
-
-  abbrev Why : Entry → Type 0
-  Why e = PolledDue o who e older ⊎ (RevivedDue o who e older ⊎ BuiltDue o who e older)
-
-  is_due_caused : (e : Entry) → u ≡ outcome.Word word.Due → Why e → Cause o who u e older
-  is_due_caused e d k = named e (outcome.Word word.Due) d (inr (inr (inr (inr (inl (refl, k))))))
-
-  polled_caused : (t : ℕ) (row : Option Member) → v.consumers.rows t ≡ row →
-      In it (due_at t (option_map (consumer.member_after (reader.Polls v.now)) row)) → Cause o who u (Then (Comes (Polls t))) older
-  polled_caused t None e h = absurd h
-  polled_caused t (Some m) e h =
-      let k = due_there t (consumer.member_after (reader.Polls v.now) m) h in
-      is_due_caused (Then (Comes (Polls t))) k.told
-      (inl (t, m, refl, (e, k.who_is ∙ ap (λ n. Consumer n t 0) (after_number (reader.Polls v.now) m.seen)), k.due))
-
-  closed_caused : (w : Who) (l : ℕ) (request : Words) → In it (over_rows (closed_at v l request) v.consumers) →
-      Cause o who u (Then (Does w (Ask l request))) older
-  closed_caused w l request h =
-      let r = in_rows (closed_at v l request) it v.consumers h in
-      let k = worded_in r.0 r.1
-      (consumer.word_of_close (closed_consumer request) l (is_asked (answer_at v.now request (v.links.live l))) r.1) r.3 in
-      named (Then (Does w (Ask l request))) (outcome.Word k.word) k.told
-      (inr (inr (inr (inl (l, r.0, w, request, r.1, refl, (r.2, k.who_is), k.is_some)))))
-
-  again_caused : (w : Who) (e : Entry) → ((l : ℕ) × (e ≡ Then (Does w (OfConsumer (Revive l))))) ⊎ ((f : Failure) × (e ≡ Then (Does w (OfConsumer (FailConsumer f))))) →
-      In it (again_at (v.consumers.rows (ticket_of w))) → Cause o who u e older
-  again_caused w e is h =
-      let ws : List Who = consumer.seekers_at (v.consumers.rows (ticket_of w)) in
-      let k = in_map again it ws h in
-      let listed : In who ws = subst (λ x. In x ws) (sym (ap (λ n. n.who) k.2)) k.1 in
-      named e (outcome.Word word.Again) (ap (λ n. n.outcome) k.2) (inr (inr (inr (inr (inr (refl, (w, listed, is)))))))
-
-  revived_caused : (w : Who) (l : ℕ) (row : Option Member) → v.consumers.rows (ticket_of w) ≡ row →
-      In it (due_at (ticket_of w) (option_map (consumer.revived l (url_at (v.links.live l))) row)) → Cause o who u (Then (Does w (OfConsumer (Revive l)))) older
-  revived_caused w l None e h = absurd h
-  revived_caused w l (Some m) e h =
-      let k = due_there (ticket_of w) (consumer.revived l (url_at (v.links.live l)) m) h in
-      is_due_caused (Then (Does w (OfConsumer (Revive l)))) k.told
-      (inr (inl (l, w, m, refl, (e, k.who_is ∙ ap (λ n. Consumer n (ticket_of w) 0) (revived_number l (url_at (v.links.live l)) m)), k.due)))
-
-  built_caused : (w : Who) (verdict : Verdict) (m : Makes) → verdict.makes ≡ m → In it (made_due v.links.live v.consumers.next_key w m) →
-      Cause o who u (Then (Answers w verdict)) older
-  built_caused w verdict (makes.Consumer j) e h =
-      let k = due_in (ticket_of w) (member_on v.links.live j.link (setup_of v.consumers.next_key j)) h in
-      let url : Option Parts = url_at (v.links.live j.link) in
-      is_due_caused (Then (Answers w verdict)) k.told
-      (inr (inr (
-        w,
-        j,
-        verdict.said,
-        ap (λ x. Then (Answers w (record { makes = x; said = verdict.said }))) e,
-        k.who_is
-            ∙ ap (λ n. Consumer n (ticket_of w) 0)
-            (subscribed_number j.link url (record { seen = reader.fresh (setup_of v.consumers.next_key j); seekers = [] })),
-        k.due,
-      )))
-  built_caused w verdict makes.Nothing e h = absurd h
-  built_caused w verdict makes.Client e h = absurd h
-  built_caused w verdict (makes.RawConsumer l made) e h = absurd h
-  built_caused w verdict (makes.Producer b) e h = absurd h
-  built_caused w verdict (makes.MultiProducer name settings) e h = absurd h
-
-  heard_caused : (l : ℕ) → In it (heard_on v l) → Cause o who u (Then (Comes (ToLink l Reads))) older
-  heard_caused l h =
-      let a : Arrival = arrival_at (v.links.live l) in
-      let r = in_rows (heard_at l a) it v.consumers h in
-      let k = worded_in r.0 r.1 (consumer.word_of l a r.1) r.3 in
-      named (Then (Comes (ToLink l Reads))) (outcome.Word k.word) k.told (inr (inl (l, r.0, r.1, refl, (r.2, k.who_is), k.is_some)))
-
-  lost_caused : (l : ℕ) (end : End) → In it (lost_on v l end) → Cause o who u (Then (Comes (ToLink l (Ends end)))) older
-  lost_caused l end h =
-      let c : Option Fault = closing end v.now (v.links.live l) in
-      let r = in_rows (lost_at l c) it v.consumers h in
-      let k = worded_in r.0 r.1 (consumer.word_of_loss l c r.1) r.3 in
-      named (Then (Comes (ToLink l (Ends end)))) (outcome.Word k.word) k.told
-      (inr (inr (inl (l, r.0, end, r.1, refl, (r.2, k.who_is), k.is_some))))
-
-  seekers_stopped : (w : Who) → In it (stopped_on v) → Cause o who u (Then (Does w StopAll)) older
-  seekers_stopped w h =
-      let r = in_rows stopped_seekers it v.consumers h in
-      let k = in_map stopped_one it r.1.seekers r.3 in
-      let listed : In who (consumer.seekers_at (v.consumers.rows r.0)) =
-      subst (λ x. In who (consumer.seekers_at x)) (sym r.2) (subst (λ x. In x r.1.seekers) (sym (ap (λ n. n.who) k.2)) k.1) in
-      named (Then (Does w StopAll)) outcome.Stopped (ap (λ n. n.outcome) k.2) (inl (w, refl, inr (inr (inr (inr (r.0, listed))))))
+  multi_joins : (w : Who) (m : Multi) (ask : MultiAsk) → In it (joins v (Does w (OfMulti m ask))) → Cause o who u (Then (Does w (OfMulti m ask))) older
+  multi_joins w m ask h =
+      let ns : List ℕ = removed_by ask (multi_at v m) in
+      elim (in_append it (multi_asked_of v w m ask).serves (map closed_notice (stored_by v.producers ns)) h) [
+        | inl i ↦ multi_served w m ask (multi_at v m) refl i
+        | inr i ↦ shut_caused w (OfMulti m ask) ns (removes_it m ask) i
+      ]
 
   joins_caused : (b : Act) → IsRun o (Then b ∷ older) → In it (joins v b) → Cause o who u (Then b) older
-  joins_caused (Does w (OfTopic n PassTurn)) run h = passed_caused w n (turn_passed (v.producers.topics n)) run.0 refl h
+  joins_caused (Does w (OfTopic n PassTurn)) run h = passed_caused w n (turn_passed (v.producers.topics n)) refl h
+  joins_caused (Does w (OfMulti m ask)) run h = multi_joins w m ask h
   joins_caused (Does w (OfTopic n (Store entry))) run h =
       readied_caused n (topic.Stores (turn_of w) entry) (Then (Does w (OfTopic n (Store entry)))) (w, refl, refl) h
   joins_caused (Does w (OfTopic n Flush)) run h = readied_caused n (topic.Flushes (turn_of w)) (Then (Does w (OfTopic n Flush))) (w, refl, refl) h
-  joins_caused (Does w (Shut t)) run h = shut_caused w t h
+  joins_caused (Does w (Shut t)) run h = shut_caused w (Shut t) (numbers_at (v.producers.built t)) (λ n i. i) h
   joins_caused (Does w (Tell n)) run h = tells_caused w n (tell_said o older w n run) h
   joins_caused (Does w (TellAll ns)) run h = all_caused w ns (tell_settling o older w ns run) h
-  joins_caused (Comes (Polls t)) run h = polled_caused t (v.consumers.rows t) refl h
-  joins_caused (Does w (Ask l request)) run h = closed_caused w l request h
+  joins_caused (Comes (Polls t)) run h = words.polled_caused o who u older t (v.consumers.rows t) refl h
+  joins_caused (Does w (Ask l request)) run h = words.closed_caused o who u older w l request h
   joins_caused (Does w (OfConsumer (Revive l))) run h =
       let row : Option Member = v.consumers.rows (ticket_of w) in
-      elim (in_append it (again_at row) (due_at (ticket_of w) (option_map (consumer.revived l (url_at (v.links.live l))) row)) h) [
-        | inl i ↦ again_caused w (Then (Does w (OfConsumer (Revive l)))) (inl (l, refl)) i
-        | inr i ↦ revived_caused w l row refl i
+      elim (in_append it (again_at row) (due_at (ticket_of w) (option_map (consumer.revived v.now l (url_at (v.links.live l))) row)) h) [
+        | inl i ↦ words.again_caused o who u older w (Then (Does w (OfConsumer (Revive l)))) (inl (l, refl)) i
+        | inr i ↦ words.revived_caused o who u older w l row refl i
       ]
-  joins_caused (Does w (OfConsumer (FailConsumer f))) run h = again_caused w (Then (Does w (OfConsumer (FailConsumer f)))) (inr (f, refl)) h
-  joins_caused (Answers w verdict) run h = built_caused w verdict verdict.makes refl h
+  joins_caused (Does w (OfConsumer (FailConsumer f))) run h =
+      words.again_caused o who u older w (Then (Does w (OfConsumer (FailConsumer f)))) (inr (f, refl)) h
+  joins_caused (Does w (OfConsumer CopySent)) run h = words.sent_caused o who u older w h
+  joins_caused (Does w (OfConsumer CopyFailed)) run h = words.lost_copy_caused o who u older w h
+  joins_caused (Answers w verdict) run h = words.built_caused o who u older w verdict verdict.makes refl h
   joins_caused b run h = absurd h
 
   -- A MOMENT COMES, AND THE CLIENT IS STOPPED
@@ -512,6 +435,7 @@ module _ (o : Options) (who : Who) (u : Outcome) (older : List Entry) where
   woken_caused (Batch n) r h = readied_caused n topic.Cuts (Then (Comes (Rings (Batch n)))) (refl, r) h
   woken_caused (Retry l) r h = absurd h
   woken_caused (KeepAlive l) r h = absurd h
+  woken_caused (Redelivery n t) r h = words.redelivered_caused o who u older n t (v.consumers.rows t) refl r h
   woken_caused CheckIdle r h = absurd h
 
   rings_caused : (a : Alarm) (b : Bool) → rings v.now a v.alarms ≡ b → InOne (Told it) (map (map Told) (cond b (opens (woken v a)) [])) →
@@ -528,8 +452,11 @@ module _ (o : Options) (who : Who) (u : Outcome) (older : List Entry) where
   abbrev unsent_all : List Notice
   unsent_all = map stopped_call (unsent v.producers)
 
+  abbrev takers_all : List Notice
+  takers_all = stopped_takers v.producers.multis
+
   abbrev all_waits : List Notice
-  all_waits = waiting_all ++ unsent_all
+  all_waits = (waiting_all ++ unsent_all) ++ takers_all
 
   waits_stopped : (w : Who) → In it waiting_all → Cause o who u (Then (Does w StopAll)) older
   waits_stopped w i =
@@ -545,13 +472,23 @@ module _ (o : Options) (who : Who) (u : Outcome) (older : List Entry) where
       let at = in_flat (λ n. unsent_at (v.producers.topics n)) k.0 v.producers.numbers k.1 in
       named (Then (Does w StopAll)) outcome.Stopped (ap (λ m. m.outcome) k.2) (inl (w, refl, inr (inr (inr (inl (at.0, k.0, ap (λ m. m.who) k.2, at.2))))))
 
+  takers_stopped : (w : Who) → In it takers_all → Cause o who u (Then (Does w StopAll)) older
+  takers_stopped w i =
+      let ws : List Who = map who_of (multis_waiting v.producers.multis) in
+      let k = in_map stopped_one it ws i in
+      let listed : In who ws = subst (λ x. In x ws) (sym (ap (λ m. m.who) k.2)) k.1 in
+      named (Then (Does w StopAll)) outcome.Stopped (ap (λ m. m.outcome) k.2) (inl (w, refl, inr (inr (inr (inr (inr listed))))))
+
   all_stopped : (w : Who) → In it (stopped_all ++ all_waits) → Cause o who u (Then (Does w StopAll)) older
   all_stopped w h = elim (in_append it stopped_all all_waits h) [
     | inl i ↦
         (let a = in_flat (λ e. stopped_with v.addresses e.0) it v.alarms i in
         let is : u ≡ outcome.Stopped = stopped_by it v.addresses a.0.0 a.2 in
         named (Then (Does w StopAll)) outcome.Stopped is (inl (w, refl, inr (inl (subst (λ y. In (notice who y) stopped_all) is i)))))
-    | inr i ↦ elim (in_append it waiting_all unsent_all i) [ inl j ↦ waits_stopped w j | inr j ↦ unsent_stopped w j ]
+    | inr i ↦ elim (in_append it (waiting_all ++ unsent_all) takers_all i) [
+      | inl j ↦ elim (in_append it waiting_all unsent_all j) [ inl x ↦ waits_stopped w x | inr x ↦ unsent_stopped w x ]
+      | inr j ↦ takers_stopped w j
+    ]
   ]
 
   module _ (l : ℕ) where
@@ -595,7 +532,7 @@ module _ (o : Options) (who : Who) (u : Outcome) (older : List Entry) where
             | inl i ↦ answered_caused row refl i
             | inr i ↦ waited_caused row refl i
           ]
-          | inr i ↦ heard_caused l i
+          | inr i ↦ words.heard_caused o who u older l i
         ]
 
     -- FRAMES MOVE UP
@@ -713,13 +650,13 @@ module _ (o : Options) (who : Who) (u : Outcome) (older : List Entry) where
       let asked : List Notice = ended_on end v.now (v.links.live l) ++ waiters in
       elim (in_append it asked (lost_on v l end) (in_opened it (asked ++ lost_on v l end) h)) [
         | inl i ↦ ends_caused l end (v.links.live l) refl i
-        | inr i ↦ lost_caused l end i
+        | inr i ↦ words.lost_caused o who u older l end i
       ]
   cause_caused (Comes (Rings a)) h = rings_caused a (rings v.now a v.alarms) refl h
   cause_caused (Does w StopAll) h =
       elim (in_append it (stopped_all ++ all_waits) (stopped_on v) (in_opened it ((stopped_all ++ all_waits) ++ stopped_on v) h)) [
         | inl i ↦ all_stopped w i
-        | inr i ↦ seekers_stopped w i
+        | inr i ↦ words.seekers_stopped o who u older w i
       ]
   cause_caused _ h = absurd h
 

@@ -23,7 +23,7 @@ use Rattle.pulsar_laws.proofs.links.Receipts.{run_behind}
 use Rattle.pulsar_laws.proofs.calls.Telling.{no_tell, part_of, tells_own, told_of, told_once}
 use Rattle.pulsar_laws.proofs.producers.Turns.{sum, sum_append}
 use Rattle.pulsar_laws.proofs.plans.Servers.{server_does}
-use Rattle.pulsar_laws.proofs.plans.Consuming.{is_modest}
+use Rattle.pulsar_laws.proofs.plans.Consuming.{is_discreet}
 
 abbrev IsPartOrStop : Outcome → Type 0
 IsPartOrStop u = (u ≡ outcome.Stopped) ⊎ ((ticket : ℕ) × (f : Option Failure) × (u ≡ outcome.Parted ticket f))
@@ -72,7 +72,8 @@ part_from o log t k f run =
         let hi : w < x.share.of + 1 + x.own.1 = x.own.4 in
         (x.own.1, now, omega (arith, of, it, lo), omega (arith, of, it, hi))
     by newer older (Consumer n u key) there r =
-        let d : is_modest (Tell (notice (Call t) (outcome.Parted k f))) ≡ true = server_does o older n u (Tell (notice (Call t) (outcome.Parted k f))) r in
+        let d : is_discreet (Tell (notice (Call t) (outcome.Parted k f))) ≡ true =
+        server_does o older n u key (Tell (notice (Call t) (outcome.Parted k f))) r in
         absurd cc
     by newer older (Producer m) there r =
         let d = batcher_does o older m (Tell (notice (Call t) (outcome.Parted k f))) r in absurd (no_tell d.0 (notice (Call t) (outcome.Parted k f)) d.1)

@@ -1,8 +1,8 @@
 -- One that does nothing but to store and to tell waits for no link, request or moment. One that does nothing at all is told only what parts of
 -- calls say.
-use Rattle.std.proofs.Common.{◌≡◌, ◌⊎◌, inl, inr, ◌∙◌, sym, ap, subst, ℕ, ◌≤◌, ◌==◌, arith, List, [], ◌∷◌, refl, Bool, true, false, not, Option, Some, None}
+use Rattle.std.proofs.Common.{◌≡◌, ◌⊎◌, inl, inr, ◌∙◌, sym, ap, subst, ℕ, ◌≤◌, ◌==◌, arith, List, [], ◌∷◌, refl, Bool, true, false, cond, not, Option, Some, None}
 use Rattle.std.proofs.lemmas.Bool.{cases_Bool}
-use Rattle.pulsar_laws.proofs.ActWords.{Act, Action, Ask, Call, Consumer, Does, Draw, Find, FindConsumer, Flush, Get, Number, OfTopic, Outcome, Producer, Recall, RecallConsumer, Rest, Store, TakeNumber, TakeTurn, Tell, TellAll, Told, Wait, Who, Word, is_same, ticket_of, turn_of, OfConsumer}
+use Rattle.pulsar_laws.proofs.ActWords.{Act, Action, Ask, Call, Consumer, Does, Draw, Find, FindConsumer, Flush, Get, Number, OfMulti, OfTopic, Outcome, Producer, Recall, RecallConsumer, Rest, Store, TakeNumber, TakeTurn, Tell, TellAll, Told, Wait, Who, Word, is_same, ticket_of, turn_of, OfConsumer}
 use Rattle.pulsar_laws.proofs.PlanWords.{News}
 use Rattle.pulsar_laws.proofs.RunWords.{Begins, begun_same, Cause, counted, Entry, In, InThisStep, IsRun, notice, Options, start_of, Then, view, View}
 use Rattle.pulsar_laws.proofs.LinkWords.{Exhausted, Failure, Fault, Place, Seat, Words}
@@ -16,7 +16,15 @@ use Rattle.pulsar_calls.specs.declared.act.Procedure.TheVariants as procedure
 use Rattle.pulsar_producer_table.specs.declared.table.Topic.{Topic}
 use Rattle.pulsar_laws.proofs.Lists.{in_each}
 use Rattle.pulsar_laws.proofs.calls.Causes.{IsToldBy}
-use Rattle.pulsar_laws.specs.Laws.{Acts, AttemptEnds, BecomesReady, DrawsNone, Finds, GetsTurn, GrantsSo, IsDropped, IsReady, IsReplied, IsUnknown, IsWoken, LineEnds, MovesUp, RequestEnds, IsServedAs, SaysSo, WordComes}
+use Rattle.pulsar_laws.specs.Laws.{Acts, AttemptEnds, BecomesReady, DrawsNone, Finds, GetsMultiTurn, GetsTurn, GrantsSo, IsDropped, IsReady, IsReplied, IsUnknown, IsWoken, LineEnds, MovesUp, MultiSaysSo, RequestEnds, SaysSo, WordComes}
+use Rattle.pulsar_laws.specs.LetterCauses.{IsCopiedBy, IsServedAs, LetterComes}
+use Rattle.pulsar_laws.proofs.multis.Wanting.{NeverAsks, never_next}
+use Rattle.pulsar_laws.proofs.Cases.{none_some}
+use Rattle.pulsar_outgoing.specs.declared.multi_topic.MultiAsk.TheVariants.{TakeTurn as TakeMultiTurn}
+use Rattle.pulsar_outgoing.specs.declared.multi_topic.MultiSaid.{MultiSaid}
+use Rattle.pulsar_outgoing.specs.declared.multi_topic.MultiSaid.TheVariants.{Absent, Done, Handed, HasTurn, Removed}
+use Rattle.pulsar_outgoing.specs.declared.multi_topic.Taker.{Taker}
+use Rattle.pulsar_producer_table.specs.Takers.{who_at, who_of}
 use Rattle.pulsar_producer_table.specs.Producers.{stored_at}
 use Rattle.pulsar_calls.specs.Who.{behind_all, in_turn}
 use Rattle.pulsar_laws.proofs.calls.Caused.{outcomes_are_caused_lem}
@@ -28,7 +36,7 @@ use Rattle.pulsar_laws.proofs.calls.Sources.{step_some}
 use Rattle.pulsar_laws.proofs.calls.Whereabouts.{ApartBy, Asker, Away, NoFind, Somewhere, begun_there, goes_nowhere, moment_none, not_among, seekers_absent, then_there}
 use Rattle.pulsar_laws.proofs.plans.Spots.{same_self}
 use Rattle.pulsar_laws.proofs.calls.Begun.{has_begun}
-use Rattle.pulsar_laws.proofs.producers.Users.{DoesSo, LogSo, NoticeSo, passed_waits, stored_so, tells_so, waits_so}
+use Rattle.pulsar_laws.proofs.producers.Users.{DoesSo, LogSo, NoticeSo, TakerSo, passed_waits, stored_so, tells_so, waits_so}
 use Rattle.pulsar_calls.specs.declared.act.Word.TheVariants as word
 use Rattle.pulsar_consumer_table.specs.Consumers as consumer
 use Rattle.pulsar_consumer_table.specs.Consumers.{Member}
@@ -157,6 +165,29 @@ is_turn t number turn h = elim (cases_Bool (turn == behind_all)) [
   | inr e ↦ (let f : Call t ≡ Call turn = rw e at h in cc)
 ]
 
+no_turn : (t number : ℕ) (k : Taker) → TakerSo (Other t) k → Call t ≡ who_at number k → ⊥
+no_turn t number (taker.Call turn) so h = so (is_turn t number turn h)
+no_turn t number (taker.Copy consumer ticket key) so h = absurd cc
+
+-- none takes its turn at a producer of many topics
+idle_asks : (t : ℕ) (log : List Entry) → Idle t log → NeverAsks (taker.Call t) log
+idle_asks t [] idle = tt
+idle_asks t (Begins e ∷ log) idle = idle_asks t log idle
+idle_asks t (Then (Does (Call u) (OfMulti m TakeMultiTurn)) ∷ log) idle =
+    (λ e. other_idle t (Call u) (OfMulti m TakeMultiTurn) idle.0 refl (let f : u ≡ t = cc in ap Call (sym f)), idle_asks t log idle.1)
+idle_asks t (Then (Does (Consumer n u key) (OfMulti m TakeMultiTurn)) ∷ log) idle = (no_copy n u key (key == 0), idle_asks t log idle.1)
+  where
+    no_copy : (n u key : ℕ) (b : Bool) → cond b None (Some (taker.Copy n u key)) ≡ Some (taker.Call t) → ⊥
+    no_copy n u key true e = none_some e
+    no_copy n u key false e = absurd cc
+idle_asks t (Then (Does (Producer n) (OfMulti m TakeMultiTurn)) ∷ log) idle = (λ e. none_some e, idle_asks t log idle.1)
+idle_asks t (Then (Does who (OfMulti m ask)) ∷ log) idle = (tt, idle_asks t log idle.1)
+idle_asks t (Then a ∷ log) idle = (tt, idle_asks t log idle.1)
+
+no_multi_turn : (t : ℕ) (k : Taker) → Call t ≡ who_of k → k ≡ taker.Call t
+no_multi_turn t (taker.Call u) h = ap taker.Call (let f : t ≡ u = cc in sym f)
+no_multi_turn t (taker.Copy consumer ticket key) h = absurd cc
+
 -- WHAT IT IS TOLD
 
 no_grant : (n : News) (v : View) → GrantsSo n Rest v → ⊥
@@ -171,8 +202,8 @@ no_grant _ v h = h
 pub no_turn_given : (P : ℕ → Type 0) (o : Options) (t : ℕ) (e : Entry) (older : List Entry) → IsRun o older → LogSo (Other t) P older → (n : News) →
     GetsTurn o (Call t) n e older → ⊥
 no_turn_given P o t e older run others n (other, number, turn, version, is, same, d, next) =
-    let k = passed_waits (taker.Call turn) version ((view o older).producers.topics number) next in
-    waits_so (Other t) P o number (taker.Call turn) older k.0 run others k.1 k.2 (is_turn t number turn same)
+    let k = passed_waits turn version ((view o older).producers.topics number) next in
+    no_turn t number turn (waits_so (Other t) P o number turn older k.0 run others k.1 k.2) same
 
 no_find : (l : ℕ) (a : Action) (v : View) → is_idle a ≡ true → Finds l a v → ⊥
 no_find l (OfTopic n Find) v h k = absurd cc
@@ -191,6 +222,7 @@ all_known who (OfTopic n TakeTurn) v h k = absurd cc
 all_known who (OfTopic n Recall) v h k = absurd cc
 all_known who (OfTopic n Find) v h k = absurd cc
 all_known who (OfConsumer RecallConsumer) v h k = absurd cc
+all_known who (OfMulti m ask) v h k = absurd cc
 all_known who a v h k = k
 
 no_says : (who : Who) (w : Word) (a : Action) (v : View) → is_idle a ≡ true → SaysSo who w a v → ⊥
@@ -231,6 +263,33 @@ no_says who w (Tell m) v h k = no_tell who w v k
     no_tell who word.Over v k = k
     no_tell who _ v k = k
 no_says who w a v h k = absurd cc
+
+no_multi : (x : MultiSaid) (a : Action) (v : View) → is_idle a ≡ true → MultiSaysSo x a v → ⊥
+no_multi x Rest v h k = no_rest x k
+  where
+    no_rest : (x : MultiSaid) → MultiSaysSo x Rest v → ⊥
+    no_rest HasTurn k = k
+    no_rest (Handed given) k = k
+    no_rest (Absent missing) k = k
+    no_rest (Removed numbers) k = k
+    no_rest Done k = k
+no_multi x (OfTopic n (Store y)) v h k = no_store x k
+  where
+    no_store : (x : MultiSaid) → MultiSaysSo x (OfTopic n (Store y)) v → ⊥
+    no_store HasTurn k = k
+    no_store (Handed given) k = k
+    no_store (Absent missing) k = k
+    no_store (Removed numbers) k = k
+    no_store Done k = k
+no_multi x (Tell m) v h k = no_tell x k
+  where
+    no_tell : (x : MultiSaid) → MultiSaysSo x (Tell m) v → ⊥
+    no_tell HasTurn k = k
+    no_tell (Handed given) k = k
+    no_tell (Absent missing) k = k
+    no_tell (Removed numbers) k = k
+    no_tell Done k = k
+no_multi x a v h k = absurd cc
 
 -- what comes from elsewhere than a link, a request or a moment
 abbrev pub is_open : Outcome → Bool
@@ -288,7 +347,16 @@ module _ (o : Options) (t : ℕ) (e : Entry) (older : List Entry) (idle : Idle t
 
   -- it is no plan of a consumer
   no_server : (u : ℕ) (m : Member) → IsServedAs v (Call t) u m → ⊥
-  no_server u m (there, is) = let f : Call t ≡ Consumer m.seen.number u = is in cc
+  no_server u m (there, is) = let f : Call t ≡ Consumer m.seen.number u 0 = is in cc
+
+  no_copies : (u : ℕ) (m : Member) → IsCopiedBy v (Call t) u m → ⊥
+  no_copies u m (there, is) = let f : Call t ≡ Consumer m.seen.number u m.seen.key = is in cc
+
+  no_letter : (w : Word) → LetterComes o (Call t) w e older → ⊥
+  no_letter w (inl (q, inl (l, u, m, is, copies, due))) = no_copies u m copies
+  no_letter w (inl (q, inr (inl (u, m, is, copies, due)))) = no_copies u m copies
+  no_letter w (inl (q, inr (inr (u, d, m, is, copies, due)))) = no_copies u m copies
+  no_letter w (inr (l, request, q, (n, u, m, is, r, serves, due))) = no_server u m serves
 
   no_word : (w : Word) → WordComes o (Call t) w e older → ⊥
   no_word w (inl h) = no_act (SaysSo (Call t) w) (λ a k x. no_says (Call t) w a v k x) h
@@ -297,8 +365,15 @@ module _ (o : Options) (t : ℕ) (e : Entry) (older : List Entry) (idle : Idle t
   no_word w (inr (inr (inr (inl (l, u, other, request, m, is, serves, h))))) = no_server u m serves
   no_word w (inr (inr (inr (inr (inl (q, inl (u, m, is, serves, due))))))) = no_server u m serves
   no_word w (inr (inr (inr (inr (inl (q, inr (inl (l, other, m, is, serves, due)))))))) = no_server (ticket_of other) m serves
-  no_word w (inr (inr (inr (inr (inl (q, inr (inr (other, j, said, is, same, due)))))))) = let f : Call t ≡ Consumer j.number (ticket_of other) = same in cc
-  no_word w (inr (inr (inr (inr (inr (q, (other, i, h))))))) = absent.seeker (ticket_of other) i
+  no_word w (inr (inr (inr (inr (inl (q, inr (inr (inl (other, j, said, is, same, due))))))))) =
+      let f : Call t ≡ Consumer j.number (ticket_of other) 0 = same in cc
+  no_word w (inr (inr (inr (inr (inl (q, inr (inr (inr (u, d, m, is, serves, due))))))))) = no_server u m serves
+  no_word w (inr (inr (inr (inr (inr (inl (q, (other, i, h)))))))) = absent.seeker (ticket_of other) i
+  no_word w (inr (inr (inr (inr (inr (inr h)))))) = no_letter w h
+
+  no_multi_given : (x : MultiSaid) → GetsMultiTurn o (Call t) x e older → ⊥
+  no_multi_given x (other, m, next, is, same, q, passes) =
+      never_next m next o older (subst (λ k. NeverAsks k older) (sym (no_multi_turn t next same)) (idle_asks t older (idle_older t e older idle))) passes
 
   pub only_open : (u : Outcome) → Cause o (Call t) u e older → is_open u ≡ true
   only_open (outcome.GotLink l) (inl (p, is, h)) = absurd (no_get p is)
@@ -308,6 +383,8 @@ module _ (o : Options) (t : ℕ) (e : Entry) (older : List Entry) (idle : Idle t
   only_open (outcome.Settled f) h = refl
   only_open (outcome.Parted u f) h = refl
   only_open (outcome.Word w) h = absurd (no_word w h)
+  only_open (outcome.OfMulti x) (inl h) = absurd (no_act (MultiSaysSo x) (λ a k y. no_multi x a v k y) h)
+  only_open (outcome.OfMulti x) (inr h) = absurd (no_multi_given x h)
   only_open outcome.NotFound (p, is, h) = absurd (no_get p is)
   only_open (outcome.Failed kind) h = absurd (no_attempt (outcome.Failed kind) h)
   only_open outcome.Canceled h = absurd (no_attempt outcome.Canceled h)

@@ -222,7 +222,7 @@ module _ (o : Options) (u : ℕ) where
   none_given : (log : List Entry) (p : Procedure) → IsRun o (Then (Starts (Call u) p) ∷ log) → given_times o u log ≡ 0
   none_given log p run =
       let none : counted (start_of u) log ≡ 0 = none_yet (counted (start_of u) log) (not_begun o log u p run) in
-      let few = few_run o log u in
+      let few = few_run o log u run.0 in
       let k : counted (stores_by u) log ≡ 0 = stores_none log run.0 none in
       omega (arith, none, few, k)
     where

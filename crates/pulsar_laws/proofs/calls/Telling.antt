@@ -22,7 +22,7 @@ use Rattle.pulsar_client.proofs.Raising.{IsRaised, raises}
 use Rattle.pulsar_laws.proofs.plans.Sharing.{SharesSo, TicketSo, begins_shares, share_in, shares_of, told_shares}
 use Rattle.pulsar_laws.proofs.producers.Turns.{sum, sum_append, sum_none, sum_put_all}
 use Rattle.pulsar_laws.proofs.plans.Servers.{server_does}
-use Rattle.pulsar_laws.proofs.plans.Consuming.{is_modest}
+use Rattle.pulsar_laws.proofs.plans.Consuming.{is_discreet}
 
 -- WHAT PARTS TELL
 
@@ -238,7 +238,8 @@ no_by _ h = tt
 
 once_no : (v : View) (t u : ℕ) (a : Act) → sum (told_of t u) (at_once v a) ≡ 0
 once_no v t u (Does who action) =
-    sum_none NoPart (told_of t u) (performs v who action) (act_none t u) (once_each NoPart (λ u k b. b) (λ p. tt) (λ l. tt) (performs_once v who action))
+    sum_none NoPart (told_of t u) (performs v who action) (act_none t u)
+    (once_each NoPart (λ u k b. b) (λ p. tt) (λ l. tt) (λ w e s. tt) (performs_once v who action))
 once_no v t u a = sum_none (IsRaised a) (told_of t u) (at_once v a) (λ b r. act_none t u b (no_by b (raised_told a b refl r))) (raises v a)
 
 -- the batches of a topic producer tell of no part
@@ -267,7 +268,7 @@ joins_few : (o : Options) (log : List Entry) (t u : ℕ) (a : Act) → IsRun o (
 joins_few o log t u (Does (Call w) (Tell n)) run =
     elim (is_same (Call t) n.who) as (λ b. cond b (part_of u n.outcome) 0 + 0 ≤ part_of u n.outcome) [ true ↦ omega arith | false ↦ omega arith ]
 joins_few o log t u (Does (Consumer m w key) (Tell n)) run =
-    (let f : is_modest (Tell n) ≡ true = server_does o log m w (Tell n) run in absurd cc)
+    (let f : is_discreet (Tell n) ≡ true = server_does o log m w key (Tell n) run in absurd cc)
 joins_few o log t u (Does (Producer w) (Tell n)) run = let k = batcher_does o log w (Tell n) run in absurd (no_tell k.0 n k.1)
 joins_few o log t u a run =
     let z : sum (note t u) (joins (view o log) a) ≡ 0 =

@@ -8,7 +8,7 @@ use Rattle.std.specs.Option.{option_map}
 use Rattle.std.specs.Ordering.{match_ordering}
 use Rattle.std.specs.declared.cmp.Ordering.{Ordering}
 use Rattle.std.specs.declared.cmp.Ordering.TheVariants.{Less, Equal, Greater}
-use Rattle.pulsar_laws.proofs.ActWords.{Act, Action, Alarm, Answers, Arrival, Ask, Batch, CheckIdle, Comes, Dials, Does, FindConsumer, Flush, Get, Heard, is_same, KeepAlive, Makes, OfTopic, Retry, Rings, Shut, StopAll, Store, ToLink, turn_of, Wait, Wake, Who, OfConsumer}
+use Rattle.pulsar_laws.proofs.ActWords.{Act, Action, Alarm, Answers, Arrival, Ask, Batch, CheckIdle, Comes, Dials, Does, FindConsumer, Flush, Get, Heard, is_same, KeepAlive, Makes, OfMulti, OfTopic, Redelivery, Retry, Rings, Shut, StopAll, Store, ToLink, turn_of, Wait, Wake, Who, OfConsumer}
 use Rattle.pulsar_laws.proofs.RunWords.{after, begun, Chosen, consumers_after, Each, In, setup_of, turned, Turned, View, begun_same}
 use Rattle.pulsar_laws.proofs.LinkWords.{Base, Becomes, Change, Fault, is_body, IsOver, Nobody, Pause, Pauses, Remains, Reply, rings, Runs, Seat, Series, Serves, url_at, Words}
 use Rattle.pulsar_producer.specs.Topic as topic
@@ -18,7 +18,7 @@ use Rattle.pulsar_links.specs.Alarms.{alarm_cmp, clear, is_same_alarm, moment_of
 use Rattle.pulsar_laws.proofs.Lists.{in_append}
 use Rattle.pulsar_laws.proofs.Cases.{cond_so, none_some, some_is}
 use Rattle.pulsar_producer_table.specs.Producers.{is_bare, numbers_at, timeout_at, topic_after}
-use Rattle.pulsar_acts.specs.View.{alarms_after, alarms_on, alarms_on_topic, alarms_over, alarms_rung, alarms_turned, alarms_waiting, base_after, base_on, clear_all, waits_for, waits_from, waits_on, member_made}
+use Rattle.pulsar_acts.specs.View.{alarms_after, alarms_made, checked_first, checked_next, multi_at, alarms_on, alarms_on_topic, alarms_over, alarms_rung, alarms_turned, alarms_waiting, base_after, base_on, clear_all, waits_for, waits_from, waits_on, member_made}
 use Rattle.pulsar_links.specs.Seats.{asker_at, base_turned, nobody}
 use Rattle.pulsar_links.proofs.Ringing.{is_this}
 use Rattle.pulsar_laws.proofs.calls.Same.{same_self, same_who}
@@ -30,7 +30,9 @@ use Rattle.pulsar_consumer.specs.Frames.{frame_in}
 use Rattle.pulsar_consumer.specs.Topic as reader
 use Rattle.pulsar_incoming.specs.declared.polled.Ending.TheVariants.{Closed, TopicEnded}
 use Rattle.pulsar_consumer_table.specs.Consumers as consumer
-use Rattle.pulsar_consumer_table.specs.Consumers.{Arrives, ClientStops, CloseAsked, Deed, FlowTaken, IsPolled, IsSought, LinkEnds, Member, NotRevived, Revived, member_by}
+use Rattle.pulsar_producer_table.specs.MultiAsks.{removed_by}
+use Rattle.pulsar_calls.specs.declared.act.Who.TheVariants.{Call, Consumer, Producer}
+use Rattle.pulsar_consumer_table.specs.Consumers.{Arrives, ClientStops, CloseAsked, Copied, CopyLost, CopyTaken, IsChecked, IsForgotten, Deed, FlowTaken, IsPolled, IsSought, LinkEnds, Member, NotRevived, Revived, member_by}
 use Rattle.pulsar_consumer_table.specs.declared.row.LinkAnswer.{LinkAnswer}
 use Rattle.pulsar_consumer_table.specs.declared.row.LinkAnswer.TheVariants.{Found, Gone, Later}
 use Rattle.pulsar_laws.proofs.consumers.Members.{CameFrom, after_holds}
@@ -188,12 +190,29 @@ module _ (me : Who) where
     alarms_on_absent o now None es k = k
     alarms_on_absent o now (Some x) es k = change_absent o now x.link x.change x.pause es k
 
-    rung_absent : (o : Chosen) (now : ℕ) (a : Alarm) (es : List (Alarm × ℕ)) → Each (NotWake) es → Each (NotWake) (alarms_rung o now a es)
-    rung_absent o now (Retry l) es k = clear_absent (Retry l) es k
-    rung_absent o now (Wake who) es k = clear_absent (Wake who) es k
-    rung_absent o now (Batch n) es k = clear_absent (Batch n) es k
-    rung_absent o now (KeepAlive l) es k = set_absent (KeepAlive l) _ es refl k
-    rung_absent o now CheckIdle es k = set_absent CheckIdle _ es refl k
+    checked_absent : (n t : ℕ) (moment : Option ℕ) (es : List (Alarm × ℕ)) → Each (NotWake) es → Each (NotWake) (checked_next n t moment es)
+    checked_absent n t None es k = clear_absent (Redelivery n t) es k
+    checked_absent n t (Some moment) es k = set_absent (Redelivery n t) moment es refl k
+
+    rung_absent : (o : Chosen) (cs : consumer.Consumers) (now : ℕ) (a : Alarm) (es : List (Alarm × ℕ)) → Each (NotWake) es →
+        Each (NotWake) (alarms_rung o cs now a es)
+    rung_absent o cs now (Retry l) es k = clear_absent (Retry l) es k
+    rung_absent o cs now (Wake who) es k = clear_absent (Wake who) es k
+    rung_absent o cs now (Batch n) es k = clear_absent (Batch n) es k
+    rung_absent o cs now (KeepAlive l) es k = set_absent (KeepAlive l) _ es refl k
+    rung_absent o cs now (Redelivery n t) es k = checked_absent n t (consumer.check_after now (cs.rows t)) es k
+    rung_absent o cs now CheckIdle es k = set_absent CheckIdle _ es refl k
+
+    -- with a consumer its checks begin
+    first_absent : (n t : ℕ) (moment : Option ℕ) (es : List (Alarm × ℕ)) → Each (NotWake) es → Each (NotWake) (checked_first n t moment es)
+    first_absent n t None es k = k
+    first_absent n t (Some moment) es k = set_absent (Redelivery n t) moment es refl k
+
+    made_absent : (w : Who) (row : Option Member) (es : List (Alarm × ℕ)) → Each (NotWake) es → Each (NotWake) (alarms_made w row es)
+    made_absent w None es k = k
+    made_absent (Call t) (Some m) es k = first_absent m.seen.number t m.seen.engine.check es k
+    made_absent (Consumer n t key) (Some m) es k = k
+    made_absent (Producer n) (Some m) es k = k
 
     -- what is stored waits, or nothing is stored any longer
     from_absent : (now : ℕ) (timeout : Option ℕ) (n : ℕ) (es : List (Alarm × ℕ)) → Each (NotWake) es → Each (NotWake) (waits_from now timeout n es)
@@ -218,14 +237,18 @@ module _ (me : Who) where
     alarms_absent : (v : View) (a : Act) → ApartBy a → Each (NotWake) v.alarms → Each (NotWake) (alarms_after v a)
     alarms_absent v (Comes (ToLink l x)) idle k = alarms_on_absent v.chosen v.now (turned v (Comes (ToLink l x))) v.alarms k
     alarms_absent v (Comes (Rings a)) idle k =
-        cond_so (Each (NotWake)) (rings v.now a v.alarms) (alarms_rung v.chosen v.now a v.alarms) v.alarms (rung_absent v.chosen v.now a v.alarms k) k
+        cond_so (Each (NotWake)) (rings v.now a v.alarms) (alarms_rung v.chosen v.consumers v.now a v.alarms) v.alarms
+        (rung_absent v.chosen v.consumers v.now a v.alarms k) k
     alarms_absent v (Does who (Wait delay)) idle k =
         set_absent (Wake who) _ v.alarms (other_wake who (other_apart who (Wait delay) idle refl)) k
     alarms_absent v (Does who (OfTopic n (Store x))) idle k = topic_absent v n (topic.Stores (turn_of who) x) k
     alarms_absent v (Does who (OfTopic n Flush)) idle k = topic_absent v n (topic.Flushes (turn_of who)) k
+    alarms_absent v (Does who (OfMulti m ask)) idle k = all_absent (removed_by ask (multi_at v m)) v.alarms k
     alarms_absent v (Does who (Shut u)) idle k = all_absent (numbers_at (v.producers.built u)) v.alarms k
     alarms_absent v (Does who StopAll) idle k = tt
-    alarms_absent v (Answers who verdict) idle k = cond_so (Each (NotWake)) _ _ v.alarms (set_absent CheckIdle _ v.alarms refl k) k
+    alarms_absent v (Answers who verdict) idle k =
+        made_absent who (member_made v.links.live v.now v.consumers.next_key verdict.makes) _
+        (cond_so (Each (NotWake)) _ _ v.alarms (set_absent CheckIdle _ v.alarms refl k) k)
     alarms_absent v _ idle k = k
 
   pub moment_none : (es : List (Alarm × ℕ)) → Each (NotWake ⊥) es → moment_of (Wake me) es ≡ None
@@ -246,16 +269,19 @@ module _ (me : Who) where
       last (inl e) = other e
       last (inr j) = j
 
-  frame_seeks : (l : ℕ) (r : Reply) (m : Member) → Away m.seekers → Away (consumer.hears_frame l r m).seekers
-  frame_seeks l r m h =
-      cond_so (λ z. Away z.seekers) (is_body 9 r.content.body) (consumer.member_after (reader.Hears l (frame_in r)) m) _ h
+  frame_seeks : (clock l : ℕ) (r : Reply) (m : Member) → Away m.seekers → Away (consumer.hears_frame clock l r m).seekers
+  frame_seeks clock l r m h =
+      cond_so (λ z. Away z.seekers) (is_body 9 r.content.body) (consumer.hears_message clock l r m) _
+      (cond_so (λ z. Away z.seekers) (reader.lives_on l m.seen)
+      (consumer.member_after (reader.Hears l (frame_in r)) (consumer.member_after (reader.IsAt clock) m)) m h h)
       (cond_so (λ z. Away z.seekers) (is_body 27 r.content.body) (consumer.ends_on l TopicEnded m) _
       (cond_so (λ z. Away z.seekers) (reader.lives_on l m.seen) (consumer.member_after (reader.Ends TopicEnded) m) m h h)
       (cond_so (λ z. Away z.seekers) (is_body 16 r.content.body) (consumer.member_after (reader.Loses l) m) m h h))
 
-  hears_seeks : (l : ℕ) (a : Arrival) (m : Member) → Away m.seekers → Away (consumer.hears l a m).seekers
-  hears_seeks l (arrivals.Gives n r) m h = cond_so (λ z. Away z.seekers) (m.seen.number == n) (consumer.hears_frame l r m) m (frame_seeks l r m h) h
-  hears_seeks l _ m h = h
+  hears_seeks : (clock l : ℕ) (a : Arrival) (m : Member) → Away m.seekers → Away (consumer.hears clock l a m).seekers
+  hears_seeks clock l (arrivals.Gives n r) m h =
+      cond_so (λ z. Away z.seekers) (m.seen.number == n) (consumer.hears_frame clock l r m) m (frame_seeks clock l r m h) h
+  hears_seeks clock l _ m h = h
 
   loses_seeks : (l : ℕ) (cause : Option Fault) (m : Member) → Away m.seekers → Away (consumer.loses_by l cause m).seekers
   loses_seeks l None m h = h
@@ -266,9 +292,9 @@ module _ (me : Who) where
   finds_seeks Gone w m other h = h
   finds_seeks Later w m other h = away_end w m.seekers other h
 
-  on_seeks : (l : ℕ) (url : Option Parts) (s : reader.Seen) → Away (consumer.subscribed_on l url (record { seen = s; seekers = [] })).seekers
-  on_seeks l None s i = i
-  on_seeks l (Some url) s i = i
+  on_seeks : (clock l : ℕ) (url : Option Parts) (s : reader.Seen) → Away (consumer.subscribed_on clock l url (record { seen = s; seekers = [] })).seekers
+  on_seeks clock l None s i = i
+  on_seeks clock l (Some url) s i = i
 
   none_seeks : Away []
   none_seeks = λ i. i
@@ -279,32 +305,37 @@ module _ (me : Who) where
   NoFind _ = Unit {0}
 
   -- one that joins has none, and no deed adds this one
-  joins_seeks : (live : ℕ → Option Seat) (key : ℕ) (x : Makes) (m : Member) → member_made live key x ≡ Some m → Away m.seekers
-  joins_seeks live key (makes.Consumer j) m e =
-      subst (λ n. Away n.seekers) (some_is e) (on_seeks j.link (url_at (live j.link)) (reader.fresh (setup_of key j)))
-  joins_seeks live key (makes.RawConsumer l made) m e =
-      subst (λ n. Away n.seekers) (some_is e) (on_seeks l (url_at (live l)) (reader.fresh (reader.of_raw made)))
-  joins_seeks live key makes.Nothing m e = absurd cc
-  joins_seeks live key makes.Client m e = absurd cc
-  joins_seeks live key (makes.Producer b) m e = absurd cc
-  joins_seeks live key (makes.MultiProducer name settings) m e = absurd cc
+  joins_seeks : (live : ℕ → Option Seat) (clock key : ℕ) (x : Makes) (m : Member) → member_made live clock key x ≡ Some m → Away m.seekers
+  joins_seeks live clock key (makes.Consumer j) m e =
+      subst (λ n. Away n.seekers) (some_is e) (on_seeks clock j.link (url_at (live j.link)) (reader.fresh (setup_of key j)))
+  joins_seeks live clock key (makes.RawConsumer l made) m e =
+      subst (λ n. Away n.seekers) (some_is e) (on_seeks clock l (url_at (live l)) (reader.fresh (reader.of_raw made)))
+  joins_seeks live clock key makes.Nothing m e = absurd cc
+  joins_seeks live clock key makes.Client m e = absurd cc
+  joins_seeks live clock key (makes.Producer b) m e = absurd cc
+  joins_seeks live clock key (makes.MultiProducer name settings) m e = absurd cc
 
   deed_seeks : (v : View) (a : Act) (u : ℕ) (d : Deed) → CameFrom v u a d → NoFind a → (m : Member) → Away m.seekers → Away (member_by d m).seekers
-  deed_seeks v a u (Arrives l x) c idle m h = hears_seeks l x m h
+  deed_seeks v a u (Arrives clock l x) c idle m h = hears_seeks clock l x m h
   deed_seeks v a u (LinkEnds l cause) c idle m h = loses_seeks l cause m h
   deed_seeks v a u (CloseAsked closed l b) c idle m h =
       cond_so (λ z. Away z.seekers) (b && consumer.is_closed_by closed l m) (consumer.member_after (reader.Ends Closed) m) m h h
   deed_seeks v a u (IsPolled clock) c idle m h = h
   deed_seeks v a u (IsSought w) c idle m h = finds_seeks (consumer.sought (Some m)) w m (subst NoFind c idle) h
   deed_seeks v a u FlowTaken c idle m h = h
-  deed_seeks v a u (Revived l url) c idle m h = none_seeks
+  deed_seeks v a u (Revived clock l url) c idle m h = none_seeks
   deed_seeks v a u (NotRevived f) c idle m h = none_seeks
+  deed_seeks v a u CopyTaken c idle m h = h
+  deed_seeks v a u (Copied key clock) c idle m h = h
+  deed_seeks v a u (CopyLost key clock) c idle m h = h
+  deed_seeks v a u (IsForgotten id) c idle m h = h
+  deed_seeks v a u (IsChecked clock) c idle m h = h
   deed_seeks v a u ClientStops c idle m h = none_seeks
 
   pub seekers_absent : (v : View) (a : Act) (u : ℕ) → NoFind a → Away (consumer.seekers_at (v.consumers.rows u)) →
       Away (consumer.seekers_at ((consumers_after v a).rows u))
   seekers_absent v a u idle h =
-      after_holds (λ row. Away (consumer.seekers_at row)) v u a (λ m j. joins_seeks v.links.live v.consumers.next_key j.verdict.makes m j.makes)
+      after_holds (λ row. Away (consumer.seekers_at row)) v u a (λ m j. joins_seeks v.links.live v.now v.consumers.next_key j.verdict.makes m j.makes)
       (λ d c m k. deed_seeks v a u d c idle m k) h
 
   -- ALL OF THAT

@@ -1,6 +1,7 @@
 -- Once the client is stopped no copy of a dead letter is due: what was pending has failed, and no copy is made any more.
 use Rattle.std.proofs.Common.{◌≡◌, ap, sym, subst, ℕ, List, [], ◌∷◌, ◌++◌, refl, Bool, true, false, ◌||◌, not, cond, Option, Some, None}
 use Rattle.std.specs.Option.{is_some, option_map}
+use Rattle.pulsar_messages.specs.Content.{ProducerMessageValues}
 use Rattle.pulsar_wire.specs.Failures.{Fault}
 use Rattle.pulsar_incoming.specs.declared.polled.Ending.{Ending}
 use Rattle.pulsar_incoming.specs.declared.polled.Ending.TheVariants.{LinkLost, Stopped}
@@ -108,7 +109,10 @@ poll_hushed clock m k =
 none_due : (m : Member) → IsHushed m → is_copy_due m.seen ≡ false
 none_due m k =
     let none : to_copy m.seen.engine ≡ None = (λ i. cond (is_some (k.2 i)) None (first_letter (k.1 i))) in
-    ap (λ l. is_some (option_map (λ x. (m.seen.key, x)) (option_map (copy_of m.seen.topic) l))) none
+    ap (due_of m.seen.key m.seen.topic) none
+  where
+    due_of : (key : ℕ) (topic : List ℕ) → Option Letter → Bool
+    due_of key topic l = is_some {T = ℕ × ProducerMessageValues} (option_map (λ x. (key, x)) (option_map (copy_of topic) l))
 
 pub goes_on_none : (P : Notice → Type 0) (t : ℕ) (row : Option Member) → Gone row → Hushed row → Each P (goes_on_at t row)
 goes_on_none P t None gone k = tt

@@ -41,7 +41,7 @@ self_multi (Made t) = eq-eqb t t refl
 
 -- ROWS
 
-none_either : (b : Bool) → None {A = Seen} ≡ cond b None None
+none_either : (b : Bool) → ◌≡◌ {A = Option Seen} None (cond b None None)
 none_either true = refl
 none_either false = refl
 

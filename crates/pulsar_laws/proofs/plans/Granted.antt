@@ -156,6 +156,14 @@ waiters_free f known g (Some seat) free = free (g seat) _
 readied_free : (n : ℕ) (act : topic.Act) (row : Option Topic) → Each IsCaused (readied n act row)
 readied_free n act row = each_either IsCaused (is_woken act row) (ready_notice n ∷ []) [] (refl, tt) tt
 
+-- what is said of consumers
+word_free : (u : Outcome) → is_word u ≡ true → is_inner u ≡ false
+word_free (outcome.Word w) h = refl
+word_free u h = absurd cc
+
+words_free : (ns : List Notice) → Each IsWord ns → Each IsCaused ns
+words_free ns k = each_map IsWord IsCaused ns (λ n h. word_free n.outcome h) k
+
 woken_free : (v : View) (a : Alarm) → Each IsCaused (woken v a)
 woken_free v (Wake who) = (refl, tt)
 woken_free v (Batch n) = readied_free n topic.Cuts (v.producers.topics n)
@@ -170,14 +178,6 @@ stopped_free : (known : Addresses) (a : Alarm) → Each IsCaused (stopped_with k
 stopped_free known (Retry l) = pause_free known (known.pause l)
 stopped_free known (Wake who) = (refl, tt)
 stopped_free known _ = tt
-
--- what is said of consumers
-word_free : (u : Outcome) → is_word u ≡ true → is_inner u ≡ false
-word_free (outcome.Word w) h = refl
-word_free u h = absurd cc
-
-words_free : (ns : List Notice) → Each IsWord ns → Each IsCaused ns
-words_free ns k = each_map IsWord IsCaused ns (λ n h. word_free n.outcome h) k
 
 halt_free : (u : Outcome) → is_stopped_word u ≡ true → is_inner u ≡ false
 halt_free outcome.Stopped h = refl
@@ -328,9 +328,15 @@ told_to : (v : View) (who : Who) (action : Action) → Each (IsToldTo who) (perf
 told_to v who action = once_each (IsToldTo who) (λ u k b. refl) (λ p. tt) (λ l. tt) (λ w e s. tt) (performs_once v who action)
 
 -- one that asks a producer of many topics is granted nothing
-multi_plain : {v : View} (m : Multi) (ask : MultiAsk) (u : Outcome) → SaysSo v (OfMulti m ask) u → is_grant u ≡ false
-multi_plain m ask (outcome.Granted n) h = absurd h
-multi_plain m ask _ h = refl
+multi_plain : (v : View) (m : Multi) (ask : MultiAsk) (u : Outcome) → SaysSo v (OfMulti m ask) u → is_grant u ≡ false
+multi_plain v m ask (outcome.Granted (news.Told x)) h = absurd h
+multi_plain v m ask (outcome.Granted news.Queued) h = absurd h
+multi_plain v m ask (outcome.Granted news.InLine) h = absurd h
+multi_plain v m ask (outcome.Granted (news.Drew d)) h = absurd h
+multi_plain v m ask (outcome.Granted (news.Recalled c)) h = absurd h
+multi_plain v m ask (outcome.Granted (news.Numbered n)) h = absurd h
+multi_plain v m ask (outcome.Granted (news.HasBatch items)) h = absurd h
+multi_plain v m ask _ h = refl
 
 -- it is told no more than that
 once_rest : {v : View} {who : Who} {action : Action} {xs : List Act} → AtOnce v who action xs → Each IsPlain (drop 1 xs)
@@ -338,7 +344,7 @@ once_rest nothing = tt
 once_rest (says k b) = tt
 once_rest dials = tt
 once_rest {v} {who} (begins_too {m} {ask} j k) =
-    each_drop IsPlain _ (once_each IsPlain (λ u says b. multi_plain m ask u says) (λ p. refl) (λ l. refl) (λ w e s. refl) (begins_too j k))
+    each_drop IsPlain _ (once_each IsPlain (λ u says b. multi_plain v m ask u says) (λ p. refl) (λ l. refl) (λ w e s. refl) (begins_too j k))
 once_rest {v} {who} stops_all =
     each_drop IsPlain (over_links stop_act v.links ++ tells who outcome.Stopped)
     (each_append IsPlain (over_links stop_act v.links) (tells who outcome.Stopped) (over_each IsPlain stop_act v.links (λ l seat. (refl, tt))) (refl, tt))

@@ -1,7 +1,7 @@
 -- So it is along each run, for whoever has a plan: an operation that rests was made again fewer times than the options allow.
 use Rattle.std.proofs.Common.{◌≡◌, ◌∙◌, sym, ap, subst, ℕ, ◌+◌, List, ◌∷◌, refl, ◌&&◌, not, Bool, true, false, cond, arith, Option, Some, None, Ok, Err}
 use Rattle.pulsar_laws.proofs.ActWords.{Action, Notice, Outcome, Procedure, Share, Starts, Told, Who}
-use Rattle.pulsar_laws.proofs.PlanWords.{ProducerOrder, Batches, batches_on, Deed, Errand, Member, News as Granting, news_in, news_of, overrides, Plan, PlanTransition, Sending as Send, told, Ways}
+use Rattle.pulsar_laws.proofs.PlanWords.{ProducerOrder, Batches, batches_on, Deed, Errand, Member, News as Granting, news_in, news_of, overrides, Plan, PlanTransition, Sending as Send, told, Ways, BuildingProducer as Build}
 use Rattle.pulsar_laws.proofs.RunWords.{Entry, IsRun, notice, Options, stays, stays_some, Then, told_some, view}
 use Rattle.pulsar_searches.specs.declared.count.Counting.TheVariants as count
 use Rattle.pulsar_searches.specs.declared.look.Looking.TheVariants as look

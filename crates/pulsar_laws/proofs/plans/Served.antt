@@ -31,7 +31,7 @@ begun_not _ h = cc
 -- ALONG A LOG
 
 -- no call serves a consumer
-calls_serve_none : (o : Options) (log : List Entry) (t : ℕ) (p : Plan) → IsRun o log → (view o log).stand (Call t) ≡ Some p → is_server p ≡ false
+pub calls_serve_none : (o : Options) (log : List Entry) (t : ℕ) (p : Plan) → IsRun o log → (view o log).stand (Call t) ≡ Some p → is_server p ≡ false
 calls_serve_none o log t p run h =
     stands_so o (Call t) (IsRun o) (run_older o) (λ log q. is_server q ≡ false) (λ e log q m r s k. k)
     (λ log p q a r e. begun_not (begun_arc e) (starts_part o log t p r).call) (λ log b u q a r s k e. arc_not (told_arc e) k) log p run h

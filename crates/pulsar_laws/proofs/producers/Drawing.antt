@@ -9,7 +9,7 @@ use Rattle.pulsar_plans.proofs.CopyArcs.{CopyArc, handing_goes, sending_goes}
 use Rattle.std.proofs.lemmas.Bool.{cases_Bool, eqb-true}
 use Rattle.std.proofs.lemmas.Bool.Decides.{nat_tests}
 use Rattle.std.specs.Option.{is_some}
-use Rattle.pulsar_laws.proofs.ActWords.{Act, Action, Answers, Asked, Call, Calls, Comes, Does, Heard, Makes, Nothing, Notice, Number, OfMulti, Outcome, Procedure, Starts, ticket_of, Told, Verdict, Who, is_same, lacks_tickets, shares}
+use Rattle.pulsar_laws.proofs.ActWords.{Act, Action, Answers, Asked, Call, Calls, Comes, Does, Heard, Makes, Nothing, Notice, Number, OfMulti, Outcome, Procedure, Starts, ticket_of, Told, Verdict, Who, is_same, lacks_tickets, shares, OfConsumer}
 use Rattle.pulsar_laws.proofs.PlanWords.{action_of, Asking, Awaiting, begins, Built, Deed as Doing, fails, Gives, MultiSending, Plan, PlanTransition, Producing, Stays, told, Ways}
 use Rattle.pulsar_laws.proofs.RunWords.{Answered, Begins, begun_same, counted, each_map, Entry, In, IsRun, may_call, notice, Options, producers_listed, started, stays, stays_some, Then, told_some, view, View, rules, Each}
 use Rattle.pulsar_laws.proofs.LinkWords.{Exhausted}
@@ -603,7 +603,7 @@ joined_stand o log w m j run p h Q = elim (does_from o log w (OfMulti m (Join j)
         (ap (λ y. cond y (stays_some (told_some ((view o x.older).stand w) x.outcome)) ((view o x.older).stand w)) (same_self w)
         ∙ ap (λ r. stays_some (told_some r x.outcome)) x.stood
         ∙ ap stays x.leads) in
-        subst (IsSound Q) (some_is (sym now ∙ h)) (arc_holds (told_arc x.leads) m j refl Q)
+        subst (IsSound Q) (some_is (sym now ∙ h)) (arc_holds {p = x.before} {q = x.plan} {u = x.outcome} {a = OfMulti m (Join j)} (told_arc x.leads) m j refl Q)
 
 row_none : (es : List Deed) → row_by topic_after es None ≡ None
 row_none [] = refl

@@ -14,12 +14,12 @@ use Rattle.pulsar_calls.specs.declared.act.Procedure.TheVariants as procedure
 use Rattle.pulsar_producer_table.specs.Producers.{next_batch_at, topic_after}
 use Rattle.pulsar_producer_table.specs.declared.table.Topic.{Topic}
 use Rattle.pulsar_laws.proofs.Cases.{cond_so, none_some}
-use Rattle.pulsar_laws.specs.BatchLaws.{EachSentOnce, asks_batch, batched_at, batched_times, frames_queued, times_in, times_under, under_way}
+use Rattle.pulsar_laws.specs.BatchLaws.{EachSentOnce, asks_batch, batched_at, batched_times, frames_queued, times_in, times_under, under_way, IsHandedOn, StoresFirst}
 use Rattle.pulsar_laws.specs.ProducerLaws.{asks_send, is_queued, queued_times, topic_acts}
 use Rattle.pulsar_laws.proofs.calls.Once.{ends_once_lem}
 use Rattle.pulsar_laws.proofs.calls.Same.{same_self, same_producer}
 use Rattle.pulsar_laws.proofs.plans.Batchers.{batcher_does}
-use Rattle.pulsar_laws.proofs.plans.Consuming.{is_modest}
+use Rattle.pulsar_laws.proofs.plans.Consuming.{is_discreet}
 use Rattle.pulsar_laws.proofs.plans.Servers.{server_does}
 use Rattle.pulsar_laws.proofs.plans.Stores.{stored_at_once_lem}
 use Rattle.pulsar_laws.proofs.plans.Takers.{taken_by_own}
@@ -370,28 +370,59 @@ module _ (t : ℕ) where
 
   stores_call : (o : Options) (log : List Entry) (who : Who) (n : ℕ) (e : EntryValues) → IsRun o (Then (Does who (OfTopic n (Store e))) ∷ log) → (u : ℕ) × (who ≡ Call u)
   stores_call o log (Call u) n e run = (u, refl)
-  stores_call o log (Consumer k u key) n e run = let f : is_modest (OfTopic n (Store e)) ≡ true = server_does o log k u (OfTopic n (Store e)) run in absurd cc
+  stores_call o log (Consumer k u key) n e run = let f : is_discreet (OfTopic n (Store e)) ≡ true = server_does o log k u key (OfTopic n (Store e)) run in absurd cc
   stores_call o log (Producer k) n e run = let d = batcher_does o log k (OfTopic n (Store e)) run in absurd (no_store d.0 n e d.1)
+
+  unasked : (a b c : Bool) → c ≡ false → ◌≡◌ {A = ℕ} (cond (a && (b && c)) 1 0) 0
+  unasked true true c h = ap (λ x. cond x 1 0) h
+  unasked true false c h = refl
+  unasked false b c h = refl
 
   own_store : (o : Options) (log : List Entry) (n : ℕ) (e : EntryValues) → IsRun o (Then (Does (Call t) (OfTopic n (Store e))) ∷ log) → Every (Once o) log →
       (counted stores_by log ≡ 0) × (queued_times o t log ≡ 0) × Keeps o (Then (Does (Call t) (OfTopic n (Store e))) ∷ log) t
-  own_store o log n e run k =
-      let x = stored_at_once_lem o log t n e run in
-      let older : List Entry = x.1 in
-      let r : IsRun o (Then (Starts (Call t) (procedure.Store n x.0 e)) ∷ older) = subst (IsRun o) x.2 run.0 in
-      let every : Every (Once o) (Then (Starts (Call t) (procedure.Store n x.0 e)) ∷ older) = subst (Every (Once o)) x.2 k in
-      let was : Once o older = here (Once o) older every.1 in
-      let once : counted (start_of t) older + start_of t (Starts (Call t) (procedure.Store n x.0 e)) ≤ 1 =
-      (ends_once_lem o (Then (Starts (Call t) (procedure.Store n x.0 e)) ∷ older) t r).0 in
-      let one : start_of t (Starts (Call t) (procedure.Store n x.0 e)) ≡ 1 = ap (λ b. cond b 1 0) (same_self (Call t)) in
-      let unstored : counted stores_by older ≡ 0 =
-      at_most_none (counted stores_by older) (λ some. (let b : 1 ≤ counted (start_of t) older = (was.none some).1.began in omega (arith, b, once, one))) in
-      let few : queued_times o t older + left_some ((view o older).stand (Call t)) ≤ counted (start_of t) older = few_run o older t in
-      let unqueued : queued_times o t older ≡ 0 = omega (arith, few, once, one) in (
-        ap (counted stores_by) x.2 ∙ (let g : counted stores_by older + 0 ≡ 0 = omega (arith, unstored) in g),
-        ap (queued_times o t) x.2 ∙ (let g : queued_times o t older + 0 ≡ 0 = omega (arith, unqueued) in g),
-        keeps_more o log (Then (Does (Call t) (OfTopic n (Store e)))) t run (store_keeps o log t n e run),
-      )
+  own_store o log n e run k = elim (stored_at_once_lem o log t n e run) [ inl x ↦ begun x | inr x ↦ handed x ]
+    where
+      Stored' : Type 0
+      Stored' =
+          (counted stores_by log ≡ 0) × (queued_times o t log ≡ 0) × Keeps o (Then (Does (Call t) (OfTopic n (Store e))) ∷ log) t
+
+      kept : Keeps o (Then (Does (Call t) (OfTopic n (Store e))) ∷ log) t
+      kept = keeps_more o log (Then (Does (Call t) (OfTopic n (Store e)))) t run (store_keeps o log t n e run)
+
+      begun : StoresFirst o t n e log → Stored'
+      begun (share, older, there, brought) =
+          let r : IsRun o (Then (Starts (Call t) (procedure.Store n share e)) ∷ older) = subst (IsRun o) there run.0 in
+          let every : Every (Once o) (Then (Starts (Call t) (procedure.Store n share e)) ∷ older) = subst (Every (Once o)) there k in
+          let was : Once o older = here (Once o) older every.1 in
+          let once : counted (start_of t) older + start_of t (Starts (Call t) (procedure.Store n share e)) ≤ 1 =
+          (ends_once_lem o (Then (Starts (Call t) (procedure.Store n share e)) ∷ older) t r).0 in
+          let one : start_of t (Starts (Call t) (procedure.Store n share e)) ≡ 1 = ap (λ b. cond b 1 0) (same_self (Call t)) in
+          let unstored : counted stores_by older ≡ 0 =
+          at_most_none (counted stores_by older)
+          (λ some. (let b : 1 ≤ counted (start_of t) older = (was.none some).1.began in omega (arith, b, once, one))) in
+          let few : queued_times o t older + left_some ((view o older).stand (Call t)) ≤ counted (start_of t) older = few_run o older t r.0 in
+          let unqueued : queued_times o t older ≡ 0 = omega (arith, few, once, one) in (
+            ap (counted stores_by) there ∙ (let g : counted stores_by older + 0 ≡ 0 = omega (arith, unstored) in g),
+            ap (queued_times o t) there ∙ (let g : queued_times o t older + 0 ≡ 0 = omega (arith, unqueued) in g),
+            kept,
+          )
+
+      handed : IsHandedOn o t n e log → Stored'
+      handed (u, older, w, m, share, there, stood) =
+          let r : IsRun o (Then (Told (notice (Call t) u)) ∷ older) = subst (IsRun o) there run.0 in
+          let every : Every (Once o) (Then (Told (notice (Call t) u)) ∷ older) = subst (Every (Once o)) there k in
+          let was : Once o older = here (Once o) older every.1 in
+          let unstored : counted stores_by older ≡ 0 =
+          at_most_none (counted stores_by older) (λ some. (let f : false ≡ true = ap ends_settled (sym stood) ∙ (was.none some).1.waits in absurd cc)) in
+          let few : queued_times o t older + left_some ((view o older).stand (Call t)) ≤ counted (start_of t) older = few_run o older t r.0 in
+          let once : counted (start_of t) older ≤ 1 = (ends_once_lem o older t r.0).0 in
+          let one : left_some ((view o older).stand (Call t)) ≡ 1 = ap left_some stood in
+          let unqueued : queued_times o t older ≡ 0 = omega (arith, few, once, one) in
+          let quiet = unasked (is_same (Call t) (Call t)) (is_queued u) (asks_send ((view o older).stand (Call t))) (ap asks_send stood) in (
+            ap (counted stores_by) there ∙ (let g : counted stores_by older + 0 ≡ 0 = omega (arith, unstored) in g),
+            ap (queued_times o t) there ∙ omega (arith, unqueued, quiet),
+            kept,
+          )
 
   once_then : (o : Options) (log : List Entry) (a : Act) → IsRun o (Then a ∷ log) → Every (Once o) log → Once o (Then a ∷ log)
   once_then o log (Does who (OfTopic n (Store e))) run k = elim (cases_Bool (t == turn_of who)) [
@@ -415,11 +446,6 @@ module _ (t : ℕ) where
       (λ h. unasked (is_same (Call t) n.who) (is_queued n.outcome) (asks_send ((view o log).stand (Call t))) (settled_asks _ h.waits)) run
       (here (Once o) log k) in
       record { few = x.0; none = x.1 }
-    where
-      unasked : (a b c : Bool) → c ≡ false → ◌≡◌ {A = ℕ} (cond (a && (b && c)) 1 0) 0
-      unasked true true c h = ap (λ x. cond x 1 0) h
-      unasked true false c h = refl
-      unasked false b c h = refl
   once_then o log (Does who a) run k =
       let x = kept_on o log (Does who a) 0 0 refl (λ h. refl) run (here (Once o) log k) in record { few = x.0; none = x.1 }
   once_then o log a run k = let x = kept_on o log a 0 0 refl (λ h. refl) run (here (Once o) log k) in record { few = x.0; none = x.1 }

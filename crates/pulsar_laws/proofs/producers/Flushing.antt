@@ -1,5 +1,8 @@
 -- A flush ends its batch, and what was stored before it stands in that or in those that were taken before.
 use Rattle.std.proofs.Common.{◌≡◌, ◌⊎◌, inl, inr, ◌∙◌, sym, ap, subst, refl, ℕ, zero, suc, ◌==◌, append-nil, append_assoc, take, List, [], ◌∷◌, ◌++◌, Bool, true, false, ◌&&◌, cond, Option, Some, None}
+use Rattle.pulsar_outgoing.specs.declared.storage.Limits.{Limits}
+use Rattle.pulsar_laws.proofs.PlanWords.{Built}
+use Rattle.pulsar_producer_table.specs.declared.table.Owner.Owner.{Owner}
 use Rattle.std.proofs.lemmas.Bool.{cases_Bool, eqb-true}
 use Rattle.std.specs.Option.{option_to_list}
 use Rattle.pulsar_laws.proofs.ActWords.{Act, Does, OfTopic, Producer, Starts, TakeBatch, TellAll, Who, is_same}
@@ -15,7 +18,7 @@ use Rattle.pulsar_laws.proofs.Cases.{none_some}
 use Rattle.pulsar_laws.specs.BatchLaws.{FlushesWait, under_way}
 use Rattle.pulsar_producer_table.specs.Producers.{next_batch_at}
 use Rattle.pulsar_laws.specs.ProducerLaws.{acts_on, topic_acts}
-use Rattle.pulsar_laws.proofs.producers.Drawing.{drawn_run, row_from}
+use Rattle.pulsar_laws.proofs.producers.Drawing.{drawn_run, row_from, ByVerdict, BySend, JoinsBy}
 use Rattle.pulsar_laws.proofs.plans.Granted.{in_each}
 use Rattle.pulsar_laws.proofs.plans.Takers.{taken_by_own}
 use Rattle.pulsar_laws.proofs.producers.Topics.{all_after, row_as, seen_more, some_acts, topic_all, topics_alone_lem, CameFrom, acts_each}
@@ -227,8 +230,13 @@ taken_then o log a run none k n t h = by ((view o log).producers.topics n) refl
         under : (view o log).producers.topics n ≡ None → under_way o n (Then a ∷ log) ≡ None
         under e = elim (row_from (view o log) a n t h) [
           | inl was ↦ absurd (none_some (sym e ∙ was.was))
-          | inr j ↦ ap (λ (y : Act). under_way o n (Then y ∷ log)) j.is_act ∙ none n e
+          | inr j ↦ joined j.by ∙ none n e
         ]
+
+        joined : {who : Who} {owner : Owner} {limits : Limits} {parts : List Built} → JoinsBy a who owner limits parts →
+            under_way o n (Then a ∷ log) ≡ under_way o n log
+        joined (ByVerdict verdict b is makes) = ap (λ (y : Act). under_way o n (Then y ∷ log)) is
+        joined (BySend m x is) = ap (λ (y : Act). under_way o n (Then y ∷ log)) is
 
     by : (r : Option Topic) → (view o log).producers.topics n ≡ r → Keeps o (Then a ∷ log) n t
     by None e = fresh e

@@ -4,7 +4,7 @@ use Rattle.std.proofs.lemmas.Bool.{cases_Bool}
 use Rattle.pulsar_laws.proofs.ActWords.{Action, Ask, Call, Does, Draw, Notice, OfTopic, Outcome, Procedure, Recall, Share, Starts, TakeTurn, Told, Who}
 use Rattle.pulsar_laws.proofs.PlanWords.{begins, Command, Drawn, Errand, Leaving, news_of, Plan, Reporting, Sending as Send, Stays, told, Ways}
 use Rattle.pulsar_laws.proofs.RunWords.{Begins, Entry, IsRun, notice, Options, room_of, started, Then, View, view}
-use Rattle.pulsar_messages.specs.Content.{ProducerMessageValues}
+use Rattle.pulsar_messages.specs.Content.{ProducerMessageValues, ProducerOptionsValues}
 use Rattle.pulsar_messages.specs.Words as words
 use Rattle.pulsar_messages.specs.Claims.{is_spent}
 use Rattle.pulsar_producer.specs.Commands.{command_of}
@@ -22,7 +22,7 @@ use Rattle.pulsar_laws.proofs.plans.Holding.{holds, holds_in, is_turn_told}
 use Rattle.pulsar_laws.proofs.plans.Standing.{moves, run_older, stands_so}
 use Rattle.pulsar_laws.proofs.calls.Same.{same_self}
 use Rattle.pulsar_laws.proofs.Cases.{none_some}
-use Rattle.pulsar_producer_table.specs.Producers.{drawn, recalled_at, recalled_by, topic_after}
+use Rattle.pulsar_producer_table.specs.Producers.{drawn, recalled_at, recalled_by, topic_after, options_of}
 use Rattle.pulsar_laws.specs.ProducerLaws.{FramesAreOfTheirSends, drawn_by, version_in, version_told}
 use Rattle.pulsar_laws.proofs.plans.Framing.{AsksSo, KeptSo, MessageSo, NewsSo, PlanSo, Versioned, is_message, told_so}
 use Rattle.pulsar_laws.proofs.plans.Granted.{BeginsSo, GivenBy, IsGrantedBy, IsLedSo, does_from, granted_by, grants_given}
@@ -115,13 +115,13 @@ module _ (e : Errand) (given : ProducerMessageValues) (who : Who) (log : List En
 pub recall_plain : (v : View) (action : Action) (c : Command) → GivenBy v action (news.Recalled c) → is_message c.request ≡ false
 recall_plain v (OfTopic n Recall) c h = at_row (v.producers.topics n) h
   where
-    by : (t : Topic) (r : Option producer.Seen) → recalled_by t r ≡ Some c → is_message c.request ≡ false
+    by : (t : Topic) (r : Option ProducerOptionsValues) → recalled_by t r ≡ Some c → is_message c.request ≡ false
     by t None h = absurd (none_some h)
-    by t (Some p) h = let q : command_of p.options t.seen ≡ c = cc in subst (λ x. is_message x.request ≡ false) q refl
+    by t (Some p) h = let q : command_of p t.seen ≡ c = cc in subst (λ x. is_message x.request ≡ false) q refl
 
     at_row : (r : Option Topic) → recalled_at v.producers r ≡ Some c → is_message c.request ≡ false
     at_row None h = absurd (none_some h)
-    at_row (Some t) h = by t (v.producers.built t.owner) h
+    at_row (Some t) h = by t (options_of v.producers t.owner) h
 recall_plain v _ c h = absurd h
 
 news_told : (o : Options) (log : List Entry) (t : ℕ) (u : Outcome) → IsRun o (Then (Told (notice (Call t) u)) ∷ log) →

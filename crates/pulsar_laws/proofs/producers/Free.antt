@@ -1,12 +1,14 @@
 -- The number of a new topic producer is free.
 use Rattle.std.proofs.Common.{◌≡◌, inl, inr, ◌∙◌, sym, ap, subst, ℕ, ◌+◌, ◌-◌, ◌^◌, ◌<◌, ◌≤◌, ◌==◌, arith, List, [], ◌∷◌, ◌++◌, refl, map, true, false, ◌&&◌, ◌||◌, nat_lt, cond, Option, Some, None}
+use Rattle.pulsar_calls.specs.declared.act.ConsumerAsk.TheVariants as consumer_ask
+use Rattle.pulsar_calls.specs.declared.act.ConsumerAsk.{ConsumerAsk}
 use Rattle.std.proofs.lemmas.Bool.{cases_Bool, eqb-true}
 use Rattle.std.proofs.lemmas.Bool.Decides.{nat_tests}
 use Rattle.std.specs.BTreeSet.{insert_key}
 use Rattle.std.specs.List.{list_any}
 use Rattle.std.specs.Option.{is_some}
 use Rattle.std.specs.Ordering.{nat_cmp}
-use Rattle.pulsar_laws.proofs.ActWords.{Act, Answers, Asked, Calls, Comes, Does, Makes, Number, OfMulti, ticket_of, Told, Who, lacks_tickets, shares}
+use Rattle.pulsar_laws.proofs.ActWords.{Act, Answers, Asked, Calls, Comes, Does, Makes, Number, OfMulti, ticket_of, Told, Who, lacks_tickets, shares, OfConsumer}
 use Rattle.pulsar_laws.proofs.RunWords.{Begins, begun_same, Entry, In, IsRun, may_call, notice, Options, producers_listed, Then, View, view}
 use Rattle.pulsar_messages.specs.Content.{ProducerMessageValues}
 use Rattle.pulsar_messages.specs.Claims.{is_spent}
@@ -15,7 +17,7 @@ use Rattle.pulsar_producer.specs.Producer as producer
 use Rattle.pulsar_outgoing.specs.declared.news.News.TheVariants as news
 use Rattle.pulsar_calls.specs.declared.act.Makes.TheVariants.{Producer}
 use Rattle.pulsar_calls.specs.declared.act.Who.TheVariants as by
-use Rattle.pulsar_acts.specs.View.{multi_at, producers_left, with_numbers}
+use Rattle.pulsar_acts.specs.View.{multi_at, producers_left, with_numbers, producers_asked}
 use Rattle.pulsar_outgoing.specs.declared.multi_topic.Joining.{Joining}
 use Rattle.pulsar_producer_table.specs.MultiAsks.{joined_by}
 use Rattle.pulsar_calls.specs.declared.act.Outcome.TheVariants as outcome
@@ -153,7 +155,7 @@ made_low v who _ h = h
 
 left_low : (who : Who) (ps : Producers) → IsLow ps → IsLow (producers_left who ps)
 left_low (by.Call t) ps h = h
-left_low (by.Consumer n t) ps h = h
+left_low (by.Consumer n t key) ps h = h
 left_low (by.Producer n) ps h = h
 
 numbered_low : (ps : Producers) → IsLow ps → IsLow (numbered ps)
@@ -170,6 +172,16 @@ joined_kept : (t : ℕ) (r : Option Joining) (ps : Producers) → Kept ps (with_
 joined_kept t None ps = (refl, refl)
 joined_kept t (Some j) ps = (refl, refl)
 
+asked_low : (who : Who) (ask : ConsumerAsk) (ps : Producers) → IsLow ps → IsLow (producers_asked who ask ps)
+asked_low who (consumer_ask.Find t) ps h = h
+asked_low who consumer_ask.TakeFlow ps h = h
+asked_low who consumer_ask.Recall ps h = h
+asked_low who (consumer_ask.Revive l) ps h = h
+asked_low who (consumer_ask.Fail f) ps h = h
+asked_low who consumer_ask.TakeCopy ps h = h
+asked_low who consumer_ask.CopySent ps h = h
+asked_low who consumer_ask.CopyFailed ps h = h
+
 after_low : (v : View) (a : Act) → IsLow v.producers → IsLow (seen.after a v).producers
 after_low v (Comes (Calls asked advice)) h =
     cond_so IsLow (lacks_tickets v.calls.drawn (shares asked)) v.producers (called_on (may_call v.calls) asked v.producers) h
@@ -179,6 +191,7 @@ after_low v (Answers who verdict) h = left_low who (producers_listed v.chosen wh
 after_low v (Does who (OfMulti m ask)) h =
     let r : Option Joining = joined_by ask (multi_at v m) in
     kept_low v.producers (with_numbers (ticket_of who) r v.producers) (joined_kept (ticket_of who) r v.producers) h
+after_low v (Does who (OfConsumer ask)) h = asked_low who ask v.producers h
 after_low v _ h = h
 
 pub low_run : (o : Options) (log : List Entry) → o.chosen.first_number < 2 ^ 64 → IsLow (view o log).producers

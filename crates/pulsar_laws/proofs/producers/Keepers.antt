@@ -33,7 +33,7 @@ use Rattle.pulsar_laws.proofs.calls.Once.{ends_once_lem}
 use Rattle.pulsar_laws.proofs.producers.Drawing.{born_joins, topics_keep}
 use Rattle.pulsar_laws.proofs.producers.Topics.{CameFrom, acts_each}
 use Rattle.pulsar_laws.proofs.plans.Servers.{server_does}
-use Rattle.pulsar_laws.proofs.plans.Consuming.{is_modest}
+use Rattle.pulsar_laws.proofs.plans.Consuming.{is_discreet}
 use Rattle.pulsar_acts.specs.View.{topic_born}
 
 -- WHERE ONE STANDS THAT STORES A MESSAGE: it ends with what becomes of it
@@ -120,7 +120,7 @@ stored_by : (o : Options) (log : List Entry) (ticket n : ℕ) (entry : EntryValu
     ticket ≡ turn_of who → Keeps o log ticket
 stored_by o log ticket n entry (Call t) run is = let same : ticket ≡ t = is in subst (Keeps o log) (sym same) (store_keeps o log t n entry run)
 stored_by o log ticket n entry (Consumer k t key) run is =
-    let f : is_modest (OfTopic n (Store entry)) ≡ true = server_does o log k t (OfTopic n (Store entry)) run in absurd cc
+    let f : is_discreet (OfTopic n (Store entry)) ≡ true = server_does o log k t key (OfTopic n (Store entry)) run in absurd cc
 stored_by o log ticket n entry (Producer k) run is =
     let d = batcher_does o log k (OfTopic n (Store entry)) run in absurd (no_store d.0 n entry d.1)
 

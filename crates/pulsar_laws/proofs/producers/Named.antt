@@ -375,10 +375,10 @@ is_special (Batching w e b) = true
 is_special (MultiSending w m share s) = true
 is_special _ = false
 
-close_good : {m : Multi} {s q : MultiClose} {y : MultiNews} {ask : MultiAsk} → MultiCloseArc s y q ask → ActGood (OfMulti m ask)
-close_good turned_removes = tt
-close_good removed_passes = tt
-close_good (removing_passes f) = tt
+close_good : {s q : MultiClose} {y : MultiNews} {ask : MultiAsk} (m : Multi) → MultiCloseArc s y q ask → ActGood (OfMulti m ask)
+close_good m turned_removes = tt
+close_good m removed_passes = tt
+close_good m (removing_passes f) = tt
 
 arc_good : {p q : Plan} {u : Outcome} {a : Action} → Arc p u q a → is_special p ≡ false → PlanGood p → PlanGood q × ActGood a
 arc_good (builds_on d b) n k = absurd cc
@@ -386,7 +386,7 @@ arc_good (sends d b) n k = absurd cc
 arc_good (part_sends d b s) n k = absurd cc
 arc_good (batches_go d b) n k = absurd cc
 arc_good (multi_goes d b) n k = absurd cc
-arc_good (multi_closes_on ask b) n k = (tt, close_good b)
+arc_good (multi_closes_on ask b) n k = (tt, close_good _ b)
 arc_good (got_asks {request} {s} {l}) n k = (asked_none l (subscribed request), tt)
 arc_good queued_waits n k = (k, tt)
 arc_good stands_on n k = (k, tt)

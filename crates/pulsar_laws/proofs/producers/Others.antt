@@ -80,7 +80,7 @@ module _ (n : ℕ) where
 
   pub once_not : (o : Options) (log : List Entry) (a : Act) → IsRun o (Then a ∷ log) → NotOwn a → Each NotOwn (at_once (view o log) a)
   once_not o log (Told m) run h = some_not m.who (told_some ((view o log).stand m.who) m.outcome) h
-  once_not o log (Does w x) run h = once_each NotOwn (λ u k b. h) (λ p. tt) (λ l. tt) (performs_once (view o log) w x)
+  once_not o log (Does w x) run h = once_each NotOwn (λ u k b. h) (λ p. tt) (λ l. tt) (λ ways e s. tt) (performs_once (view o log) w x)
   once_not o log (Comes p) run h = plain_not (view o log) (Comes p) refl
   once_not o log (Answers who verdict) run h = plain_not (view o log) (Answers who verdict) refl
   once_not o log (Dials p starter retries) run h = plain_not (view o log) (Dials p starter retries) refl

@@ -1,5 +1,6 @@
 -- A topic producer is what the acts on it made of it since it was built.
 use Rattle.std.proofs.Common.{◌≡◌, ◌⊎◌, inl, inr, ◌∙◌, sym, ap, ℕ, ◌==◌, List, [], ◌∷◌, ◌++◌, refl, false, Option, Some, None, subst}
+use Rattle.pulsar_producer_table.specs.Takers.{turn_taker}
 use Rattle.std.proofs.lemmas.Bool.{eqb-true}
 use Rattle.pulsar_laws.proofs.ActWords.{Act, Batch, Comes, Does, Draw, Flush, OfMulti, OfTopic, PassTurn, Remake, Rings, Shut, StopAll, Store, TakeBatch, TakeTurn, Who, turn_of, TopicAsk}
 use Rattle.pulsar_laws.proofs.RunWords.{chosen_same, Entry, IsRun, Options, room_of, Then, view, View, In, rules, Each, each_append, each_either, each_map, each_when}
@@ -92,7 +93,7 @@ in_since it (Some t) es past i = absurd i
 -- WHAT WAS DONE TO ONE, AND BY WHICH ACT
 
 abbrev pub CameFrom : (number : ℕ) → Act → Deed → Type 0
-CameFrom n a (Takes t) = (who : Who) × (a ≡ Does who (OfTopic n TakeTurn)) × (t ≡ taker.Call (turn_of who))
+CameFrom n a (Takes t) = (who : Who) × (a ≡ Does who (OfTopic n TakeTurn)) × (t ≡ turn_taker who)
 CameFrom n a Passes = (who : Who) × (a ≡ Does who (OfTopic n PassTurn))
 CameFrom n a Draws = (who : Who) × (a ≡ Does who (OfTopic n Draw))
 CameFrom n a (Remakes l g) = (who : Who) × (r : Remaking) × (a ≡ Does who (OfTopic n (Remake r))) × (l ≡ r.link) × (g ≡ r.given)

@@ -3,10 +3,9 @@ use Rattle.std.proofs.Common.{arith, ◌≡◌, ◌⊎◌, inl, inr, ◌∙◌, 
 use Rattle.pulsar_frame.specs.Batch.{EntryValues}
 use Rattle.pulsar_wire.specs.Row.{Values}
 use Rattle.pulsar_wire.specs.Rows as rows
-use Rattle.pulsar_messages.specs.Content.{ProducerMessageValues}
+use Rattle.pulsar_messages.specs.Content.{ProducerMessageValues, ProducerOptionsValues}
 use Rattle.pulsar_messages.specs.Words as words
 use Rattle.pulsar_producer.specs.Commands.{command_of}
-use Rattle.pulsar_producer.specs.Producer as producer
 use Rattle.pulsar_outgoing.specs.declared.news.News.TheVariants as news
 use Rattle.pulsar_consumer.specs.Commands as consumer_commands
 use Rattle.pulsar_incoming.specs.Naming as naming
@@ -25,7 +24,7 @@ use Rattle.pulsar_calls.specs.declared.act.Word.TheVariants as word
 use Rattle.pulsar_calls.specs.Content as content
 use Rattle.pulsar_consumer_table.specs.Consumers as consumer
 use Rattle.pulsar_consumer_table.specs.Consumers.{Member, link_at, number_at, recalled, why_not, word_if, word_of, word_of_frame, word_of_loss}
-use Rattle.pulsar_producer_table.specs.Producers.{Producers, batches_in, errand_of, numbers_at, recalled_at, recalled_by, routed, why_not as unsent_why}
+use Rattle.pulsar_producer_table.specs.Producers.{Producers, batches_in, errand_of, numbers_at, options_of, recalled_at, recalled_by, routed, why_not as unsent_why}
 use Rattle.pulsar_acts.specs.Reading.{subscribes_by, unless}
 use Rattle.pulsar_acts.specs.Rules.{multi_sends_by, multi_shares_of, multi_shares_unless, why_no_multi, why_no_multi_sends}
 use Rattle.pulsar_outgoing.specs.declared.multi_topic.Multi.{Multi}
@@ -311,13 +310,13 @@ once_so v a = each_map (IsRaised a) IsBegun (at_once v a) (λ b. raised_so a b r
 command_mild : (v : View) (action : Action) (c : Command) → GivenBy v action (news.Recalled c) → IsMildCommand c
 command_mild v (OfTopic n Recall) c h = at_row (v.producers.topics n) h
   where
-    by : (t : _) (r : Option producer.Seen) → recalled_by t r ≡ Some c → IsMildCommand c
+    by : (t : _) (r : Option ProducerOptionsValues) → recalled_by t r ≡ Some c → IsMildCommand c
     by t None h = absurd (none_some h)
-    by t (Some p) h = let q : command_of p.options t.seen ≡ c = cc in subst IsMildCommand q refl
+    by t (Some p) h = let q : command_of p t.seen ≡ c = cc in subst IsMildCommand q refl
 
     at_row : (r : _) → recalled_at v.producers r ≡ Some c → IsMildCommand c
     at_row None h = absurd (none_some h)
-    at_row (Some t) h = by t (v.producers.built t.owner) h
+    at_row (Some t) h = by t (options_of v.producers t.owner) h
 command_mild v _ c h = absurd h
 
 member_mild : (row : Option Member) (c : Command) → recalled row ≡ Some c → IsMildCommand c
@@ -383,7 +382,7 @@ asked_so o who l r e older (inr (inr (inr (inr (inr (inr (inr (j, request, q, k)
     let same : word.Asks j request ≡ word.Asks l r = sym q in
     let x : j ≡ l = cc in
     let y : request ≡ r = cc in
-    inr (subst (λ p. ChecksSo o who p.0 p.1 e older) (λ i. (x i, y i)) k)
+    inr (subst (λ (p : ℕ × Words). ChecksSo o who p.0 p.1 e older) (λ i. (x i, y i)) k)
 
 -- what that is
 asks_for : {A : Type 0} (f : A → Words) (link : Option ℕ) (x : Option A) (l : ℕ) (r : Words) → consumer.asks_on link (option_map f x) ≡ Some (l, r) →

@@ -1,5 +1,5 @@
 -- The plan of a consumer asks for the flows that it took.
-use Rattle.std.proofs.Common.{◌≡◌, inl, inr, ◌∙◌, sym, ap, subst, ℕ, ◌==◌, List, [], ◌∷◌, ◌++◌, map, refl, Bool, true, false, Option, Some, None}
+use Rattle.std.proofs.Common.{◌≡◌, arith, inl, inr, ◌∙◌, sym, ap, subst, ℕ, ◌==◌, List, [], ◌∷◌, ◌++◌, map, refl, Bool, true, false, Option, Some, None}
 use Rattle.pulsar_laws.proofs.ActWords.{Act, Action, Arrival, Ask, below, Consumer, Does, Outcome, Procedure, Rest, Starts, TakeFlow, Told, Who, Word, OfConsumer}
 use Rattle.pulsar_laws.proofs.PlanWords.{begins, news_in, Plan, Serving, Stays, Ways}
 use Rattle.pulsar_laws.proofs.RunWords.{agenda, Agenda, arranged, at_once, Cause, causes, Entry, first, follows_some, further, InThisStep, IsRun, joins, notice, Options, put_all, rest, Then, told_some, view, View}
@@ -17,10 +17,10 @@ use Rattle.pulsar_consumer_table.specs.Asks.{flow_said}
 use Rattle.pulsar_acts.specs.Reading.{tells_word}
 use Rattle.pulsar_laws.proofs.Cases.{cond_so}
 use Rattle.pulsar_laws.proofs.plans.Standing.{run_older, stands_so, starts_so}
-use Rattle.pulsar_plans.proofs.Arcs.{Arc, due_takes, ended_closes, flow_asks, flowed_takes, lives_rests, lost_recalls, no_flow_rests, over_closes, recalled_fails, recalled_resumes_asks, recalled_resumes_gets, recalled_resumes_waits, recalled_revives, resumed_fails, resumed_revives, resumes_on_asks, resumes_on_gets, resumes_on_waits, serving_rests, told_arc}
+use Rattle.pulsar_plans.proofs.Arcs.{Arc, due_redelivers, due_takes, ended_closes, flow_asks, flowed_takes, lives_rests, lost_recalls, no_flow_rests, over_closes, recalled_fails, recalled_resumes_asks, recalled_resumes_gets, recalled_resumes_waits, recalled_revives, redelivered_rests, resumed_fails, resumed_revives, resumes_on_asks, resumes_on_gets, resumes_on_waits, serving_rests, told_arc}
 use Rattle.pulsar_laws.proofs.calls.Sources.{step_more}
 use Rattle.pulsar_laws.specs.ConsumerLaws.{FlowsAreAsked, FlowsAreTaken, TakesSo}
-use Rattle.pulsar_laws.proofs.consumers.Acks.{told_so}
+use Rattle.pulsar_laws.proofs.consumers.Acks.{asked_plain, is_flow, told_so}
 use Rattle.pulsar_laws.proofs.calls.Caused.{outcomes_are_caused_lem}
 use Rattle.pulsar_laws.proofs.plans.Granted.{BeginsSo, IsLedSo, does_from}
 use Rattle.pulsar_laws.proofs.producers.InTurn.{stand_told}
@@ -46,8 +46,13 @@ own_asks : (n : ℕ) (u : Outcome) (q : Plan) (l : ℕ) (r : Words) → is_own r
 own_asks n u q l (words.SendFlow m p) h = absurd cc
 own_asks n u q l _ h = tt
 
+no_flow_asked : (n : ℕ) (u : Outcome) (q : Plan) (l : ℕ) (r : Words) → is_flow r ≡ false → AsksSo n u q (Ask l r)
+no_flow_asked n u q l (words.SendFlow m p) h = absurd cc
+no_flow_asked n u q l _ h = tt
+
 abbrev MildRecall : Outcome → Type 0
 MildRecall (outcome.Word (word.Recalled c)) = IsMildCommand c
+MildRecall (outcome.Word (word.Asks l request)) = is_flow request ≡ false
 MildRecall _ = Unit {0}
 
 arc_serves : (n : ℕ) {p q : Plan} {u : Outcome} {a : Action} → Arc p u q a → ServesSo n p → MildRecall u → GoesSo n u q a
@@ -74,19 +79,25 @@ arc_serves n resumed_revives k h = ((k.0, tt), tt)
 arc_serves n resumed_fails k h = ((k.0, tt), tt)
 arc_serves n lives_rests k h = ((k.0, tt), tt)
 arc_serves n over_closes k h = ((k.0, tt), tt)
+arc_serves n (due_redelivers {w} {n = m} {l} {request}) k h = ((k.0, tt), no_flow_asked n _ (Serving w m service.Redelivering) l request h)
+arc_serves n redelivered_rests k h = ((k.0, tt), tt)
 arc_serves n _ k h = absurd k
 
 -- ALONG A LOG
 
 recall_so : (o : Options) (log : List Entry) (who : Who) (u : Outcome) → IsRun o (Then (Told (notice who u)) ∷ log) → MildRecall u
 recall_so o log who (outcome.Word (word.Recalled c)) run = told_so o log who (outcome.Word (word.Recalled c)) run
+recall_so o log who (outcome.Word (word.Asks l request)) run = asked_plain o log who l request run
 recall_so o log who (outcome.Word _) run = tt
 recall_so o log who _ run = tt
 
 -- what begins for a consumer is the plan that serves it
 pub start_serves : (o : Options) (older : List Entry) (n t : ℕ) (p : Procedure) → IsRun o (Then (Starts (Consumer n t 0) p) ∷ older) →
     (w : Ways) × (p ≡ procedure.Serve w n)
-start_serves o older n t p run = starts_so o older (Consumer n t 0) p run
+start_serves o older n t p run = elim (starts_so o older (Consumer n t 0) p run) [
+  | inl k ↦ (k.1, k.2)
+  | inr k ↦ absurd (let some = k.0 in omega (arith, some))
+]
 
 -- what it does first is nothing, and then what it is told leads to
 module _ (o : Options) (n t : ℕ) where
@@ -127,15 +138,15 @@ if_plain : (b : Bool) (w : Word) → NoFlowIn (Some w) → NoFlowIn (word_if b w
 if_plain true w h = h
 if_plain false w h = tt
 
-frame_plain : (l : ℕ) (r : Reply) (m : Member) → NoFlowIn (word_of_frame l r m)
-frame_plain l r m =
+frame_plain : (now l : ℕ) (r : Reply) (m : Member) → NoFlowIn (word_of_frame now l r m)
+frame_plain now l r m =
     cond_so NoFlowIn (is_body 9 r.content.body) _ _ (if_plain _ word.Due tt)
     (cond_so NoFlowIn (is_body 27 r.content.body) _ _ (if_plain _ (word.TopicEnded l) tt)
     (cond_so NoFlowIn (is_body 16 r.content.body) _ _ (if_plain _ word.Lost tt) tt))
 
-heard_plain : (l : ℕ) (a : Arrival) (m : Member) → NoFlowIn (word_of l a m)
-heard_plain l (arrivals.Gives number reply) m = cond_so NoFlowIn (m.seen.number == number) _ _ (frame_plain l reply m) tt
-heard_plain l _ m = tt
+heard_plain : (now l : ℕ) (a : Arrival) (m : Member) → NoFlowIn (word_of now l a m)
+heard_plain now l (arrivals.Gives number reply) m = cond_so NoFlowIn (m.seen.number == number) _ _ (frame_plain now l reply m) tt
+heard_plain now l _ m = tt
 
 loss_plain : (l : ℕ) (cause : Option Fault) (m : Member) → NoFlowIn (word_of_loss l cause m)
 loss_plain l None m = tt
@@ -151,11 +162,13 @@ takes_so : (o : Options) (n t l p : ℕ) (e : Entry) (older : List Entry) → Ca
     TakesSo o n t l p e older
 takes_so o n t l p e older (inl ((OfConsumer TakeFlow), is, said)) = (is, said)
 takes_so o n t l p e older (inl (action, is, said)) = absurd said
-takes_so o n t l p e older (inr (inl (k, u, m, is, serves, h))) = absurd (no_flow l p _ (heard_plain k _ m) h)
+takes_so o n t l p e older (inr (inl (k, u, m, is, serves, h))) = absurd (no_flow l p _ (heard_plain _ k _ m) h)
 takes_so o n t l p e older (inr (inr (inl (k, u, end, m, is, serves, h)))) = absurd (no_flow l p _ (loss_plain k _ m) h)
 takes_so o n t l p e older (inr (inr (inr (inl (k, u, other, request, m, is, serves, h))))) = absurd (no_flow l p _ (if_plain _ word.Over tt) h)
 takes_so o n t l p e older (inr (inr (inr (inr (inl (q, k)))))) = absurd cc
-takes_so o n t l p e older (inr (inr (inr (inr (inr (q, k)))))) = absurd cc
+takes_so o n t l p e older (inr (inr (inr (inr (inr (inl (q, k))))))) = absurd cc
+takes_so o n t l p e older (inr (inr (inr (inr (inr (inr (inl (q, k)))))))) = absurd cc
+takes_so o n t l p e older (inr (inr (inr (inr (inr (inr (inr (j, request, q, k)))))))) = absurd cc
 
 abbrev IsTaken : Options → List Entry → (n t l m p : ℕ) → Type 0
 IsTaken o log n t l m p = (older : List Entry) × (m ≡ n) × (log ≡ Then (Told (notice (Consumer n t 0) (outcome.Word (word.Flow l p)))) ∷ older)
@@ -203,7 +216,7 @@ first_at o log a b e =
 
 pub flows_are_asked_lem : FlowsAreAsked
 flows_are_asked_lem o older n t l p run e =
-    let who : Who = Consumer n t in
+    let who : Who = Consumer n t 0 in
     let w = waits_then o older n t run in (
       first_at o older (Does who (OfConsumer TakeFlow)) (Told (notice who (outcome.Word (word.Flow l p)))) (ap (λ r. tells_word who (flow_said r)) e),
       first_at o (Then (Does who (OfConsumer TakeFlow)) ∷ older) (Told (notice who (outcome.Word (word.Flow l p)))) (Does who (Ask l (words.SendFlow n p)))

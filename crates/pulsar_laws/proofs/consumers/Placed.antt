@@ -123,6 +123,7 @@ flow_asks w n (service.Resuming s) l p q k r h = absurd cc
 flow_asks w n (service.Reviving j) l p q k r h = absurd cc
 flow_asks w n service.Failing l p q k r h = absurd cc
 flow_asks w n service.Closing l p q k r h = absurd cc
+flow_asks w n service.Redelivering l p q k r h = absurd cc
 
 server_asks : (b : Plan) (l p : ℕ) (q : Plan) (k : ℕ) (r : Words) → is_server b ≡ true → told b (outcome.Word (word.Flow l p)) ≡ Stays q (Ask k r) →
     is_taking b ≡ true
@@ -203,7 +204,7 @@ serve_rests w n p q is e h =
 starts_rest : (o : Options) (log : List Entry) (who : Who) (pr : Procedure) (n t : ℕ) (q : Plan) → IsRun o (Then (Starts who pr) ∷ log) →
     is_same (Consumer n t 0) who ≡ true → stays (begins pr) ≡ Some q → is_taking q ≡ true → ⊥
 starts_rest o log who pr n t q run e is h =
-    let s : Consumer n t ≡ who = same_who (Consumer n t 0) who e in
+    let s : Consumer n t 0 ≡ who = same_who (Consumer n t 0) who e in
     let k = start_serves o log n t pr (subst (λ w. IsRun o (Then (Starts w pr) ∷ log)) (sym s) run) in
     serve_rests k.0 n pr q k.1 is h
 
@@ -213,13 +214,13 @@ told_run o log n t m run was = λ p stood h. elim (cases_Bool (is_same (Consumer
   | inr e ↦ other p e (rw e at stood) h
 ]
   where
-    own : (p : Plan) → Consumer n t ≡ m.who → stays_some (told_some ((view o log).stand (Consumer n t 0)) m.outcome) ≡ Some p → is_taking p ≡ true →
+    own : (p : Plan) → Consumer n t 0 ≡ m.who → stays_some (told_some ((view o log).stand (Consumer n t 0)) m.outcome) ≡ Some p → is_taking p ≡ true →
         Takes o (Then (Told m) ∷ log) n t
     own p s is h =
         let same : Told (notice (Consumer n t 0) m.outcome) ≡ Told m = ap (λ w. Told (notice w m.outcome)) s in
         subst (λ x. Takes o (Then x ∷ log) n t) same
         (told_takes o log n t was m.outcome ((view o log).stand (Consumer n t 0)) p (run.1 ∙ ap Some (sym same)) refl
-        (λ q stood. server_stands o log n t q run.0 stood) is h)
+        (λ q stood. server_stands o log n t 0 q run.0 stood) is h)
 
     other : (p : Plan) → is_same (Consumer n t 0) m.who ≡ false → (view o log).stand (Consumer n t 0) ≡ Some p → is_taking p ≡ true →
         Takes o (Then (Told m) ∷ log) n t
@@ -228,7 +229,7 @@ told_run o log n t m run was = λ p stood h. elim (cases_Bool (is_same (Consumer
       | inr k ↦
           (let f : first (agenda o (Then (Does (Consumer n t 0) (OfConsumer TakeFlow)) ∷ k.0)) ≡ Some (Told m) = subst (λ x. first (agenda o x)
           ≡ Some (Told m)) k.1 run.1 in
-          let g : m.who ≡ Consumer n t = some_is (ap heard (some_is (sym f ∙ told_flow o k.0 n t))) in
+          let g : m.who ≡ Consumer n t 0 = some_is (ap heard (some_is (sym f ∙ told_flow o k.0 n t))) in
           let d : true ≡ false = sym (ap (is_same (Consumer n t 0)) g ∙ same_self (Consumer n t 0)) ∙ e in
           absurd cc)
     ]

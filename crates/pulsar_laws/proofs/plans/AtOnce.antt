@@ -48,6 +48,7 @@ GivenBy v action n = GrantsSo n action v
 abbrev pub SaysSo : View → Action → Outcome → Type 0
 SaysSo v action (outcome.Granted n) = GivenBy v action n
 SaysSo v action (outcome.OfMulti x) = MultiSaysSo x action v
+SaysSo v (OfMulti m ask) (outcome.Word w) = ⊥
 SaysSo v action _ = Unit {0}
 
 abbrev pub GivesSo : View → Action → Act → Type 0

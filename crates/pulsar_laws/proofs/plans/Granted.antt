@@ -1,5 +1,5 @@
 -- What plans do comes right behind what leads to it, and numbers, commands and batches that they are granted right behind what they do.
-use Rattle.std.proofs.Common.{◌≡◌, ◌⊎◌, inl, inr, ◌∙◌, sym, ap, subst, ℕ, List, [], ◌∷◌, ◌++◌, refl, map, drop, Bool, true, false, ◌&&◌, cond, Option, Some, None}
+use Rattle.std.proofs.Common.{◌≡◌, ◌⊎◌, inl, inr, ◌∙◌, sym, ap, subst, ℕ, List, [], ◌∷◌, ◌++◌, refl, map, drop, not, Bool, true, false, ◌&&◌, cond, Option, Some, None}
 use Rattle.std.specs.Option.{option_map, option_to_list}
 use Rattle.pulsar_laws.proofs.ActWords.{Act, Action, Alarm, Answers, Ask, Batch, Comes, Does, Drains, End, Ends, FailConsumer, Flush, Idles, Notice, OfMulti, OfTopic, Outcome, Overdue, Part, PassTurn, Polls, Procedure, Reads, Retry, Revive, Rings, Shut, Starts, StopAll, Stops, Store, Tell, TellAll, ToLink, Told, Wake, Who, below, opens, turn_of, OfConsumer}
 use Rattle.pulsar_laws.proofs.PlanWords.{begins, closed_notice, News, Plan, Stays, told}
@@ -40,7 +40,7 @@ use Rattle.pulsar_client.proofs.Raising.{IsRaised, raises}
 use Rattle.pulsar_laws.proofs.plans.Led.{deeds_follow_lem}
 use Rattle.pulsar_laws.proofs.plans.Spots.{same_self}
 use Rattle.pulsar_laws.proofs.plans.Fitting.{Fits, all_settling, begins_fits, fits, is_said, is_settling, is_stop, says_so, settles_so, spot, told_fits}
-use Rattle.pulsar_laws.proofs.plans.Wording.{IsStoppedWord, IsWord, heard_words, is_stopped_word, is_word, is_worded, joins_words, lost_words, redelivered_words, stopped_words}
+use Rattle.pulsar_laws.proofs.plans.Wording.{IsStoppedWord, IsWord, heard_words, is_own_word, is_stopped_word, is_word, is_worded, joins_words, lost_words, redelivered_words, stopped_words}
 use Rattle.pulsar_acts.specs.Reading.{heard_on}
 
 -- what one is granted only by what it does; a turn, that a batch was cut, and that all is settled come by others too
@@ -49,6 +49,7 @@ is_grant (outcome.Granted (news.HasTurn version)) = false
 is_grant (outcome.Granted news.Ready) = false
 is_grant (outcome.Granted news.Done) = false
 is_grant (outcome.Granted n) = true
+is_grant (outcome.Word w) = is_own_word w
 is_grant _ = false
 
 -- that, or a turn
@@ -56,6 +57,7 @@ abbrev pub is_given : Outcome → Bool
 is_given (outcome.Granted news.Ready) = false
 is_given (outcome.Granted news.Done) = false
 is_given (outcome.Granted n) = true
+is_given (outcome.Word w) = is_own_word w
 is_given _ = false
 
 -- one is granted none of these, or a turn at most
@@ -69,6 +71,7 @@ free_turn : (u : Outcome) → is_given u ≡ false → is_grant u ≡ false
 free_turn (outcome.Granted news.Ready) h = refl
 free_turn (outcome.Granted news.Done) h = refl
 free_turn (outcome.Granted _) h = absurd cc
+free_turn (outcome.Word w) h = h
 free_turn _ h = refl
 
 abbrev grants_more : Act → Bool
@@ -83,6 +86,7 @@ IsPlain a = grants_more a ≡ false
 abbrev pub is_inner : Outcome → Bool
 is_inner (outcome.Granted news.Ready) = false
 is_inner (outcome.Granted n) = true
+is_inner (outcome.Word w) = is_own_word w
 is_inner (outcome.Parted ticket f) = true
 is_inner _ = false
 
@@ -158,7 +162,11 @@ readied_free n act row = each_either IsCaused (is_woken act row) (ready_notice n
 
 -- what is said of consumers
 word_free : (u : Outcome) → is_word u ≡ true → is_inner u ≡ false
-word_free (outcome.Word w) h = refl
+word_free (outcome.Word w) h = by (is_own_word w) h
+  where
+    by : (b : Bool) → not b ≡ true → b ≡ false
+    by true k = absurd cc
+    by false k = refl
 word_free u h = absurd cc
 
 words_free : (ns : List Notice) → Each IsWord ns → Each IsCaused ns
@@ -215,6 +223,7 @@ inner_free : (u : Outcome) → is_inner u ≡ false → is_given u ≡ false
 inner_free (outcome.Granted news.Ready) h = refl
 inner_free (outcome.Granted _) h = absurd cc
 inner_free (outcome.Parted ticket f) h = absurd cc
+inner_free (outcome.Word w) h = h
 inner_free _ h = refl
 
 pub causes_free : (v : View) (a : Act) → Each (Each IsFree) (causes v a)
@@ -336,6 +345,7 @@ multi_plain v m ask (outcome.Granted (news.Drew d)) h = absurd h
 multi_plain v m ask (outcome.Granted (news.Recalled c)) h = absurd h
 multi_plain v m ask (outcome.Granted (news.Numbered n)) h = absurd h
 multi_plain v m ask (outcome.Granted (news.HasBatch items)) h = absurd h
+multi_plain v m ask (outcome.Word w) h = absurd h
 multi_plain v m ask _ h = refl
 
 -- it is told no more than that

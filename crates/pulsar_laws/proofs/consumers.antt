@@ -4,6 +4,8 @@ pub mod Lone
 pub mod Polls
 pub mod Ended
 pub mod Acks
+pub mod Copies
+pub mod Licensed
 pub mod Flows
 pub mod Reached
 pub mod Riding

@@ -22,7 +22,7 @@ use Rattle.pulsar_laws.proofs.multis.Wanting.{NeverAsks, never_next}
 use Rattle.pulsar_laws.proofs.Cases.{none_some}
 use Rattle.pulsar_outgoing.specs.declared.multi_topic.MultiAsk.TheVariants.{TakeTurn as TakeMultiTurn}
 use Rattle.pulsar_outgoing.specs.declared.multi_topic.MultiSaid.{MultiSaid}
-use Rattle.pulsar_outgoing.specs.declared.multi_topic.MultiSaid.TheVariants.{Absent, Done, Handed, HasTurn, Removed}
+use Rattle.pulsar_outgoing.specs.declared.multi_topic.MultiSaid.TheVariants as said
 use Rattle.pulsar_outgoing.specs.declared.multi_topic.Taker.{Taker}
 use Rattle.pulsar_producer_table.specs.Takers.{who_at, who_of}
 use Rattle.pulsar_producer_table.specs.Producers.{stored_at}
@@ -268,27 +268,27 @@ no_multi : (x : MultiSaid) (a : Action) (v : View) → is_idle a ≡ true → Mu
 no_multi x Rest v h k = no_rest x k
   where
     no_rest : (x : MultiSaid) → MultiSaysSo x Rest v → ⊥
-    no_rest HasTurn k = k
-    no_rest (Handed given) k = k
-    no_rest (Absent missing) k = k
-    no_rest (Removed numbers) k = k
-    no_rest Done k = k
+    no_rest said.HasTurn k = k
+    no_rest (said.Handed given) k = k
+    no_rest (said.Absent missing) k = k
+    no_rest (said.Removed numbers) k = k
+    no_rest said.Done k = k
 no_multi x (OfTopic n (Store y)) v h k = no_store x k
   where
     no_store : (x : MultiSaid) → MultiSaysSo x (OfTopic n (Store y)) v → ⊥
-    no_store HasTurn k = k
-    no_store (Handed given) k = k
-    no_store (Absent missing) k = k
-    no_store (Removed numbers) k = k
-    no_store Done k = k
+    no_store said.HasTurn k = k
+    no_store (said.Handed given) k = k
+    no_store (said.Absent missing) k = k
+    no_store (said.Removed numbers) k = k
+    no_store said.Done k = k
 no_multi x (Tell m) v h k = no_tell x k
   where
     no_tell : (x : MultiSaid) → MultiSaysSo x (Tell m) v → ⊥
-    no_tell HasTurn k = k
-    no_tell (Handed given) k = k
-    no_tell (Absent missing) k = k
-    no_tell (Removed numbers) k = k
-    no_tell Done k = k
+    no_tell said.HasTurn k = k
+    no_tell (said.Handed given) k = k
+    no_tell (said.Absent missing) k = k
+    no_tell (said.Removed numbers) k = k
+    no_tell said.Done k = k
 no_multi x a v h k = absurd cc
 
 -- what comes from elsewhere than a link, a request or a moment

@@ -20,33 +20,34 @@ use Rattle.pulsar_calls.specs.Parts.{outcome_at, outcomes_of, sent_from}
 use Rattle.pulsar_calls.specs.declared.act.Makes.TheVariants.{Nothing}
 use Rattle.pulsar_calls.specs.declared.act.Outcome.TheVariants as outcome
 use Rattle.pulsar_calls.specs.declared.act.Procedure.TheVariants as procedure
-use Rattle.pulsar_plans.specs.declared.plan.Plan.TheVariants.{Sending}
+use Rattle.pulsar_plans.specs.declared.plan.Plan.TheVariants.{Copying, MultiSending, Sending}
 use Rattle.pulsar_acts.specs.Run.{Rests}
 use Rattle.pulsar_requests.proofs.Awaiting.{is_at-eqb}
 use Rattle.pulsar_laws.proofs.Cases.{none_some, some_is}
-use Rattle.pulsar_laws.proofs.Lists.{in_append, in_each}
+use Rattle.pulsar_laws.proofs.Lists.{in_append, in_each, in_left, in_right}
 use Rattle.pulsar_laws.proofs.calls.Caused.{outcomes_are_caused_lem}
 use Rattle.pulsar_laws.proofs.calls.Gathered.{GatherTold, parts_are_gathered_from}
 use Rattle.pulsar_laws.proofs.calls.Once.{ends_once_lem}
 use Rattle.pulsar_laws.proofs.calls.Same.{same_self}
 use Rattle.pulsar_laws.proofs.calls.Telling.{no_tell, tells_own}
-use Rattle.pulsar_laws.proofs.links.Receipts.{acts_begun, count_behind, run_behind, split_in, started_behind}
+use Rattle.pulsar_laws.proofs.links.Receipts.{acts_begun, count_behind, run_behind, split_in}
 use Rattle.pulsar_laws.proofs.plans.AtOnce.{GivenBy}
-use Rattle.pulsar_plans.proofs.Arcs.{Arc, Begun, batches_go, begins_leaving, begins_send, begins_storing, begun_arc, builds_on, part_fails, part_halts, part_sends, part_stores, part_tells, reports_on, sends, stored_rests, stores, told_arc}
+use Rattle.pulsar_plans.proofs.Arcs.{Arc, Begun, batches_go, begins_leaving, begins_send, begins_storing, begun_arc, builds_on, copies_go, multi_goes, multi_halts, multi_leaves, multi_sends, multi_stores, part_fails, part_halts, part_sends, part_stores, part_tells, reports_on, sends, stored_rests, stores, told_arc}
 use Rattle.pulsar_laws.proofs.plans.Batchers.{batcher_does}
-use Rattle.pulsar_laws.proofs.plans.Consuming.{is_modest}
-use Rattle.pulsar_laws.proofs.plans.Fitting.{is_settling}
-use Rattle.pulsar_laws.proofs.plans.Follow.{plans_follow_lem, same_is}
-use Rattle.pulsar_laws.proofs.plans.Granted.{BeginsSo, IsLedSo, does_from, granted_by, grants_given, tell_settling}
+use Rattle.pulsar_laws.proofs.plans.Consuming.{is_discreet}
+use Rattle.pulsar_laws.proofs.plans.Fitting.{is_settling, stores_so}
+use Rattle.pulsar_laws.proofs.plans.Follow.{along, course_more, deed_after, first_deed, follows_run, plans_follow_lem, same_is}
+use Rattle.pulsar_laws.proofs.plans.Granted.{BeginsSo, IsLedSo, does_fit, does_from, granted_by, grants_given, tell_settling}
+use Rattle.pulsar_plans.specs.Plan.{multi_action_of}
+use Rattle.pulsar_plans.specs.declared.copying.CopyState.TheVariants as copy
 use Rattle.pulsar_laws.proofs.plans.Parted.{step_behind}
 use Rattle.pulsar_producer.proofs.Arcs.{SendArc, queued, sent_rests}
 use Rattle.pulsar_laws.proofs.plans.Servers.{server_does}
-use Rattle.pulsar_laws.proofs.plans.Sharing.{batch_mute, build_mute, is_tell, send_mute}
+use Rattle.pulsar_laws.proofs.plans.Sharing.{batch_mute, build_mute, copy_mute, is_tell, multi_mute, send_mute}
 use Rattle.pulsar_laws.proofs.plans.Standing.{moves, run_older, stands_so, stood_begun}
-use Rattle.pulsar_laws.proofs.plans.Stores.{stored_at_once_lem}
 use Rattle.pulsar_laws.proofs.producers.InTurn.{not_begun, stand_starts, stand_told}
 use Rattle.pulsar_laws.proofs.producers.OnceSent.{few_run}
-use Rattle.pulsar_laws.specs.Laws.{Acted, course, deeds, deed_of, outcomes}
+use Rattle.pulsar_laws.specs.Laws.{Acted, Deed as Deed', course, deeds, deed_of, outcomes}
 use Rattle.pulsar_laws.specs.PartLaws.{PartSo, PartsAreReported, PartsSo, given_times, some_failed, stores_by}
 use Rattle.pulsar_laws.specs.ProducerLaws.{asks_at, asks_in, asks_send, is_queued, queued_times, queues_at}
 
@@ -96,6 +97,11 @@ arc_reports (part_tells q d k b) = elim (to_sent k b) [ inl x ↦ inl x | inr x 
 arc_reports part_fails = refl
 arc_reports (part_halts b) = tt
 arc_reports part_stores = inr (inr refl)
+arc_reports (multi_goes {w} {m} {share} {s} {q} {u} d k) =
+    mute_so (MultiSending w m share s) u (MultiSending w m share q) (multi_action_of m d) (multi_mute m k)
+arc_reports (multi_leaves k) = refl
+arc_reports (multi_halts b) = tt
+arc_reports (copies_go {w} {t} {s} {q} {u} {a} k) = mute_so (Copying w t s) u (Copying w t q) a (copy_mute k)
 arc_reports _ = tt
 
 -- one that begins so was refused
@@ -120,6 +126,7 @@ and_false false = refl
 arc_unsent : {p q : Plan} {u : Outcome} {a : Action} → Arc p u q a → is_sent_part q ≡ false
 arc_unsent (sends {q} d k) = and_false (is_sent_send q)
 arc_unsent (part_sends d k b) = ap (λ z. z && true) b
+arc_unsent (multi_sends k) = refl
 arc_unsent _ = refl
 
 begun_unsent : {p : Procedure} {q : Plan} {a : Action} → Begun p q a → is_sent_part q ≡ false
@@ -138,6 +145,7 @@ is_before (Sending w e None s) = false
 is_before (Reporting w e) = false
 is_before (Storing share) = false
 is_before Stored = false
+is_before (Copying w t s) = false
 is_before _ = true
 
 abbrev is_before_at : Option Plan → Bool
@@ -150,6 +158,7 @@ arc_before reports_on h = absurd cc
 arc_before stores h = absurd cc
 arc_before part_stores h = absurd cc
 arc_before stored_rests h = absurd cc
+arc_before (copies_go k) h = absurd cc
 arc_before _ h = refl
 
 abbrev stays_before : PlanTransition → Bool
@@ -159,6 +168,7 @@ stays_before (Gives v) = false
 queued_over : (p : Plan) (u : Outcome) → (is_queued u && asks_send (Some p)) ≡ true → stays_before (told p u) ≡ false
 queued_over (Sending w e None (send.Asked k)) outcome.Queued h = refl
 queued_over (Sending w e (Some share) (send.Asked k)) outcome.Queued h = refl
+queued_over (Copying w t (copy.Sending e (send.Asked k))) outcome.Queued h = refl
 queued_over p outcome.Queued h = absurd cc
 queued_over p u h = absurd cc
 
@@ -173,11 +183,9 @@ module _ (o : Options) (u : ℕ) where
   storing_at : (log : List Entry) (n : ℕ) (x : EntryValues) → IsRun o (Then (Does (Call u) (OfTopic n (Store x))) ∷ log) →
       (share : Option Share) × ((view o log).stand (Call u) ≡ Some (Storing share))
   storing_at log n x run =
-      let k = stored_at_once_lem o log u n x run in (
-        k.0,
-        subst (λ l. (view o l).stand (Call u) ≡ Some (Storing k.0)) (sym k.2)
-            (stand_starts o k.1 u (procedure.Store n k.0 x) (Storing k.0) (OfTopic n (Store x)) refl),
-      )
+      let k = does_fit o log (Call u) (OfTopic n (Store x)) refl run in
+      let s = stores_so k.0 n x k.1 in
+      (s.0, k.2 ∙ ap Some s.1)
 
   -- another entry gives nothing away, where no message is stored by one that stands so
   same_given : (e : Entry) (log : List Entry) → moves (Call u) e ≡ false → IsRun o (e ∷ log) →
@@ -388,31 +396,104 @@ module _ (o : Options) (u : ℕ) where
         absurd (no_queued (view o k.older) k.action (grants_given o older (notice (Call u) (outcome.Granted news.Queued)) k news.Queued refl)))
   ]
 
-  -- one that stands so began as a message to store
-  arc_unstored : {p q : Plan} {x : Outcome} {a : Action} → Arc p x q a → is_storing q ≡ true → ⊥
-  arc_unstored stores h = absurd cc
-  arc_unstored _ h = absurd cc
+  -- where one comes to stand so it stores something
+  abbrev StoresIt : Action → Type 0
+  StoresIt a = (n : ℕ) × (x : EntryValues) × (a ≡ OfTopic n (Store x))
 
-  begun_storing : {p : Procedure} {q : Plan} {a : Action} → Begun p q a → is_storing q ≡ true →
-      (n : ℕ) × (share : Option Share) × (x : EntryValues) × (p ≡ procedure.Store n share x)
-  begun_storing (begins_storing {n} {share} {x}) h = (n, share, x, refl)
+  arc_storing : {p q : Plan} {x : Outcome} {a : Action} → Arc p x q a → is_storing q ≡ true → StoresIt a
+  arc_storing (multi_stores {n} {x} k) h = (n, x, refl)
+  arc_storing stores h = absurd cc
+  arc_storing _ h = absurd cc
+
+  begun_storing : {p : Procedure} {q : Plan} {a : Action} → Begun p q a → is_storing q ≡ true → StoresIt a
+  begun_storing (begins_storing {n} {share} {x}) h = (n, x, refl)
   begun_storing _ h = absurd cc
 
-  abbrev IsStore : List Entry → Type 0
-  IsStore log = (n : ℕ) × (share : Option Share) × (x : EntryValues) × (started (Call u) log ≡ Some (procedure.Store n share x))
+  -- so the course of its plan has that
+  abbrev HasStore : Procedure → List Outcome → Type 0
+  HasStore p os = (n : ℕ) × (x : EntryValues) × In (Acted (OfTopic n (Store x))) (course (begins p) os)
 
-  stored_as : (log : List Entry) (p : Plan) → (view o log).stand (Call u) ≡ Some p → is_storing p ≡ true → IsStore log
-  stored_as log p h =
-      stands_so o (Call u) (λ log. Unit {0}) (λ e log k. tt) (λ log q. is_storing q ≡ true → IsStore log) (λ e log q m r s k t. kept e log m (k t))
-      (λ log p q a r e t.
-      (let k = begun_storing {p = p} (begun_arc e) t in
-      (k.0, k.1, k.2, ap (λ b. cond b (Some p) (started (Call u) log)) (same_self (Call u)) ∙ ap Some k.3)))
-      (λ log b x q a r s k e t. absurd (arc_unstored {p = b} {x = x} (told_arc e) t)) log p tt h
+  abbrev IsStore : List Entry → Type 0
+  IsStore log = (p : Procedure) × (started (Call u) log ≡ Some p) × HasStore p (outcomes (Call u) log)
+
+  begins_store : (p : Procedure) (q : Plan) (a : Action) → begins p ≡ Stays q a → StoresIt a → HasStore p []
+  begins_store p q a e k =
+      let is : OfTopic k.0 (Store k.1) ≡ a = sym k.2 in
+      let first : course (Stays q (OfTopic k.0 (Store k.1))) [] ≡ course (begins p) [] = ap (λ x. course (Stays q x) []) is ∙ ap (λ t. course t []) (sym e) in
+      (k.0, k.1, subst (In (Acted (OfTopic k.0 (Store k.1)))) first (inl refl))
+
+  more_store : (p : Procedure) (os : List Outcome) (y : Outcome) → HasStore p os → HasStore p (os ++ y ∷ [])
+  more_store p os y k =
+      let deed : Deed' = Acted (OfTopic k.0 (Store k.1)) in
+      (k.0, k.1, subst (In deed) (sym (course_more (begins p) os y)) (in_left deed (course (begins p) os) (deed_after (along (begins p) os) y) k.2))
+
+  led_store : (p : Procedure) (os : List Outcome) (b : Plan) (y : Outcome) (q : Plan) (a : Action) → stays (along (begins p) os) ≡ Some b →
+      told b y ≡ Stays q a → StoresIt a → HasStore p (os ++ y ∷ [])
+  led_store p os b y q a s e k =
+      let deed : Deed' = Acted (OfTopic k.0 (Store k.1)) in
+      let last : deed_after (along (begins p) os) y ≡ deed ∷ [] = after_it (along (begins p) os) s in
+      (k.0, k.1, subst (In deed) (sym (course_more (begins p) os y))
+      (in_right deed (course (begins p) os) (deed_after (along (begins p) os) y) (subst (In deed) (sym last) (inl refl))))
     where
-      kept : (e : Entry) (log : List Entry) → moves (Call u) e ≡ false → IsStore log → IsStore (e ∷ log)
-      kept (Then (Starts who q)) log m k = (k.0, k.1, k.2, ap (λ b. cond b (Some q) (started (Call u) log)) m ∙ k.3)
-      kept (Then a) log m k = k
-      kept (Begins e) log m k = k
+      after_it : (t : PlanTransition) → stays t ≡ Some b → deed_after t y ≡ Acted (OfTopic k.0 (Store k.1)) ∷ []
+      after_it (Gives v) h = absurd (none_some h)
+      after_it (Stays plan action) h = ap (λ x. first_deed (told x y)) (some_is h) ∙ ap first_deed e ∙ ap (λ x. first_deed (Stays q x)) k.2
+
+  same_outcomes : (e : Entry) (log : List Entry) → moves (Call u) e ≡ false → outcomes (Call u) (e ∷ log) ≡ outcomes (Call u) log
+  same_outcomes (Begins e) log m = refl
+  same_outcomes (Then (Starts who p)) log m = ap (λ b. cond b [] (outcomes (Call u) log)) m
+  same_outcomes (Then (Told n)) log m = ap (λ b. cond b (outcomes (Call u) log ++ n.outcome ∷ []) (outcomes (Call u) log)) m
+  same_outcomes (Then a) log m = refl
+
+  same_start : (e : Entry) (log : List Entry) → moves (Call u) e ≡ false → started (Call u) (e ∷ log) ≡ started (Call u) log
+  same_start (Begins e) log m = refl
+  same_start (Then (Starts who p)) log m = ap (λ b. cond b (Some p) (started (Call u) log)) m
+  same_start (Then (Told n)) log m = refl
+  same_start (Then a) log m = refl
+
+  kept : (e : Entry) (log : List Entry) → moves (Call u) e ≡ false → IsStore log → IsStore (e ∷ log)
+  kept e log m k = (k.0, same_start e log m ∙ k.1, subst (HasStore k.0) (sym (same_outcomes e log m)) k.2)
+
+  -- one that is a store once is so later
+  store_more : (e : Entry) (log : List Entry) → IsRun o (e ∷ log) → 1 ≤ counted (start_of u) log → IsStore log → IsStore (e ∷ log)
+  store_more e log run b k = elim (cases_Bool (moves (Call u) e)) [ inl m ↦ moved e m run | inr m ↦ kept e log m k ]
+    where
+      moved : (e : Entry) → moves (Call u) e ≡ true → IsRun o (e ∷ log) → IsStore (e ∷ log)
+      moved (Then (Starts who p)) m run =
+          absurd (not_begun o log u p (subst (λ w. IsRun o (Then (Starts w p) ∷ log)) (sym (same_is (Call u) who m)) run) b)
+      moved (Then (Told n)) m run =
+          let os : List Outcome = outcomes (Call u) log in
+          let longer : os ++ n.outcome ∷ [] ≡ outcomes (Call u) (Then (Told n) ∷ log) = ap (λ c. cond c (os ++ n.outcome ∷ []) os) (sym m) in
+          (k.0, k.1, subst (HasStore k.0) longer (more_store k.0 os n.outcome k.2))
+      moved e m run = absurd cc
+
+  abbrev StandsSo : List Entry → Plan → Type 0
+  StandsSo log q = (p : Procedure) × (started (Call u) log ≡ Some p) × (is_storing q ≡ true → HasStore p (outcomes (Call u) log))
+
+  stored_as : (log : List Entry) (p : Plan) → IsRun o log → (view o log).stand (Call u) ≡ Some p → is_storing p ≡ true → IsStore log
+  stored_as log p run h storing =
+      let k = stands_so o (Call u) (IsRun o) (run_older o) StandsSo
+      (λ e log q m r s k. (k.0, same_start e log m ∙ k.1, λ t. subst (HasStore k.0) (sym (same_outcomes e log m)) (k.2 t))) begun led log p run h in
+      (k.0, k.1, k.2 storing)
+    where
+      begun : (log : List Entry) (p : Procedure) (q : Plan) (a : Action) → IsRun o (Then (Starts (Call u) p) ∷ log) → begins p ≡ Stays q a →
+          StandsSo (Then (Starts (Call u) p) ∷ log) q
+      begun log p q a r e = (
+        p,
+        ap (λ b. cond b (Some p) (started (Call u) log)) (same_self (Call u)),
+        λ t. subst (HasStore p) (ap (λ b. cond b [] (outcomes (Call u) log)) (sym (same_self (Call u))))
+            (begins_store p q a e (begun_storing {p = p} (begun_arc e) t)),
+      )
+
+      led : (log : List Entry) (b : Plan) (y : Outcome) (q : Plan) (a : Action) → IsRun o (Then (Told (notice (Call u) y)) ∷ log) →
+          (view o log).stand (Call u) ≡ Some b → StandsSo log b → told b y ≡ Stays q a → StandsSo (Then (Told (notice (Call u) y)) ∷ log) q
+      led log b y q a r s k e = (
+        k.0,
+        k.1,
+        λ t. subst (HasStore k.0) (ap (λ c. cond c (outcomes (Call u) log ++ y ∷ []) (outcomes (Call u) log)) (sym (same_self (Call u))))
+            (led_store k.0 (outcomes (Call u) log) b y q a (sym ((follows_run o log r.0).stands (Call u) k.0 k.1) ∙ s) e
+            (arc_storing {p = b} {x = y} (told_arc e) t)),
+      )
 
   deed_counted : (n : ℕ) (x : EntryValues) (log : List Entry) → In (Acted (OfTopic n (Store x))) (deeds (Call u) log) → 1 ≤ counted (stores_by u) log
   deed_counted n x [] i = absurd i
@@ -458,21 +539,18 @@ module _ (o : Options) (u : ℕ) where
 
   -- it is stored by then
   stored_is : (log : List Entry) → IsRun o log → Rests o log → IsStore log → 1 ≤ given_times o u log
-  stored_is log run rests (n, share, x, h) =
-      let d : deeds (Call u) log ≡ course (begins (procedure.Store n share x)) (outcomes (Call u) log) =
-      plans_follow_lem o log (Call u) (procedure.Store n share x) run rests h in
-      let i : In (Acted (OfTopic n (Store x))) (deeds (Call u) log) = subst (In (Acted (OfTopic n (Store x)))) (sym d) (begins_so (outcomes (Call u) log)) in
+  stored_is log run rests (p, h, (n, x, j)) =
+      let d : deeds (Call u) log ≡ course (begins p) (outcomes (Call u) log) = plans_follow_lem o log (Call u) p run rests h in
+      let i : In (Acted (OfTopic n (Store x))) (deeds (Call u) log) = subst (In (Acted (OfTopic n (Store x)))) (sym d) j in
       let k : 1 ≤ counted (stores_by u) log = deed_counted n x log i in
       omega (arith, k)
-    where
-      begins_so : (os : List Outcome) → In (Acted (OfTopic n (Store x))) (course (begins (procedure.Store n share x)) os)
-      begins_so [] = inl refl
-      begins_so (y ∷ os) = inl refl
 
-  -- one that is a store once is so later
   still_store : (newer older : List Entry) → IsRun o (newer ++ older) → 1 ≤ counted (start_of u) older → IsStore older → IsStore (newer ++ older)
-  still_store newer older run b (n, share, x, h) =
-      (n, share, x, started_behind u (procedure.Store n share x) newer older b (ends_once_lem o (newer ++ older) u run).0 ∙ h)
+  still_store [] older run b k = k
+  still_store (e ∷ newer) older run b k =
+      let r : IsRun o (newer ++ older) = run_older o e (newer ++ older) run in
+      let more : counted (start_of u) older ≤ counted (start_of u) (newer ++ older) = count_behind u newer older in
+      store_more e (newer ++ older) run (omega (arith, b, more)) (still_store newer older r b k)
 
   went_is : (newer old : List Entry) (t : ℕ) → IsRun o (newer ++ tell t u None ∷ old) → Rests o (newer ++ tell t u None ∷ old) →
       IsLedSo o old (Call u) (Tell (parting t u None)) → 1 ≤ given_times o u (newer ++ tell t u None ∷ old)
@@ -499,7 +577,8 @@ module _ (o : Options) (u : ℕ) where
           let new : List Entry = newer ++ tell t u None ∷ Then (Told (notice (Call u) l.outcome)) ∷ [] in
           let r : IsRun o (new ++ l.older) = subst (IsRun o) there run in
           subst (λ x. 1 ≤ given_times o u x) (sym there)
-          (stored_is (new ++ l.older) r (subst (Rests o) there rests) (still_store new l.older r b (stored_as l.older l.before l.stood kept)))
+          (stored_is (new ++ l.older) r (subst (Rests o) there rests)
+          (still_store new l.older r b (stored_as l.older l.before (run_behind o new l.older r) l.stood kept)))
 
 -- WHAT IS TOLD OF A PART
 
@@ -544,7 +623,8 @@ told_by o log t k f run =
         let x = tells_own o older w (parting t k f) r in
         let it : k ≡ w = x.ticket ∙ x.own.0 in
         (newer, older, there ∙ ap (λ y. newer ++ Then (Does (Call y) (Tell (parting t k f))) ∷ older) (sym it))
-    by newer older (Consumer n v key) there r = let d : is_modest (Tell (parting t k f)) ≡ true = server_does o older n v (Tell (parting t k f)) r in absurd cc
+    by newer older (Consumer n v key) there r =
+        let d : is_discreet (Tell (parting t k f)) ≡ true = server_does o older n v key (Tell (parting t k f)) r in absurd cc
     by newer older (Producer m) there r =
         let d = batcher_does o older m (Tell (parting t k f)) r in absurd (no_tell d.0 (parting t k f) d.1)
 

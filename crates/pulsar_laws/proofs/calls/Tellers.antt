@@ -9,7 +9,7 @@ use Rattle.pulsar_producer.specs.News.{News}
 use Rattle.pulsar_outgoing.specs.declared.news.News.TheVariants as news
 use Rattle.pulsar_calls.specs.declared.act.Outcome.TheVariants as outcome
 use Rattle.pulsar_calls.specs.declared.act.Procedure.TheVariants as procedure
-use Rattle.pulsar_plans.specs.declared.plan.Plan.TheVariants.{Sending}
+use Rattle.pulsar_plans.specs.declared.plan.Plan.TheVariants.{Copying, MultiSending, Sending}
 use Rattle.pulsar_laws.specs.Laws.{FailsSo, outcomes}
 use Rattle.pulsar_laws.specs.CauseLaws.{Cause, IsToldByBatch, IsToldByPart, OutcomesAreCaused, SaysOfItself, is_stopped, is_taken, share_in}
 use Rattle.pulsar_laws.proofs.calls.Caused.{outcomes_are_caused_lem}
@@ -18,18 +18,19 @@ use Rattle.pulsar_laws.proofs.calls.Causes.{Cause as Told', IsToldBy}
 use Rattle.pulsar_laws.proofs.calls.Same.{same_self}
 use Rattle.pulsar_laws.proofs.calls.Sources.{step_runs, step_some}
 use Rattle.pulsar_laws.proofs.calls.Telling.{no_tell}
-use Rattle.pulsar_plans.proofs.Arcs.{Arc, Begun, batches_go, begins_leaving, begins_send, begins_storing, begun_arc, builds_on, part_fails, part_halts, part_sends, part_stores, part_tells, sends, told_arc}
+use Rattle.pulsar_plans.proofs.Arcs.{Arc, Begun, batches_go, begins_leaving, begins_multi_send, begins_send, begins_storing, begun_arc, builds_on, copies_go, multi_goes, multi_halts, multi_leaves, multi_sends, multi_stores, part_fails, part_halts, part_sends, part_stores, part_tells, sends, told_arc}
 use Rattle.pulsar_laws.proofs.plans.Batchers.{batcher_does}
-use Rattle.pulsar_laws.proofs.plans.Consuming.{is_modest}
+use Rattle.pulsar_laws.proofs.plans.Consuming.{is_discreet}
+use Rattle.pulsar_plans.specs.Plan.{multi_action_of}
 use Rattle.pulsar_laws.proofs.plans.Failing.{begins_holds, leaves_so}
 use Rattle.pulsar_laws.proofs.plans.Failures.{outcomes_proper, started_made}
 use Rattle.pulsar_laws.proofs.plans.Fitting.{is_settling}
 use Rattle.pulsar_laws.proofs.plans.Follow.{follows_run}
 use Rattle.pulsar_laws.proofs.plans.Granted.{BeginsSo, IsLedSo, does_from, in_each, tell_said, tell_settling}
-use Rattle.pulsar_laws.proofs.plans.Parted.{is_store, parts_run}
+use Rattle.pulsar_laws.proofs.plans.Parted.{parts_run}
 use Rattle.pulsar_producer.proofs.Arcs.{SendArc, queued, sent_rests}
 use Rattle.pulsar_laws.proofs.plans.Servers.{server_does}
-use Rattle.pulsar_laws.proofs.plans.Sharing.{batch_mute, build_mute, is_tell, send_mute}
+use Rattle.pulsar_laws.proofs.plans.Sharing.{batch_mute, build_mute, copy_mute, is_tell, multi_mute, send_mute}
 use Rattle.pulsar_laws.proofs.plans.Standing.{moves, stands_so}
 use Rattle.pulsar_laws.proofs.plans.Takers.{told_by_own}
 use Rattle.pulsar_laws.proofs.producers.BatchTold.{members_are_told_lem}
@@ -40,14 +41,12 @@ use Rattle.pulsar_producer.specs.declared.deed.Deed.{Deed}
 
 -- WHERE A PART STANDS
 
-abbrev is_send : Procedure → Bool
-is_send (procedure.Send w e share m) = true
-is_send _ = false
-
--- it goes on as its procedure, until it has told its call
+-- it goes on as its procedure, until it has told its call; what that is told then shows that it is taken
 abbrev PartOf : Procedure → Plan → Type 0
-PartOf p (Sending w e (Some s) x) = (share_in p ≡ Some s) × (is_send p ≡ true) × (is_sent_send x ≡ false)
-PartOf p (Storing (Some s)) = (share_in p ≡ Some s) × (is_store p ≡ true)
+PartOf p (Sending w e (Some s) x) = (share_in p ≡ Some s) × (is_taken p outcome.Queued ≡ true) × (is_sent_send x ≡ false)
+PartOf p (Storing (Some s)) = (share_in p ≡ Some s) × (is_taken p (outcome.Granted news.Done) ≡ true)
+PartOf p (MultiSending w m (Some s) x) =
+    (share_in p ≡ Some s) × (is_taken p outcome.Queued ≡ true) × (is_taken p (outcome.Granted news.Done) ≡ true)
 PartOf p _ = Unit {0}
 
 begun_part : {p : Procedure} {q : Plan} {a : Action} → Begun p q a → PartOf p q
@@ -55,10 +54,18 @@ begun_part (begins_send {share = None}) = tt
 begun_part (begins_send {share = Some s}) = (refl, refl, refl)
 begun_part (begins_storing {share = None}) = tt
 begun_part (begins_storing {share = Some s}) = (refl, refl)
+begun_part (begins_multi_send {share = None}) = tt
+begun_part (begins_multi_send {share = Some s}) = (refl, refl, refl)
 begun_part _ = tt
 
 arc_part : (p : Procedure) {x q : Plan} {u : Outcome} {a : Action} → Arc x u q a → PartOf p x → PartOf p q
 arc_part p (part_sends d k b) h = (h.0, h.1, b)
+arc_part p (multi_goes {share = None} d k) h = tt
+arc_part p (multi_goes {share = Some s} d k) h = h
+arc_part p (multi_sends {share = None} k) h = tt
+arc_part p (multi_sends {share = Some s} k) h = (h.0, h.1, refl)
+arc_part p (multi_stores {share = None} k) h = tt
+arc_part p (multi_stores {share = Some s} k) h = (h.0, h.2)
 arc_part p _ h = tt
 
 abbrev PartSo : Who → List Entry → Plan → Type 0
@@ -108,13 +115,6 @@ queued_so outcome.InLine h e = absurd cc
 queued_so (outcome.Granted n) h e = (let f : true ≡ false = ap (λ y. is_odd (outcome.Granted y)) (sym e) ∙ h in absurd cc)
 queued_so u h e = absurd cc
 
-send_taken : (p : Procedure) (u : Outcome) → is_send p ≡ true → u ≡ outcome.Queued → is_taken p u ≡ true
-send_taken (procedure.Send w e share m) u h is = ap (is_taken (procedure.Send w e share m)) is
-send_taken _ u h is = absurd cc
-
-store_taken : (p : Procedure) → is_store p ≡ true → is_taken p (outcome.Granted news.Done) ≡ true
-store_taken (procedure.Store n share e) h = refl
-store_taken _ h = absurd cc
 
 stopped_so : (u : Outcome) → overrides u ≡ true → is_stopped u ≡ true
 stopped_so outcome.Cut h = refl
@@ -125,10 +125,15 @@ arc_tells : (p : Procedure) {x q : Plan} {y : Outcome} {a : Action} → Arc x y 
 arc_tells p (builds_on {w} {o} {b} {q} {u} d k) h n = untold p u (Producing w o q) (action_of d) (build_mute k)
 arc_tells p (sends {w} {e} {s} {q} {u} d k) h n = untold p u (Sending w e None q) (action_of d) (send_mute k)
 arc_tells p (part_sends {w} {e} {h} {s} {q} {u} d k b) i n = untold p u (Sending w e (Some h) q) (action_of d) (send_mute k)
-arc_tells p (part_tells {w} {e} {h} {s} {u} q d k b) i n = (h, i.0, refl, (refl, send_taken p u i.1 (queued_so u n (sent_queued k b i.2))))
+arc_tells p (part_tells {w} {e} {h} {s} {u} q d k b) i n =
+    (h, i.0, refl, (refl, subst (λ y. is_taken p y ≡ true) (sym (queued_so u n (sent_queued k b i.2))) i.1))
 arc_tells p (part_fails {w} {e} {h}) i n = (h, i.0, refl, (refl, refl))
 arc_tells p (part_halts {w} {e} {h} {s} {u} b) i n = (h, i.0, refl, stopped_so u b)
-arc_tells p (part_stores {h}) i n = (h, i.0, refl, (refl, store_taken p i.1))
+arc_tells p (part_stores {h}) i n = (h, i.0, refl, (refl, i.1))
+arc_tells p (multi_goes {w} {m} {share} {s} {q} {u} d k) h n = untold p u (MultiSending w m share q) (multi_action_of m d) (multi_mute m k)
+arc_tells p (multi_leaves {w} {m} {h} k) i n = (h, i.0, refl, (refl, refl))
+arc_tells p (multi_halts {w} {m} {h} {s} {u} b) i n = (h, i.0, refl, stopped_so u b)
+arc_tells p (copies_go {w} {t} {s} {q} {u} {a} k) h n = untold p u (Copying w t q) a (copy_mute k)
 arc_tells p (batches_go {w} {e} {b} {q} {u} d k) h n = untold p u (Batching w e q) (action_of d) (batch_mute k)
 arc_tells p _ h n = tt
 
@@ -238,7 +243,7 @@ module _ (o : Options) (who : Who) (u : Outcome) (older : List Entry) where
 
   by_part : (other : Who) → IsRun o (Then (Does other (Tell it)) ∷ older) → IsToldByPart who u (Then (Does other (Tell it))) older
   by_part (Call t) run = by_call t run
-  by_part (Consumer n t key) run = (let f : is_modest (Tell it) ≡ true = server_does o older n t (Tell it) run in absurd cc)
+  by_part (Consumer n t key) run = (let f : is_discreet (Tell it) ≡ true = server_does o older n t key (Tell it) run in absurd cc)
   by_part (Producer n) run = let k = batcher_does o older n (Tell it) run in absurd (no_tell k.0 it k.1)
 
   -- A BATCH TELLS IT

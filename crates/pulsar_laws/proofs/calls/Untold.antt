@@ -211,7 +211,9 @@ lost_by o w e older (inr (inl h)) = inl h
 lost_by o w e older (inr (inr (inl h))) = inr h
 lost_by o w e older (inr (inr (inr (inl (l, t, other, request, m, is, serves, h))))) = absurd (not_over _ h)
 lost_by o w e older (inr (inr (inr (inr (inl (q, k)))))) = absurd cc
-lost_by o w e older (inr (inr (inr (inr (inr (q, k)))))) = absurd cc
+lost_by o w e older (inr (inr (inr (inr (inr (inl (q, k))))))) = absurd cc
+lost_by o w e older (inr (inr (inr (inr (inr (inr (inl (q, k)))))))) = absurd cc
+lost_by o w e older (inr (inr (inr (inr (inr (inr (inr (l, request, q, k)))))))) = absurd cc
 
 abbrev brings_entry : Entry → Bool
 brings_entry (Then a) = brings_one a
@@ -248,8 +250,9 @@ settled o log l seat places m run live is =
     lost_not : (w : Who) → arrival_at ((view o log).links.live l) ≡ arrivals.Settles → LostSo o w (Then (Comes (ToLink l Reads))) log → ⊥
     lost_not w arrival (inl (k, t, n, same, serves, h)) =
         let e : l ≡ k = cc in
-        let f : word_of k (arrival_at ((view o log).links.live k)) n ≡ None =
-        ap (λ x. word_of k (arrival_at ((view o log).links.live x)) n) (sym e) ∙ ap (λ x. word_of k x n) arrival in
+        let now : ℕ = (view o log).now in
+        let f : word_of now k (arrival_at ((view o log).links.live k)) n ≡ None =
+        ap (λ x. word_of now k (arrival_at ((view o log).links.live x)) n) (sym e) ∙ ap (λ x. word_of now k x n) arrival in
         none_some (sym f ∙ h)
     lost_not w arrival (inr (k, t, end, n, same, serves, h)) = absurd cc
 

@@ -21,8 +21,8 @@ use Rattle.pulsar_calls.specs.Who.{rank}
 use Rattle.pulsar_producer_table.specs.Multis.{Multis, all_changed, at, changed, made_by, made_changed}
 use Rattle.pulsar_producer_table.specs.Producers.{Producers, all_routed, called_on, names_in, opened_on, routed, sent_on, why_not, with_built}
 use Rattle.pulsar_acts.specs.View as seen
-use Rattle.pulsar_acts.specs.View.{multi_asked_of, multi_at, producers_left}
-use Rattle.pulsar_laws.proofs.ActWords.{Act, Answers, Asked, Calls, Comes, Does, Makes, OfMulti, Verdict, Who, lacks_tickets, shares}
+use Rattle.pulsar_acts.specs.View.{multi_asked_of, multi_at, producers_asked, producers_left}
+use Rattle.pulsar_laws.proofs.ActWords.{Act, Answers, Asked, Calls, Comes, ConsumerAsk, CopyFailed, Does, Makes, OfConsumer, OfMulti, Verdict, Who, lacks_tickets, shares}
 use Rattle.pulsar_laws.proofs.RunWords.{Begins, Entry, Options, Then, View, begun_same, may_call, producers_listed, view}
 use Rattle.pulsar_laws.proofs.Cases.{none_some, some_is}
 use Rattle.pulsar_laws.specs.MultiLaws.{MadeAs, MultisAlone, anew, done_to, is_same_multi, last_made, made_for, made_last, made_so}
@@ -148,6 +148,10 @@ left_multis (one.Call t) ps = refl
 left_multis (one.Consumer n t key) ps = refl
 left_multis (one.Producer n) ps = refl
 
+pub asked_multis : (who : Who) (ask : ConsumerAsk) (ps : Producers) → (producers_asked who ask ps).multis ≡ ps.multis
+asked_multis who CopyFailed ps = refl
+asked_multis who _ ps = refl
+
 -- one that is made begins anew
 abbrev pub made_row : Option MadeAs → Option Seen → Option Seen
 made_row None row = row
@@ -254,6 +258,7 @@ module _ (o : Options) (log : List Entry) (m : Multi) (k : (s : Seen) → multi_
   alone_then (Answers who verdict) s h = alone_answers who verdict s h
   alone_then (Does who (OfMulti n ask)) s h = alone_asked who n ask s h
   alone_then (Comes (Calls asked advice)) s h = k s (ap (at m) (sym (called_multis (view o log) asked advice)) ∙ h)
+  alone_then (Does who (OfConsumer ask)) s h = k s (ap (at m) (sym (asked_multis who ask (view o log).producers)) ∙ h)
   alone_then _ s h = k s h
 
 first_at : (m : Multi) (o : Options) (s : Seen) → multi_at (view o []) m ≡ Some s → AloneSo o [] m s

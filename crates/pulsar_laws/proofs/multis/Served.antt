@@ -18,10 +18,10 @@ use Rattle.pulsar_producer_table.specs.MultiAsks.{given, taken_by}
 use Rattle.pulsar_producer_table.specs.Multis.{all_changed, at, joining, next_on}
 use Rattle.pulsar_producer_table.specs.Takers.{taker_of}
 use Rattle.pulsar_acts.specs.View.{around_multi, multi_at}
-use Rattle.pulsar_laws.proofs.ActWords.{Act, Answers, Calls, Comes, Does, OfMulti, Verdict, Who}
+use Rattle.pulsar_laws.proofs.ActWords.{Act, Answers, Calls, Comes, Does, OfConsumer, OfMulti, Verdict, Who}
 use Rattle.pulsar_laws.proofs.RunWords.{Begins, Entry, Options, Then, begun_same, view}
 use Rattle.pulsar_laws.proofs.Cases.{none_some, some_is}
-use Rattle.pulsar_laws.proofs.multis.Alone.{answered_at, called_multis, made_row, multis_alone_lem, none_at, other_at, same_is_multi}
+use Rattle.pulsar_laws.proofs.multis.Alone.{answered_at, asked_multis, called_multis, made_row, multis_alone_lem, none_at, other_at, same_is_multi}
 use Rattle.pulsar_laws.specs.MultiLaws.{FirstComeFirstServed, MadeAs, anew, at_once_if, done_to, is_same_multi, last_made, made_for, made_last, served, wanted}
 
 -- WHAT ONE ASK BRINGS
@@ -193,6 +193,7 @@ module _ (o : Options) (log : List Entry) (m : Multi)
   counted_then (Answers who verdict) s made h is = counted_answers who verdict s made h is
   counted_then (Does who (OfMulti n ask)) s made h is = counted_asked who n ask s made h is
   counted_then (Comes (Calls asked advice)) s made h is = k s made (ap (at m) (sym (called_multis (view o log) asked advice)) ∙ h) is
+  counted_then (Does who (OfConsumer ask)) s made h is = k s made (ap (at m) (sym (asked_multis who ask (view o log).producers)) ∙ h) is
   counted_then _ s made h is = k s made h is
 
 counted : (o : Options) (log : List Entry) (m : Multi) (s : Seen) (made : MadeAs) → multi_at (view o log) m ≡ Some s → made_last m log ≡ Some made →

@@ -99,7 +99,7 @@ comes_none v w p k = none_due w (at_once v (Comes p)) (each_map IsQuiet NoDeed (
 
 -- COURSES
 
-abbrev first_deed : PlanTransition → List Deed
+abbrev pub first_deed : PlanTransition → List Deed
 first_deed (Stays plan action) = acted action
 first_deed (Gives verdict) = Answered verdict ∷ []
 
@@ -112,11 +112,11 @@ along (Gives verdict) os = Gives verdict
 along (Stays plan action) [] = Stays plan action
 along (Stays plan action) (o ∷ os) = along (told plan o) os
 
-abbrev deed_after : PlanTransition → Outcome → List Deed
+abbrev pub deed_after : PlanTransition → Outcome → List Deed
 deed_after (Gives verdict) o = []
 deed_after (Stays plan action) o = first_deed (told plan o)
 
-course_more : (t : PlanTransition) (os : List Outcome) (o : Outcome) → course t (os ++ o ∷ []) ≡ course t os ++ deed_after (along t os) o
+pub course_more : (t : PlanTransition) (os : List Outcome) (o : Outcome) → course t (os ++ o ∷ []) ≡ course t os ++ deed_after (along t os) o
 course_more (Gives verdict) os o = refl
 course_more (Stays plan action) [] o = ap (λ ds. acted action ++ ds) (course_nil (told plan o))
 course_more (Stays plan action) (x ∷ os) o =

@@ -3,7 +3,7 @@ use Rattle.std.proofs.Common.{◌≡◌, inl, inr, ◌∙◌, sym, ap, subst, �
 use Rattle.std.proofs.lemmas.Bool.{cases_Bool, eqb-true}
 use Rattle.pulsar_laws.proofs.ActWords.{Act, Call, Consumer, Does, Notice, OfTopic, Outcome, Producer, Starts, Store, TakeBatch, TellAll, Told, Who, is_same, turn_of}
 use Rattle.pulsar_laws.proofs.PlanWords.{Plan, Stored, Storing}
-use Rattle.pulsar_laws.proofs.RunWords.{Begins, begun_same, counted, Each, Entry, IsRun, Options, start_of, Then, view, View}
+use Rattle.pulsar_laws.proofs.RunWords.{Begins, begun_same, counted, Each, Entry, IsRun, Options, start_of, Then, view, View, notice}
 use Rattle.pulsar_frame.specs.Batch.{EntryValues}
 use Rattle.pulsar_messages.specs.Claims.{is_spent}
 use Rattle.pulsar_outgoing.specs.Storage.{Item, SingleMessage, Flush, is_nothing, is_ready, pushed}

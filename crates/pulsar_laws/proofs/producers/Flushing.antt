@@ -2,7 +2,7 @@
 use Rattle.std.proofs.Common.{◌≡◌, ◌⊎◌, inl, inr, ◌∙◌, sym, ap, subst, refl, ℕ, zero, suc, ◌==◌, append-nil, append_assoc, take, List, [], ◌∷◌, ◌++◌, Bool, true, false, ◌&&◌, cond, Option, Some, None}
 use Rattle.pulsar_outgoing.specs.declared.storage.Limits.{Limits}
 use Rattle.pulsar_laws.proofs.PlanWords.{Built}
-use Rattle.pulsar_producer_table.specs.declared.table.Owner.Owner.{Owner}
+use Rattle.pulsar_producer_table.specs.declared.table.Owner.{Owner}
 use Rattle.std.proofs.lemmas.Bool.{cases_Bool, eqb-true}
 use Rattle.std.specs.Option.{option_to_list}
 use Rattle.pulsar_laws.proofs.ActWords.{Act, Does, OfTopic, Producer, Starts, TakeBatch, TellAll, Who, is_same}
@@ -230,13 +230,13 @@ taken_then o log a run none k n t h = by ((view o log).producers.topics n) refl
         under : (view o log).producers.topics n ≡ None → under_way o n (Then a ∷ log) ≡ None
         under e = elim (row_from (view o log) a n t h) [
           | inl was ↦ absurd (none_some (sym e ∙ was.was))
-          | inr j ↦ joined j.by ∙ none n e
+          | inr j ↦ by_joining j.by ∙ none n e
         ]
 
-        joined : {who : Who} {owner : Owner} {limits : Limits} {parts : List Built} → JoinsBy a who owner limits parts →
+        by_joining : {who : Who} {owner : Owner} {limits : Limits} {parts : List Built} → JoinsBy a who owner limits parts →
             under_way o n (Then a ∷ log) ≡ under_way o n log
-        joined (ByVerdict verdict b is makes) = ap (λ (y : Act). under_way o n (Then y ∷ log)) is
-        joined (BySend m x is) = ap (λ (y : Act). under_way o n (Then y ∷ log)) is
+        by_joining (ByVerdict verdict b is makes) = ap (λ (y : Act). under_way o n (Then y ∷ log)) is
+        by_joining (BySend m x is) = ap (λ (y : Act). under_way o n (Then y ∷ log)) is
 
     by : (r : Option Topic) → (view o log).producers.topics n ≡ r → Keeps o (Then a ∷ log) n t
     by None e = fresh e

@@ -1,5 +1,8 @@
 -- The name of a topic producer is a text, since a reply of its broker said it.
 use Rattle.std.proofs.Common.{◌≡◌, inl, inr, ◌∙◌, sym, subst, ℕ, ◌+◌, ◌&&◌, not, List, [], ◌∷◌, ◌++◌, refl, map, length, Bool, true, false, cond, Option, Some, None, Result, Ok, Err}
+use Rattle.pulsar_outgoing.specs.declared.multi_topic.Multi.TheVariants.{Own}
+use Rattle.pulsar_plans.specs.declared.copying.CopyState.TheVariants as copy
+use Rattle.pulsar_plans.specs.declared.copying.CopyState.{CopyState}
 use Rattle.pulsar_laws.proofs.ActWords.{Act, Action, Answers, Does, Makes, Nothing, Notice, Outcome, Procedure, Remake, Share, Tell, TellAll, Told, Verdict, Who, OfMulti, OfTopic}
 use Rattle.pulsar_laws.proofs.PlanWords.{action_of, Asking, Awaiting, Batches, Batching, begins, BuildingProducer as Build, Built, Command, Deed, Errand, Gives, Heard, is_answer, Making, Member, MultiSending, Naming, News, news_of, overrides, Plan, PlanTransition, ProducerOrder, Producing, SearchTransition, Sending as Send, Served, Stays, told, Ways}
 use Rattle.pulsar_laws.proofs.RunWords.{Begins, begun_same, Cause, Each, each_append, Entry, IsRun, notice, Options, Then, view}
@@ -50,9 +53,9 @@ use Rattle.pulsar_producer.specs.declared.sending.Sending.TheVariants as send
 use Rattle.pulsar_producer_table.specs.declared.table.Topic.{Topic}
 use Rattle.pulsar_calls.specs.declared.act.Makes.TheVariants as makes
 use Rattle.pulsar_calls.specs.declared.act.Outcome.TheVariants as outcome
-use Rattle.pulsar_plans.specs.Plan.{builds, goes_on_sending, halted, leaves, makes_of, multi_news_of, multi_sends}
-use Rattle.pulsar_plans.specs.declared.plan.Plan.TheVariants.{Sending}
-use Rattle.pulsar_plans.proofs.Arcs.{Arc, Begun, BegunEnd, End, answers, batches_go, begins_asking, begins_none, builds_on, by_arcs, by_begun, departs_asks, got_asks, multi_closes_on, multi_goes, part_sends, produced, queued_waits, sends, stands_on}
+use Rattle.pulsar_plans.specs.Plan.{builds, goes_on_sending, halted, leaves, makes_of, multi_news_of, multi_sends, copy_hands, copy_sends, told_copy}
+use Rattle.pulsar_plans.specs.declared.plan.Plan.TheVariants.{Sending, Copying}
+use Rattle.pulsar_plans.proofs.Arcs.{Arc, Begun, BegunEnd, End, answers, batches_go, begins_asking, begins_none, builds_on, by_arcs, by_begun, departs_asks, got_asks, multi_closes_on, multi_goes, part_sends, produced, queued_waits, sends, stands_on, copies_go}
 use Rattle.pulsar_laws.proofs.Cases.{cond_so, none_some, some_is}
 use Rattle.pulsar_laws.proofs.Lists.{in_each}
 use Rattle.pulsar_laws.proofs.calls.Caused.{outcomes_are_caused_lem}
@@ -250,9 +253,14 @@ abbrev MakesGood : Makes → Type 0
 MakesGood (makes.Producer b) = AreNamed b.parts
 MakesGood _ = Unit {0}
 
+abbrev CopyGood : CopyState → Type 0
+CopyGood (copy.Handing s) = MultiGood s
+CopyGood _ = Unit {0}
+
 abbrev PlanGood : Plan → Type 0
 PlanGood (Producing w o b) = BuildGood b
 PlanGood (MultiSending w m share s) = MultiGood s
+PlanGood (Copying w t s) = CopyGood s
 PlanGood (Asking x) = MakesGood x.makes
 PlanGood (Awaiting x) = MakesGood x.makes
 PlanGood _ = Unit {0}
@@ -305,6 +313,19 @@ multi_sent w m share (transition.Stays s (many_deed.Does d)) k = (k.0, deed_good
 multi_sent w m share (transition.Gives (Ok (dispatch.Send e x))) k = sent_good w e share (produce.send_begins e x) tt
 multi_sent w m share (transition.Gives (Ok (dispatch.Store n x))) k = (tt, tt)
 multi_sent w m share (transition.Gives (Err f)) k = leaves_good share f
+
+-- the copies of dead letters
+copy_sent : (w : Ways) (t : List ℕ) (e : Errand) (x : Sent) → SendTurn x → TurnGood (copy_sends w t e x)
+copy_sent w t e (transition.Stays s d) k = (tt, deed_good d k)
+copy_sent w t e (transition.Gives (Ok r)) k = (tt, tt)
+copy_sent w t e (transition.Gives (Err f)) k = (tt, tt)
+
+copy_handed : (w : Ways) (t : List ℕ) (x : Dispatches) → MultiTurn x → TurnGood (copy_hands w t x)
+copy_handed w t (transition.Stays s (many_deed.Asks ask)) k = (k.0, multi_ask_good Own ask k.1)
+copy_handed w t (transition.Stays s (many_deed.Does d)) k = (k.0, deed_good d k.1)
+copy_handed w t (transition.Gives (Ok (dispatch.Send e x))) k = copy_sent w t e (produce.send_begins e x) tt
+copy_handed w t (transition.Gives (Ok (dispatch.Store n x))) k = (tt, tt)
+copy_handed w t (transition.Gives (Err f)) k = (tt, tt)
 
 -- the batches of a topic producer
 batch_sent : (ms : List Member) (n : ℕ) (t : Sent) → SendTurn t → DeedGood (batches.sends ms n t).deed
@@ -373,6 +394,7 @@ is_special (Producing w o b) = true
 is_special (Sending w e share s) = true
 is_special (Batching w e b) = true
 is_special (MultiSending w m share s) = true
+is_special (Copying w t s) = true
 is_special _ = false
 
 close_good : {s q : MultiClose} {y : MultiNews} {ask : MultiAsk} (m : Multi) → MultiCloseArc s y q ask → ActGood (OfMulti m ask)
@@ -386,6 +408,7 @@ arc_good (sends d b) n k = absurd cc
 arc_good (part_sends d b s) n k = absurd cc
 arc_good (batches_go d b) n k = absurd cc
 arc_good (multi_goes d b) n k = absurd cc
+arc_good (copies_go b) n k = absurd cc
 arc_good (multi_closes_on ask b) n k = (tt, close_good _ b)
 arc_good (got_asks {request} {s} {l}) n k = (asked_none l (subscribed request), tt)
 arc_good queued_waits n k = (k, tt)
@@ -397,6 +420,27 @@ end_good : {p : Plan} {u : Outcome} {v : Verdict} → End p u v → is_special p
 end_good (answers {x} {r}) n k = cond_so MakesGood (is_answer x.number r.content.body) x.makes Nothing k tt
 end_good (produced b) n k = absurd cc
 end_good _ n k = tt
+
+abbrev is_quiet_copy : CopyState → Bool
+is_quiet_copy (copy.Handing s) = false
+is_quiet_copy (copy.Sending e s) = false
+is_quiet_copy _ = true
+
+copy_good : {w : Ways} {t : List ℕ} (s : CopyState) (u : Outcome) → is_quiet_copy s ≡ true → TurnGood (told_copy w t s u)
+copy_good copy.Resting (outcome.Word word.CopyDue) h = (tt, tt)
+copy_good copy.Resting (outcome.Word _) h = (tt, tt)
+copy_good copy.Resting _ h = (tt, tt)
+copy_good copy.Taking (outcome.Word (word.Letter m)) h = (tt, tt)
+copy_good copy.Taking (outcome.Word word.NoLetter) h = (tt, tt)
+copy_good copy.Taking (outcome.Word _) h = (tt, tt)
+copy_good copy.Taking _ h = (tt, tt)
+copy_good copy.Settling (outcome.Word (word.Asks l request)) h = (tt, tt)
+copy_good copy.Settling (outcome.Word word.NoAsk) h = (tt, tt)
+copy_good copy.Settling (outcome.Word _) h = (tt, tt)
+copy_good copy.Settling _ h = (tt, tt)
+copy_good copy.Asking u h = (tt, tt)
+copy_good (copy.Handing s) u h = absurd cc
+copy_good (copy.Sending e s) u h = absurd cc
 
 told_good : (p : Plan) (u : Outcome) → PlanGood p → GoodOutcome u → TurnGood (told p u)
 told_good (Producing w o b) u k g =
@@ -410,6 +454,12 @@ told_good (Batching w e b) u k g =
 told_good (MultiSending w m share s) u k g =
     cond_so TurnGood (overrides u) _ _ (halted_good share u)
     (multi_sent w m share (multi_send_told w s (multi_news_of u)) (multi_good w s (multi_news_of u) k (multi_news_good u g)))
+told_good (Copying w t (copy.Handing s)) u k g =
+    cond_so TurnGood (overrides u) _ _ tt
+    (copy_handed w t (multi_send_told w s (multi_news_of u)) (multi_good w s (multi_news_of u) k (multi_news_good u g)))
+told_good (Copying w t (copy.Sending e s)) u k g =
+    cond_so TurnGood (overrides u) _ _ tt (copy_sent w t e (produce.send_told w e s (news_of u)) (send_good w e s (news_of u) (news_good u g)))
+told_good (Copying w t s) u k g = cond_so TurnGood (overrides u) _ _ tt (copy_good s u refl)
 told_good p u k g = by_arcs TurnGood p u (λ q a x. arc_good x refl k) (λ v x. end_good x refl k)
 
 begun_good : {p : Procedure} {q : Plan} {a : Action} → Begun p q a → PlanGood q × ActGood a

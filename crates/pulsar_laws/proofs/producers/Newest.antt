@@ -59,7 +59,7 @@ module _ (o : Options) (who : Who) (version : Option (List ℕ)) where
   told_by e older r (inl (action, is, never)) = absurd never
   told_by e older r (inr (inl (other, number, turn, new, is, same, granted, next))) =
       subst (λ x. Tells x older) (sym is)
-      (passed older other number (taker.Call turn) new ((view o older).producers.topics number) refl next (let f : version ≡ new = cc in sym f))
+      (passed older other number turn new ((view o older).producers.topics number) refl next (let f : version ≡ new = cc in sym f))
   told_by e older r (inr (inr (inl (number, act, same, ready, woken, cuts)))) = absurd cc
   told_by e older r (inr (inr (inr (other, inl is)))) =
       absurd (let f : false ≡ true = tell_said o older other it (subst (λ x. IsRun o (x ∷ older)) is r) in cc)

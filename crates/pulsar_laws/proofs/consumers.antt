@@ -23,3 +23,4 @@ pub mod Rows
 pub mod Losses
 pub mod Halted
 pub mod Alert
+pub mod Asking

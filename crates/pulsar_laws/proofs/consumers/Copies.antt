@@ -115,7 +115,7 @@ pub copied_by : (o : Options) (log : List Entry) (w : Who) (a : Action) → is_s
 copied_by o log w a h run = by w refl
   where
     begun : BeginsSo o log w a → IsCopied o log w a
-    begun k = not_both h (begun_none (begun_arc k.leads))
+    begun k = not_both h (begun_none {p = k.procedure} {q = k.plan} {a = a} (begun_arc k.leads))
 
     -- no call does
     call : (t : ℕ) → w ≡ Call t → IsLedSo o log w a → IsCopied o log w a

@@ -202,8 +202,8 @@ waits_then o older n t run =
           ∙ ap Some y.1.1.1,
     )
 
--- what an act alone gives rise to at once is next
-pub first_at : (o : Options) (log : List Entry) (a b : Act) → at_once (view o log) a ≡ b ∷ [] → first (agenda o (Then a ∷ log)) ≡ Some b
+-- what an act gives rise to at once before all else is next
+pub first_at : (o : Options) (log : List Entry) (a b : Act) {bs : List Act} → at_once (view o log) a ≡ b ∷ bs → first (agenda o (Then a ∷ log)) ≡ Some b
 first_at o log a b e =
     let v : View = view o log in
     let g : Agenda = rest (agenda o log) in

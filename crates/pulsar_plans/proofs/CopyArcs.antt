@@ -61,6 +61,7 @@ pub data CopyArc (w : Ways) (t : List ℕ) : CopyState → Outcome → CopyState
       CopyArc w t (Sending e s) u Settling (OfConsumer CopyFailed)
   settled_asks : {l : ℕ} {request : Words} → CopyArc w t Settling (outcome.Word (word.Asks l request)) Asking (Ask l request)
   settled_rests : CopyArc w t Settling (outcome.Word word.NoAsk) Resting Rest
+  asking_rests : CopyArc w t Asking outcome.InLine Asking Rest
   asked_rests : {u : Outcome} → CopyArc w t Asking u Resting Rest
 
 -- it never ends but by the stop of the client
@@ -98,4 +99,5 @@ module _ (w : Ways) (t : List ℕ) where
   copy_arcs Settling (outcome.Word word.NoAsk) = copies_on settled_rests
   copy_arcs Settling (outcome.Word _) = copies_on settling_rests
   copy_arcs Settling _ = copies_on settling_rests
-  copy_arcs Asking u = copies_on asked_rests
+  copy_arcs Asking outcome.InLine = copies_on asking_rests
+  copy_arcs Asking _ = copies_on asked_rests

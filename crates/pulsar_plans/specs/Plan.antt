@@ -696,13 +696,18 @@ copy_in_settling w t (Hears (word.Asks link request)) = copies w t copy.Asking (
 copy_in_settling w t (Hears word.NoAsk) = copies_rest w t
 copy_in_settling w t o = copies w t copy.Settling Rest
 
+-- What is asked for stands in the line where the link is full, and the next copy waits until it is queued.
+abbrev pub copy_in_asking : Ways → (topic : List ℕ) → Outcome → PlanTransition
+copy_in_asking w t InLine = copies w t copy.Asking Rest
+copy_in_asking w t o = copies_rest w t
+
 abbrev pub told_copy : Ways → (topic : List ℕ) → CopyState → Outcome → PlanTransition
 told_copy w t copy.Resting o = copy_in_resting w t o
 told_copy w t copy.Taking o = copy_in_taking w t o
 told_copy w t (copy.Handing s) o = copy_hands w t (multi.multi_send_told w s (multi_news_of o))
 told_copy w t (copy.Sending e s) o = copy_sends w t e (produce.send_told w e s (news_of o))
 told_copy w t copy.Settling o = copy_in_settling w t o
-told_copy w t copy.Asking o = copies_rest w t
+told_copy w t copy.Asking o = copy_in_asking w t o
 
 -- the stop of the client ends it
 abbrev pub told_copying : Ways → (topic : List ℕ) → CopyState → Outcome → PlanTransition

@@ -3,7 +3,7 @@
 ghost use Rattle.std.specs.Prelude.{◌≡◌, IfOk, if◌then◌else◌};
 ghost use Rattle.pulsar_producer.specs.MultiPlans as multi_meaning;
 ghost use Rattle.pulsar_producer.specs.Plans as meaning;
-ghost use Rattle.pulsar_plans.specs.Plan.{copies, copies_rest, copy_dispatches, copy_hands, copy_in_resting, copy_in_settling, copy_in_taking, copy_sends, copy_settles, multi_news_of, news_of, told_copy, told_copying};
+ghost use Rattle.pulsar_plans.specs.Plan.{copies, copies_rest, copy_dispatches, copy_hands, copy_in_asking, copy_in_resting, copy_in_settling, copy_in_taking, copy_sends, copy_settles, multi_news_of, news_of, told_copy, told_copying};
 
 use crate::multi::{multi_action_of, multi_news_of};
 use crate::plan::{Plan, PlanTransition, overrides};
@@ -79,7 +79,7 @@ fn goes_on(
             in_sending(alloc, ways, topic, errand, sending, outcome)
         }
         CopyState::Settling => Ok(in_settling(ways, topic, outcome)),
-        CopyState::Asking => Ok(begins(ways, topic)),
+        CopyState::Asking => Ok(in_asking(ways, topic, outcome)),
     }
 }
 
@@ -225,6 +225,16 @@ fn in_settling(ways: Ways, topic: Text, outcome: Outcome) -> PlanTransition
         }
         Outcome::Word(Word::NoAsk) => begins(ways, topic),
         _ => stays(ways, topic, CopyState::Settling, Action::Rest),
+    }
+}
+
+/// What it asked for stands in the line, or it is done with this copy.
+fn in_asking(ways: Ways, topic: Text, outcome: Outcome) -> PlanTransition
+    ensures { result ≡ copy_in_asking ways topic outcome }
+{
+    match outcome {
+        Outcome::InLine => stays(ways, topic, CopyState::Asking, Action::Rest),
+        _ => begins(ways, topic),
     }
 }
 

@@ -1,6 +1,7 @@
 -- The plan of a topic producer is that of its batches, and does only what such a plan does.
 use Rattle.std.proofs.Common.{inl, inr, subst, ap, List, Bool, false, ◌≡◌, subst, ℕ, List, ◌∷◌, refl, Bool, true, false, Some}
-use Rattle.pulsar_laws.proofs.ActWords.{Action, Does, Outcome, Procedure, Producer, Starts}
+use Rattle.pulsar_searches.specs.declared.turn.Action.TheVariants as wish
+use Rattle.pulsar_laws.proofs.ActWords.{Action, Does, Outcome, Procedure, Producer, Starts, OfMulti}
 use Rattle.pulsar_laws.proofs.PlanWords.{action_of, Batching, Deed, Plan}
 use Rattle.pulsar_laws.proofs.RunWords.{Entry, IsRun, Options, Then, view}
 use Rattle.pulsar_producer.specs.declared.deed.Deed.TheVariants as deed
@@ -58,3 +59,18 @@ batcher_does o log n action run = elim (does_from o log (Producer n) action run)
 
     led : IsLedSo o log (Producer n) action → (d : Deed) × (action ≡ action_of d)
     led k = let x = arc_batcher (told_arc k.leads) (stands o n k.older k.before (subst (IsRun o) k.is_there run.0).0 k.stood) in (x.1, x.2)
+
+-- it asks no producer of many topics
+abbrev pub is_multi : Action → Bool
+is_multi (OfMulti m ask) = true
+is_multi _ = false
+
+deed_single : (d : Deed) → is_multi (action_of d) ≡ false
+deed_single (deed.Does (wish.Get p)) = refl
+deed_single (deed.Does (wish.Ask l request)) = refl
+deed_single (deed.Does (wish.Wait delay)) = refl
+deed_single _ = refl
+
+pub batcher_single : (o : Options) (log : List Entry) (n : ℕ) (action : Action) → IsRun o (Then (Does (Producer n) action) ∷ log) →
+    is_multi action ≡ false
+batcher_single o log n action run = let d = batcher_does o log n action run in ap is_multi d.1 ∙ deed_single d.0

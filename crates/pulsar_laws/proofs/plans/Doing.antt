@@ -11,7 +11,7 @@ use Rattle.pulsar_messages.specs.Words.{Words}
 use Rattle.pulsar_outgoing.specs.declared.multi_topic.Multi.{Multi}
 use Rattle.pulsar_outgoing.specs.declared.multi_topic.Multi.TheVariants.{Own}
 use Rattle.pulsar_outgoing.specs.declared.multi_topic.MultiAsk.{MultiAsk}
-use Rattle.pulsar_plans.proofs.CopyArcs.{CopyArc, asked_rests, copy_fails, copy_sent, due_takes, handed_sends, handed_stores, handing_fails, handing_goes, letter_hands, no_letter_rests, resting_rests, sending_goes, settled_asks, settled_rests, settling_rests, taking_rests}
+use Rattle.pulsar_plans.proofs.CopyArcs.{CopyArc, asked_rests, asking_rests, copy_fails, copy_sent, due_takes, handed_sends, handed_stores, handing_fails, handing_goes, letter_hands, no_letter_rests, resting_rests, sending_goes, settled_asks, settled_rests, settling_rests, taking_rests}
 use Rattle.pulsar_plans.proofs.MultiArcs.{BuildBegun, MultiSendArc, absent_builds, build_names, build_numbers, multi_builds, multi_rests}
 use Rattle.pulsar_plans.specs.Plan.{multi_action_of}
 use Rattle.pulsar_plans.specs.declared.copying.CopyState.{CopyState}
@@ -70,4 +70,5 @@ copy_does P k (copy_sent x) = k.sent
 copy_does P k (copy_fails x) = k.failed
 copy_does P k settled_asks = k.common.asks _ _
 copy_does P k settled_rests = k.common.rests
+copy_does P k asking_rests = k.common.rests
 copy_does P k asked_rests = k.common.rests

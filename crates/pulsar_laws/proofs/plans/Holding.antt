@@ -19,7 +19,7 @@ use Rattle.pulsar_plans.proofs.Arcs.{Arc, BatchArc, Begun, StaysSo, answered_tur
 use Rattle.pulsar_laws.proofs.plans.Natures.{is_leaving}
 use Rattle.pulsar_laws.proofs.plans.Doing.{IsCommon, multi_does}
 use Rattle.pulsar_outgoing.specs.declared.multi_topic.Multi.TheVariants.{Own}
-use Rattle.pulsar_plans.proofs.CopyArcs.{CopyArc, asked_rests, copy_fails, copy_sent, due_takes, handed_sends, handed_stores, handing_fails, handing_goes, letter_hands, no_letter_rests, resting_rests, sending_goes, settled_asks, settled_rests, settling_rests, taking_rests}
+use Rattle.pulsar_plans.proofs.CopyArcs.{CopyArc, asked_rests, asking_rests, copy_fails, copy_sent, due_takes, handed_sends, handed_stores, handing_fails, handing_goes, letter_hands, no_letter_rests, resting_rests, sending_goes, settled_asks, settled_rests, settling_rests, taking_rests}
 use Rattle.pulsar_plans.specs.declared.copying.CopyState.{CopyState}
 use Rattle.pulsar_plans.specs.declared.copying.CopyState.TheVariants as copy
 use Rattle.pulsar_producer.proofs.Arcs.{BuildArc, SendArc, asked_ends, drawn_ends, draws, looked_ends, made_ends, naming_rests, queued, recalled_ends, remade_ends, sent_rests}
@@ -194,6 +194,7 @@ copy_goes (copy_sent k) = record { has = λ m h. absurd (none_some h); waits = �
 copy_goes (copy_fails k) = record { has = λ m h. absurd (none_some h); waits = λ m h t. refl; passes = tt }
 copy_goes settled_asks = idle refl refl tt
 copy_goes settled_rests = idle refl refl tt
+copy_goes asking_rests = idle refl refl tt
 copy_goes asked_rests = idle refl refl tt
 
 -- ALL

@@ -215,6 +215,11 @@ none_then o log a run k n h = by ((view o log).producers.topics n) refl
     by None e = past e a run
     by (Some u) e = absurd (none_some (sym h ∙ row_as o log (drawn_run o log run.0) n u e a run))
 
+by_joining : (o : Options) (log : List Entry) (a : Act) (n : ℕ) {who : Who} {owner : Owner} {limits : Limits} {parts : List Built} →
+    JoinsBy a who owner limits parts → under_way o n (Then a ∷ log) ≡ under_way o n log
+by_joining o log a n (ByVerdict verdict b is makes) = ap (λ (y : Act). under_way o n (Then y ∷ log)) is
+by_joining o log a n (BySend m x is) = ap (λ (y : Act). under_way o n (Then y ∷ log)) is
+
 taken_then : (o : Options) (log : List Entry) (a : Act) → IsRun o (Then a ∷ log) → NoneSo o log → TakenSo o log → TakenSo o (Then a ∷ log)
 taken_then o log a run none k n t h = by ((view o log).producers.topics n) refl
   where
@@ -230,13 +235,8 @@ taken_then o log a run none k n t h = by ((view o log).producers.topics n) refl
         under : (view o log).producers.topics n ≡ None → under_way o n (Then a ∷ log) ≡ None
         under e = elim (row_from (view o log) a n t h) [
           | inl was ↦ absurd (none_some (sym e ∙ was.was))
-          | inr j ↦ by_joining j.by ∙ none n e
+          | inr j ↦ by_joining o log a n j.by ∙ none n e
         ]
-
-        by_joining : {who : Who} {owner : Owner} {limits : Limits} {parts : List Built} → JoinsBy a who owner limits parts →
-            under_way o n (Then a ∷ log) ≡ under_way o n log
-        by_joining (ByVerdict verdict b is makes) = ap (λ (y : Act). under_way o n (Then y ∷ log)) is
-        by_joining (BySend m x is) = ap (λ (y : Act). under_way o n (Then y ∷ log)) is
 
     by : (r : Option Topic) → (view o log).producers.topics n ≡ r → Keeps o (Then a ∷ log) n t
     by None e = fresh e

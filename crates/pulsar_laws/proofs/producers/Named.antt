@@ -1,5 +1,6 @@
 -- The name of a topic producer is a text, since a reply of its broker said it.
 use Rattle.std.proofs.Common.{◌≡◌, inl, inr, ◌∙◌, sym, subst, ℕ, ◌+◌, ◌&&◌, not, List, [], ◌∷◌, ◌++◌, refl, map, length, Bool, true, false, cond, Option, Some, None, Result, Ok, Err}
+use Rattle.pulsar_calls.specs.declared.act.Word.TheVariants as word
 use Rattle.pulsar_outgoing.specs.declared.multi_topic.Multi.TheVariants.{Own}
 use Rattle.pulsar_plans.specs.declared.copying.CopyState.TheVariants as copy
 use Rattle.pulsar_plans.specs.declared.copying.CopyState.{CopyState}
@@ -409,7 +410,7 @@ arc_good (part_sends d b s) n k = absurd cc
 arc_good (batches_go d b) n k = absurd cc
 arc_good (multi_goes d b) n k = absurd cc
 arc_good (copies_go b) n k = absurd cc
-arc_good (multi_closes_on ask b) n k = (tt, close_good _ b)
+arc_good (multi_closes_on {m} ask b) n k = (tt, close_good m b)
 arc_good (got_asks {request} {s} {l}) n k = (asked_none l (subscribed request), tt)
 arc_good queued_waits n k = (k, tt)
 arc_good stands_on n k = (k, tt)

@@ -1,7 +1,5 @@
 -- A topic producer waits for one thing at a time: as it asks for something it waits for nothing else, and as it takes a batch for nothing at all.
 use Rattle.std.specs.Prelude.{bytes_eq}
-use Rattle.pulsar_searches.specs.declared.turn.Action.TheVariants as wish
-use Rattle.pulsar_producer.specs.declared.deed.Deed.TheVariants as deed
 use Rattle.std.proofs.Common.{◌≡◌, ◌⊎◌, inl, inr, ◌∙◌, sym, ap, subst, ℕ, ◌+◌, ◌≤◌, ◌==◌, arith, List, [], ◌∷◌, ◌++◌, refl, Bool, true, false, ◌&&◌, cond, Option, Some, None, Result, Ok, Err}
 use Rattle.std.proofs.lemmas.Bool.{cases_Bool, eqb-true}
 use Rattle.std.specs.Option.{option_map}
@@ -36,7 +34,7 @@ use Rattle.pulsar_laws.proofs.calls.Same.{same_self, same_who}
 use Rattle.pulsar_laws.proofs.calls.Whereabouts.{ApartBy, Asker, NotWake, begun_there, goes_nowhere, live_absent, moment_none, not_among, times}
 use Rattle.pulsar_laws.proofs.links.OneEach.{same_key}
 use Rattle.pulsar_laws.proofs.plans.AtOnce.{AtOnce, dials, nothing, performs_once, says, stops_all, begins_too}
-use Rattle.pulsar_laws.proofs.plans.Batchers.{batcher_does, batcher_stands}
+use Rattle.pulsar_laws.proofs.plans.Batchers.{batcher_does, batcher_single, batcher_stands, is_multi}
 use Rattle.pulsar_laws.proofs.plans.Granted.{BeginsSo, IsLedSo, does_from}
 use Rattle.pulsar_laws.proofs.plans.Holding.{holds}
 use Rattle.pulsar_laws.proofs.plans.Batched.{takes_where}
@@ -54,16 +52,6 @@ use Rattle.pulsar_laws.proofs.producers.TurnActs.{equal_self}
 use Rattle.pulsar_laws.proofs.producers.TurnRun.{own_told_none}
 use Rattle.pulsar_laws.proofs.producers.Turns.{sum_append}
 use Rattle.pulsar_acts.proofs.Linking.{asked_is}
-
-abbrev is_multi : Action → Bool
-is_multi (OfMulti m ask) = true
-is_multi _ = false
-
-deed_single : (d : Deed) → is_multi (action_of d) ≡ false
-deed_single (deed.Does (wish.Get p)) = refl
-deed_single (deed.Does (wish.Ask l request)) = refl
-deed_single (deed.Does (wish.Wait delay)) = refl
-deed_single _ = refl
 
 module _ (n : ℕ) where
   -- WHERE IT IS
@@ -136,10 +124,6 @@ module _ (n : ℕ) where
     follows_head log s None xs k f = each_head log s xs k
     follows_head log s (Some (Stays q x)) xs k f = does_head log s x xs k (f q x refl)
     follows_head log s (Some (Gives v)) xs k f = (tt, k)
-
-    -- it asks no producer of many topics
-    single : {log : List Entry} (x : Action) → IsRun o (Then (Does (me n) x) ∷ log) → is_multi x ≡ false
-    single {log} x run = let d = batcher_does o log n x run in ap is_multi d.1 ∙ deed_single d.0
 
     once_head : (log older : List Entry) (s : Spot) (x : Action) (xs ys : List Act) → is_multi x ≡ false → AtOnce (view o older) (me n) x xs →
         is_stop (Does (me n) x) ≡ false →
@@ -415,7 +399,7 @@ module _ (n : ℕ) where
           plain_on untaken goes =
               from_clear (Does (me n) x) run stop none_took clear Nowhere (still o n log Nowhere (Does (me n) x) run untaken (λ e. goes) nowhere)
               (λ c. refl)
-              (λ free. once_head done log Nowhere x (performs v (me n) x) (left log) (single x run) (performs_once v (me n) x) stop (left_not log k) (ends_clear free))
+              (λ free. once_head done log Nowhere x (performs v (me n) x) (left log) (batcher_single o log n x run) (performs_once v (me n) x) stop (left_not log k) (ends_clear free))
 
           -- it waits
           begins_wait : (s : Spot) → IsAt n s (view o done) → goes_nowhere x ≡ false → HeadSo done s (agenda o done).now → Single done

@@ -300,12 +300,18 @@ module _ (l : ℕ) (bytes : List ℕ) (v : View) where
   shares_same None advice t ms = refl
   shares_same (Some r) advice t ms = refl
 
+  multi_shares_same : (r : Option CallRefusal) (t : ℕ) (topic : List ℕ) (ms : List ProducerMessageValues) →
+      multi_shares_unless r other t topic ms ≡ multi_shares_unless r v t topic ms
+  multi_shares_same None t topic ms = refl
+  multi_shares_same (Some r) t topic ms = refl
+
   parts_same : (advice : List (Option ℕ)) (asked : Asked) → parts_of other advice asked ≡ parts_of v advice asked
   parts_same advice (content.SendAll t ms) = shares_same (why_no_sends v.calls v.producers t) advice t ms
+  parts_same advice (content.MultiSendAll t topic ms) = multi_shares_same (why_no_multi_sends v.calls v.producers.multis t) t topic ms
   parts_same advice asked = refl
 
-  made_same : (who : Who) (m : Makes) → made_due row v.consumers.next_key who m ≡ made_due v.links.live v.consumers.next_key who m
-  made_same who (makes.Consumer j) = ap (λ url. due_to (ticket_of who) (consumer.member_of (setup_of v.consumers.next_key j) j.link url)) (url_same j.link)
+  made_same : (who : Who) (m : Makes) → made_due row v.now v.consumers.next_key who m ≡ made_due v.links.live v.now v.consumers.next_key who m
+  made_same who (makes.Consumer j) = ap (λ url. due_to (ticket_of who) (consumer.member_of (setup_of v.consumers.next_key j) v.now j.link url)) (url_same j.link)
   made_same who m = refl
 
   rings_ruled : (a : Alarm) → ruled other (Comes (Rings a)) ≡ ruled v (Comes (Rings a))
@@ -344,7 +350,7 @@ module _ (l : ℕ) (bytes : List ℕ) (v : View) where
   does_ruled who (OfConsumer (Revive k)) =
       λ i. record {
         once = at_once v (Does who (OfConsumer (Revive k)));
-        joined = revived_at k (url_same k i) (ticket_of who) (v.consumers.rows (ticket_of who));
+        joined = revived_at v.now k (url_same k i) (ticket_of who) (v.consumers.rows (ticket_of who));
         caused = [];
         more = [];
         shown = [];
@@ -470,15 +476,15 @@ module _ (l : ℕ) (bytes : List ℕ) (v : View) where
   heard_same : (k : ℕ) (x : LinkAct) → apart l bytes v k x ≡ true →
       consumers_after there (Comes (ToLink k x)) ≡ consumers_after v (Comes (ToLink k x))
   heard_same k Reads h =
-      ap (λ r. consumer.all_changed (consumer.hears k (arrival_at r)) v.consumers) (row_same l bytes v k (not_here l bytes v k h))
+      ap (λ r. consumer.all_changed (consumer.hears v.now k (arrival_at r)) v.consumers) (row_same l bytes v k (not_here l bytes v k h))
   heard_same k (Ends end) h =
       of_row l bytes v (λ r. consumer.all_changed (consumer.loses_by k (closing end v.now r)) v.consumers)
       (λ seat. ap (λ c. consumer.all_changed (consumer.loses_by k c) v.consumers) (closed_same bytes end v.now seat.seen)) k
   heard_same k x h = refl
 
-  made_so : (m : Makes) → member_made there.links.live v.consumers.next_key m ≡ member_made v.links.live v.consumers.next_key m
-  made_so (makes.Consumer j) = ap (λ url. Some (consumer.member_of (setup_of v.consumers.next_key j) j.link url)) (url_same l bytes v j.link)
-  made_so (makes.RawConsumer k made) = ap (λ url. Some (consumer.member_of (of_raw made) k url)) (url_same l bytes v k)
+  made_so : (m : Makes) → member_made there.links.live v.now v.consumers.next_key m ≡ member_made v.links.live v.now v.consumers.next_key m
+  made_so (makes.Consumer j) = ap (λ url. Some (consumer.member_of (setup_of v.consumers.next_key j) v.now j.link url)) (url_same l bytes v j.link)
+  made_so (makes.RawConsumer k made) = ap (λ url. Some (consumer.member_of (of_raw made) v.now k url)) (url_same l bytes v k)
   made_so m = refl
 
   not_both : (k : ℕ) (x : LinkAct) → apart l bytes v k x ≡ true → (k == l) ≡ true → is_read x ≡ false
@@ -517,7 +523,7 @@ module _ (l : ℕ) (bytes : List ℕ) (v : View) where
   after_same (Does who (OfConsumer (Revive k))) h =
       after_by l bytes bytes v (Does who (OfConsumer (Revive k))) (λ j. refl) refl refl
       (ap
-      (λ url. record v.consumers { rows = λ t. row_by member_by (cond (t == ticket_of who) (Revived k url ∷ []) []) (v.consumers.rows t) })
+      (λ url. record v.consumers { rows = λ t. row_by member_by (cond (t == ticket_of who) (Revived v.now k url ∷ []) []) (v.consumers.rows t) })
       (url_same l bytes v k)) refl
   after_same (Answers who verdict) h =
       after_by l bytes bytes v (Answers who verdict) (λ k. refl) refl refl
@@ -604,7 +610,7 @@ module _ (b : List ℕ) (v : View) (l : ℕ) (seat : Seat) (open_now : is_open s
         caused =
             opens
             ((answered_by (came_same i) seat.askers ++ waiters_of served_on v.addresses (Some (turned_so (came_same i))))
-            ++ over_rows (heard_at l (arrives (came_same i))) v.consumers);
+            ++ over_rows (heard_at v.now l (arrives (came_same i))) v.consumers);
         more = reads_on l (arrives (came_same i));
         shown = (map (settles l settlement.Reply) (settled_in (came_same i)) ++ queues l s (read_same i)) ++ [];
       }

@@ -88,7 +88,7 @@ ruled_as l v seat c read =
       joined = [];
       caused =
           opens
-          ((answered_by c seat.askers ++ waiters_of served_on v.addresses (Some (turned_as l seat c))) ++ over_rows (heard_at l (arrives c)) v.consumers);
+          ((answered_by c seat.askers ++ waiters_of served_on v.addresses (Some (turned_as l seat c))) ++ over_rows (heard_at v.now l (arrives c)) v.consumers);
       more = reads_on l (arrives c);
       shown = (map (settles l settlement.Reply) (settled_in c) ++ queues l seat.seen read) ++ [];
     }
@@ -147,7 +147,7 @@ module _ (l : ℕ) where
       links = record { started = v.links.started; live = λ k. rows_same k i };
       addresses = record { base = λ key. base_on (turned_same i) key (v.addresses.base key); pause = λ m. pause_on (turned_same i) m (v.addresses.pause m) };
       alarms = alarms_on v.chosen v.now (turned_same i) v.alarms;
-      consumers = consumer.all_changed (consumer.hears l (arrival_same i)) v.consumers;
+      consumers = consumer.all_changed (consumer.hears v.now l (arrival_same i)) v.consumers;
     }
 
     -- NOTHING CAME OF IT
@@ -166,13 +166,13 @@ module _ (l : ℕ) where
       pause_same : (m : ℕ) → pause_on (turned v R) m (v.addresses.pause m) ≡ v.addresses.pause m
       pause_same m = ap (λ t. pause_on t m (v.addresses.pause m)) turned_none
 
-      unheard : (row : Option Member) → option_map (consumer.hears l Nothing) row ≡ row
+      unheard : (row : Option Member) → option_map (consumer.hears v.now l Nothing) row ≡ row
       unheard None = refl
       unheard (Some m) = refl
 
-      consumers_same : consumer.all_changed (consumer.hears l (arrival_at (v.links.live l))) v.consumers ≡ v.consumers
+      consumers_same : consumer.all_changed (consumer.hears v.now l (arrival_at (v.links.live l))) v.consumers ≡ v.consumers
       consumers_same =
-          ap (λ a. consumer.all_changed (consumer.hears l a) v.consumers) (ap arrival_at live ∙ ap arrives nothing)
+          ap (λ a. consumer.all_changed (consumer.hears v.now l a) v.consumers) (ap arrival_at live ∙ ap arrives nothing)
           ∙ (λ i. record v.consumers { rows = λ u. unheard (v.consumers.rows u) i })
 
       read_same : took_some Reads v.now (Some seat) ≡ Some (clocked v.now seat)
@@ -200,13 +200,13 @@ module _ (l : ℕ) where
         consumers = consumers_same i;
       }
 
-      no_words : (t : ℕ) (row : Option Member) → flat_map (heard_at l Nothing t) (option_to_list row) ≡ []
+      no_words : (t : ℕ) (row : Option Member) → flat_map (heard_at v.now l Nothing t) (option_to_list row) ≡ []
       no_words t None = refl
       no_words t (Some m) = refl
 
-      none_heard : (ts : List ℕ) → flat_map (at_row (heard_at l Nothing) v.consumers.rows) ts ≡ []
+      none_heard : (ts : List ℕ) → flat_map (at_row (heard_at v.now l Nothing) v.consumers.rows) ts ≡ []
       none_heard [] = refl
-      none_heard (t ∷ ts) = ap (λ ns. ns ++ flat_map (at_row (heard_at l Nothing) v.consumers.rows) ts) (no_words t (v.consumers.rows t)) ∙ none_heard ts
+      none_heard (t ∷ ts) = ap (λ ns. ns ++ flat_map (at_row (heard_at v.now l Nothing) v.consumers.rows) ts) (no_words t (v.consumers.rows t)) ∙ none_heard ts
 
       no_places : (n : ℕ) → n - n ≡ 0
       no_places n = omega arith

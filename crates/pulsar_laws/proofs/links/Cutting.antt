@@ -368,7 +368,7 @@ module _ (o : Options) (l : ℕ) (a b : List ℕ) (older : List Entry) where
             pause = λ m. pause_on (turned_same i) m (v'.addresses.pause m);
           })
           (ap (λ t. alarms_on v'.chosen v'.now t v'.alarms) turned_same)
-          (ap (λ w. consumer.all_changed (consumer.hears l w) v'.consumers) arrival_same) refl
+          (ap (λ w. consumer.all_changed (consumer.hears v'.now l w) v'.consumers) arrival_same) refl
 
       opened_next : is_open (takes v'.now r.seat.seen).stage ≡ true
       opened_next = taken_open r.seat.seen.stage (front r.seat.seen.unread) (ticked v'.now r.seat.seen) refl r.opened

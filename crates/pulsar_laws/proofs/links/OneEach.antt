@@ -5,7 +5,7 @@ use Rattle.std.proofs.lemmas.Slice.Eq.{bytes_eq-Decides}
 use Rattle.std.specs.List.{list_any}
 use Rattle.std.specs.Option.{option_map}
 use Rattle.std.specs.Str.{bytes_eq}
-use Rattle.pulsar_laws.proofs.ActWords.{Act, Alarm, Arrival, Ask, Batch, CheckIdle, Comes, Dials, Does, Drains, Ends, Get, Heard, KeepAlive, LinkAct, Opens, Pings, Reads, Retry, Rings, StopAll, ToLink, Wake, Who}
+use Rattle.pulsar_laws.proofs.ActWords.{Act, Alarm, Arrival, Ask, Batch, CheckIdle, Comes, Dials, Does, Drains, Ends, Get, Heard, KeepAlive, LinkAct, Opens, Pings, Reads, Retry, Rings, StopAll, ToLink, Wake, Who, Redelivery}
 use Rattle.pulsar_laws.proofs.RunWords.{after, Begins, begun, Chosen, dialed, Entry, IsRun, Options, Then, Turned, turned, turned_by, view, View, begun_same}
 use Rattle.pulsar_laws.proofs.LinkWords.{address_key, Base, Becomes, Change, closed_by, Fault, is_reachable, IsOver, Nobody, Pause, Pauses, Place, Remains, rings, Runs, Seat, Series, Serves, took, took_end, took_some, Words}
 use Rattle.pulsar_calls.specs.declared.act.Arrival.TheVariants.{Readied}
@@ -272,6 +272,7 @@ rung_left b (Retry k) l row p h = unless_rung (b && (l == k)) row p h
 rung_left b (Wake who) l row p h = h
 rung_left b (Batch n) l row p h = h
 rung_left b (KeepAlive k) l row p h = h
+rung_left b (Redelivery n t) l row p h = h
 rung_left b CheckIdle l row p h = h
 
 pub rings_same : (v : View) (a : Alarm) → Same v (after (Comes (Rings a)) v)
@@ -307,6 +308,7 @@ follows_for v key (e ∷ es) h = elim (either_is (is_to_follow v.addresses key e
     by (Wake who) g = absurd cc
     by (Batch n) g = absurd cc
     by (KeepAlive l) g = absurd cc
+    by (Redelivery n t) g = absurd cc
     by CheckIdle g = absurd cc
 
 stops : (v : View) (who : Who) → Is v → Is (after (Does who StopAll) v)

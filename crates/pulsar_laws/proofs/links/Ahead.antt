@@ -34,8 +34,8 @@ use Rattle.pulsar_producer_table.specs.Producers.{link_at, topic_after}
 use Rattle.pulsar_run.specs.Things.{row_after, row_by}
 use Rattle.pulsar_acts.specs.Effects.{effects, retries_on}
 use Rattle.pulsar_acts.specs.Reading.{made_due, tells}
-use Rattle.pulsar_acts.specs.Rules.{breaks_at, failed_on, idle_act, keeps_alive, reads_on, served_on, waiters_of}
-use Rattle.pulsar_acts.specs.View.{addresses_after, alarms_after, alarms_on, base_on, consumers_after, consumers_left, consumers_listed, member_made, member_of, pause_for, pause_on, producers_after, room_on, started_after}
+use Rattle.pulsar_acts.specs.Rules.{breaks_at, failed_on, idle_act, keeps_alive, multi_shares_unless, reads_on, served_on, waiters_of, why_no_multi_sends}
+use Rattle.pulsar_acts.specs.View.{addresses_after, alarms_after, alarms_built, alarms_made, alarms_on, base_on, builds, consumers_after, consumers_left, consumers_listed, member_made, member_of, pause_for, pause_on, producers_after, room_on, started_after}
 use Rattle.pulsar_consumer.specs.Topic.{of_raw}
 use Rattle.pulsar_consumer_table.specs.Consumers as consumer
 use Rattle.pulsar_consumer_table.specs.Consumers.{Revived, member_by, over_rows}
@@ -526,7 +526,8 @@ module _ (l : ℕ) (bytes : List ℕ) (v : View) where
       (λ url. record v.consumers { rows = λ t. row_by member_by (cond (t == ticket_of who) (Revived v.now k url ∷ []) []) (v.consumers.rows t) })
       (url_same l bytes v k)) refl
   after_same (Answers who verdict) h =
-      after_by l bytes bytes v (Answers who verdict) (λ k. refl) refl refl
+      after_by l bytes bytes v (Answers who verdict) (λ k. refl) refl
+      (ap (λ m. alarms_made who m (alarms_built v.now (not v.calls.is_built && builds verdict.makes false) v.alarms)) (made_so verdict.makes))
       (ap
       (λ m. record (consumers_left who (consumers_listed who verdict.makes v.consumers)) {
         rows = λ t. row_after member_by (member_of m who t) false [] (v.consumers.rows t);

@@ -391,7 +391,7 @@ asks_for f None x l r h = absurd (none_some h)
 asks_for f (Some k) None l r h = absurd (none_some h)
 asks_for f (Some k) (Some a) l r h = (a, ap (λ y. y.1) (some_is h))
 
-ack_is : (key : ℕ) (row : Option Member) (l : ℕ) (r : Words) → consumer.ack_for key row ≡ Some (l, r) → is_ack r ≡ true
+pub ack_is : (key : ℕ) (row : Option Member) (l : ℕ) (r : Words) → consumer.ack_for key row ≡ Some (l, r) → is_ack r ≡ true
 ack_is key None l r h = absurd (none_some h)
 ack_is key (Some m) l r h =
     let x = asks_for (λ id. words.SendAck m.seen.number (id ∷ []) false) (link_of m.seen) (acked key m.seen) l r h in ap is_ack (sym x.1)

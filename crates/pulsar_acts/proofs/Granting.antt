@@ -74,15 +74,15 @@ joins_is (who.Producer n) m cs = refl
 
 rows_are : (live : ℕ → Option Seat) (who : Who) (m : Makes) (cs : Consumers) →
     consumers_made live who m cs
-    ≡ record (consumers_listed who m cs) { rows = λ t. row_after member_by (member_of (member_made live m) who t) false [] (cs.rows t) }
-rows_are live who (makes.Consumer j) cs = joins_is who (member_on live j.link (setup_of j)) cs
+    ≡ record (consumers_listed who m cs) { rows = λ t. row_after member_by (member_of (member_made live cs.next_key m) who t) false [] (cs.rows t) }
+rows_are live who (makes.Consumer j) cs = joins_is who (member_on live j.link (setup_of cs.next_key j)) (consumer.keyed cs)
 rows_are live who (makes.RawConsumer l made) cs = joins_is who (member_on live l (of_raw made)) cs
 rows_are live who _ cs = refl
 
 pub held_is : (live : ℕ → Option Seat) (who : Who) (m : Makes) (cs : Consumers) →
     consumers_left who (consumers_made live who m cs)
     ≡ record (consumers_left who (consumers_listed who m cs)) {
-      rows = λ t. row_after member_by (member_of (member_made live m) who t) false [] (cs.rows t);
+      rows = λ t. row_after member_by (member_of (member_made live cs.next_key m) who t) false [] (cs.rows t);
     }
 held_is live (who.Call t) m cs = ap (consumer.freed t) (rows_are live (who.Call t) m cs)
 held_is live (who.Consumer n t) m cs = rows_are live (who.Consumer n t) m cs

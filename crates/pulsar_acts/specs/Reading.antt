@@ -86,12 +86,12 @@ serves_by ways w j = map (serves w j) (option_to_list ways)
 -- WHOM AN ACT SERVES
 
 -- and of one that is made
-abbrev pub made_due : (ℕ → Option Seat) → Who → Makes → List Notice
-made_due live w makes.Nothing = []
-made_due live w makes.Client = []
-made_due live w (makes.Consumer j) = due_to (ticket_of w) (member_on live j.link (setup_of j))
-made_due live w (makes.RawConsumer l made) = []
-made_due live w (makes.Producer b) = []
+abbrev pub made_due : (ℕ → Option Seat) → (key : ℕ) → Who → Makes → List Notice
+made_due live key w makes.Nothing = []
+made_due live key w makes.Client = []
+made_due live key w (makes.Consumer j) = due_to (ticket_of w) (member_on live j.link (setup_of key j))
+made_due live key w (makes.RawConsumer l made) = []
+made_due live key w (makes.Producer b) = []
 
 -- a consumer whose close is asked for needs no plan any more
 abbrev pub closed_at : View → (link : ℕ) → Words → (ticket : ℕ) → Member → List Notice

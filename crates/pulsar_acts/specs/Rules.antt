@@ -411,7 +411,7 @@ further v _ = []
 abbrev pub joins : View → Act → List Notice
 joins v (Comes (Polls t)) = polled_due v.now t (v.consumers.rows t)
 joins v (Does who (Ask l request)) = over_rows (closed_at v l request) v.consumers
-joins v (Answers who verdict) = made_due v.links.live who verdict.makes
+joins v (Answers who verdict) = made_due v.links.live v.consumers.next_key who verdict.makes
 joins v (Does who (OfTopic n ask)) = (asked_of v who n ask).serves
 joins v (Does who (OfConsumer ask)) = (consumer_asked v who ask).serves
 joins v (Does who (Shut t)) = map closed_notice (stored_by v.producers (numbers_at (v.producers.built t)))

@@ -28,7 +28,7 @@ use Rattle.pulsar_links.specs.Alarms.{set}
 use Rattle.pulsar_links.specs.Kept.{addresses_of, links_in}
 use Rattle.pulsar_producer_table.specs.KeptProducers.{producers_of}
 use Rattle.pulsar_consumer_table.specs.KeptConsumers.{consumers_in}
-use Rattle.pulsar_acts.specs.View.{Turned, View, alarms_on, alarms_rung, alarms_waiting, base_on, delay_with, member_made, pause_on, pause_rung, waits_on}
+use Rattle.pulsar_acts.specs.View.{Turned, View, alarms_on, alarms_rung, alarms_waiting, base_on, delay_with, keyed_for, member_made, pause_on, pause_rung, waits_on}
 use Rattle.pulsar_machine.specs.Options.{Chosen}
 use Rattle.pulsar_links.specs.Seats.{Seat, later, nobody}
 use Rattle.pulsar_links.specs.Links.{change_in}
@@ -139,7 +139,7 @@ joins_some w None cs = cs
 joins_some w (Some m) cs = joins_as w m cs
 
 abbrev pub consumers_made : (ℕ → Option Seat) → Who → Makes → Consumers → Consumers
-consumers_made live w m cs = joins_some w (member_made live m) cs
+consumers_made live w m cs = joins_some w (member_made live cs.next_key m) (keyed_for m cs)
 
 abbrev pub producers_made : Chosen → Who → Makes → Producers → Producers
 producers_made o who Nothing ps = ps

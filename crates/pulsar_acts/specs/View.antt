@@ -418,19 +418,28 @@ alarms_after v _ = v.alarms
 
 -- CONSUMERS
 
--- the consumer that a verdict makes has the ticket of its call
-abbrev pub setup_of : Joining → reader.Setup
-setup_of j = record { topic = j.topic; number = j.number; config = j.config; is_raw = false }
+-- The consumer that a verdict makes has the ticket of its call, and a key of its own. It is plain: what stands above takes no copies of dead letters,
+-- and asks for no message again.
+abbrev pub setup_of : (key : ℕ) → Joining → reader.Setup
+setup_of key j = record { key = key; topic = j.topic; number = j.number; config = consumer.plain j.config; is_raw = false }
 
 abbrev pub member_on : (ℕ → Option Seat) → (link : ℕ) → reader.Setup → Member
 member_on live l s = consumer.member_of s l (url_at (live l))
 
-abbrev pub member_made : (ℕ → Option Seat) → Makes → Option Member
-member_made live Nothing = None
-member_made live Client = None
-member_made live (Consumer made) = Some (member_on live made.link (setup_of made))
-member_made live (RawConsumer l made) = Some (member_on live l (of_raw made))
-member_made live (Producer made) = None
+abbrev pub member_made : (ℕ → Option Seat) → (key : ℕ) → Makes → Option Member
+member_made live key Nothing = None
+member_made live key Client = None
+member_made live key (Consumer made) = Some (member_on live made.link (setup_of key made))
+member_made live key (RawConsumer l made) = Some (member_on live l (of_raw made))
+member_made live key (Producer made) = None
+
+-- its key is drawn
+abbrev pub keyed_for : Makes → Consumers → Consumers
+keyed_for Nothing cs = cs
+keyed_for Client cs = cs
+keyed_for (Consumer made) cs = consumer.keyed cs
+keyed_for (RawConsumer l made) cs = cs
+keyed_for (Producer made) cs = cs
 
 -- and that is listed
 abbrev pub listed_as : Who → Consumers → Consumers
@@ -441,7 +450,7 @@ listed_as (who.Producer n) cs = cs
 abbrev pub consumers_listed : Who → Makes → Consumers → Consumers
 consumers_listed w Nothing cs = cs
 consumers_listed w Client cs = cs
-consumers_listed w (Consumer made) cs = listed_as w cs
+consumers_listed w (Consumer made) cs = listed_as w (consumer.keyed cs)
 consumers_listed w (RawConsumer l made) cs = listed_as w cs
 consumers_listed w (Producer made) cs = cs
 
@@ -480,7 +489,7 @@ member_of (Some m) (who.Consumer n u) t = None
 member_of (Some m) (who.Producer n) t = None
 
 abbrev pub member_born : View → (ticket : ℕ) → Act → Option Member
-member_born v t (Answers w verdict) = member_of (member_made v.links.live verdict.makes) w t
+member_born v t (Answers w verdict) = member_of (member_made v.links.live v.consumers.next_key verdict.makes) w t
 member_born v t _ = None
 
 -- what becomes of it

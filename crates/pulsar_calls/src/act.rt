@@ -1,14 +1,12 @@
 //! What a step is made of: acts, each one thing that happens. There are six kinds of act, and all that is special to a kind of
 //! call, thing or event stands one level below them.
 
-use crate::content::{
-    Advice, Asking, Granted, Joined, Made, Notices, Numbers, Recalled, Remade, Said,
-};
+use crate::content::{Advice, Asking, Granted, Joined, Made, Notices, Recalled, Remade, Said};
 use pulsar_addresses::content::{Address, Cause, Refusal as Failure};
 use pulsar_exchange::content::{Received, Request, Subscribed};
 use pulsar_incoming::orders::ConsumerOrder;
 use pulsar_outgoing::batch::Receipt;
-use pulsar_outgoing::content::{Entry, Outgoing};
+use pulsar_outgoing::content::{Entry, Numbers, Outgoing};
 use pulsar_outgoing::orders::{Errand, ProducerOrder};
 use pulsar_searches::plan::Sought;
 use pulsar_searches::turn::Ways;

@@ -1,7 +1,7 @@
 //! What a call says, what it ends with, and why something failed. It is boxed, so that acts are small. Contracts see it by its
 //! content.
 
-ghost use Rattle.std.specs.Prelude.{◌≡◌, [], ◌∷◌, ◌++◌, ℕ, List, Result, IfOk, MatchOption, drop};
+ghost use Rattle.std.specs.Prelude.{◌≡◌, [], ◌∷◌, ◌++◌, ℕ, List, Result, IfOk, drop};
 ghost use Rattle.pulsar_calls.specs.Content as content;
 ghost use Rattle.pulsar_calls.specs.Content.{asked, said};
 ghost use Rattle.pulsar_calls.specs.Content.{numbers_from};
@@ -149,52 +149,6 @@ pub type Joined = Boxed<Joining>;
 
 /// The command by which a consumer is subscribed again, in a box.
 pub type Recalled = Boxed<Command>;
-
-/// Numbers of topic producers that are left, in order.
-pub struct Numbers {
-    all: VecDeque<u64>,
-}
-
-impl Drop for Numbers {
-    fn drop(self) {
-        let Numbers { all: _ } = self;
-    }
-}
-
-impl Model for Numbers {
-    ghost use Rattle.std.specs.Prelude.{ℕ, List};
-
-    ghost Value = { List ℕ };
-
-    ghost view = { λ n. n.all.items };
-}
-
-impl Numbers {
-    /// None.
-    pub fn new(alloc: Global) -> Numbers
-        ensures { result ≡ [] }
-    {
-        Numbers {
-            all: VecDeque::new(alloc),
-        }
-    }
-
-    /// One more behind these.
-    pub fn with(self, number: u64) -> Result<Numbers, NoMemory>
-        ensures { IfOk result (λ n. n ≡ self ++ number ∷ []) }
-    {
-        let Numbers { mut all } = self;
-        all.push_back(number)?;
-        Ok(Numbers { all })
-    }
-
-    /// The first, which is left no longer.
-    pub fn next(&mut self) -> Option<u64>
-        ensures { MatchOption result (self.old ≡ []) (λ n. self.old ≡ n ∷ self.new) }
-    {
-        self.all.pop_front()
-    }
-}
 
 /// What others are told, in order.
 pub struct Notices {

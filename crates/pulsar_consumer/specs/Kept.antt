@@ -5,6 +5,7 @@ use Rattle.pulsar_consumer.specs.declared.topic_consumer.TopicConsumer.TheInside
 abbrev pub seen_of : Inside → Seen
 seen_of i =
     record {
+      key = i.key;
       topic = i.topic;
       number = i.number;
       config = i.config;

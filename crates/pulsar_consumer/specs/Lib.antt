@@ -1,8 +1,14 @@
+pub mod Items
+pub mod DeadLetters
+pub mod Redelivery
 pub mod Frames
 pub mod Topic
 pub mod Consumer
 pub mod Commands
 pub mod Plans
+pub mod IdOrder
+pub mod KeptIds
+pub mod KeptItem
 pub mod KeptFrame
 pub mod KeptLive
 pub mod KeptEngine

@@ -1,19 +1,21 @@
 -- A consumer of one topic: what is done to it, what is seen of it, and what it answers. It knows links and numbers, and never who asks.
 -- (Pulsar binary protocol, Consumer: Flow control; PulsarApi.proto, CommandFlow)
-use Rattle.std.specs.Prelude.{ℕ, ◌+◌, ◌-◌, ◌/◌, nat_lt, Bool, true, false, not, ◌&&◌, ◌==◌, if◌then◌else◌, List, [], ◌∷◌, ◌++◌, length, take, drop, Option, Some, None, unwrap_or}
+use Rattle.std.specs.Prelude.{ℕ, ◌+◌, ◌-◌, ◌/◌, nat_lt, Bool, true, false, not, ◌&&◌, ◌||◌, ◌==◌, if◌then◌else◌, List, [], ◌∷◌, ◌++◌, length, take, drop, Option, Some, None, unwrap_or}
 use Rattle.std.specs.Option.{is_some, option_map, option_or}
 use Rattle.url.specs.Parts.{Parts}
 use Rattle.pulsar_wire.specs.Sink.{capped}
-use Rattle.pulsar_frame.specs.Items.{Item}
+use Rattle.pulsar_consumer.specs.Items.{Item, handed, is_message}
 use Rattle.pulsar_exchange.specs.Request.{Subscribed}
+use Rattle.pulsar_messages.specs.Content.{ProducerMessageValues}
 use Rattle.pulsar_wire.specs.Failures.{Failure}
 use Rattle.pulsar_incoming.specs.Content.{ConfigValues}
-use Rattle.pulsar_consumer.specs.Frames.{Frame, failed}
+use Rattle.pulsar_consumer.specs.DeadLetters.{Letter, copy_of, lost_letter}
+use Rattle.pulsar_consumer.specs.Frames.{Frame, failed, frame_by}
+use Rattle.pulsar_consumer.specs.Redelivery.{Id, Kept, due_at, due_before, first_check, forget, forget_all, forget_one, keep_all, next_check}
 use Rattle.pulsar_incoming.specs.declared.polled.Ending.{Ending}
 use Rattle.pulsar_incoming.specs.declared.polled.Ending.TheVariants.{LinkLost, NotSubscribed}
 use Rattle.pulsar_incoming.specs.declared.polled.Polled.{Polled}
 use Rattle.pulsar_incoming.specs.declared.polled.Polled.TheVariants as poll
-use Rattle.pulsar_frame.specs.Items.{is_message}
 
 -- PERMITS
 
@@ -54,35 +56,75 @@ finishes (Some batch) l = finishes_by batch l
 
 -- ITEMS AND FRAMES
 
--- How many items may be unread, and how many messages the broker may send where that is granted at all; the live subscription; the items
--- that were placed and not given; those of the frame that is begun which are not placed; and the frames that are not begun.
+-- How many items may be unread, and how many messages the broker may send where that is granted at all; after which delay a message that was
+-- not acknowledged is to be given again, and the moment at which items are placed; the live subscription; the items that were placed and not
+-- given; those of the frame that is begun which are not placed; its entries that are still to be copied to another topic, and the one whose
+-- copy is under way; the frames that are not begun; the ids that are kept, and when the next check of them is due; and whether the client was
+-- stopped, so that no copy is made.
 pub record Engine : Type 0 where
   pub queue : ℕ
   pub batch : Option ℕ
+  pub delay : Option ℕ
+  pub clock : ℕ
   pub live : Option Live
   pub unread : List Item
   pub rest : List Item
+  pub letters : List Letter
+  pub copying : Option Id
   pub waiting : List Frame
+  pub kept : Kept
+  pub check : Option ℕ
+  pub stopped : Bool
 
--- the frame that is begun places items while fewer than the queue size are unread
+-- the frame that is begun places items while fewer than the queue size are unread, and their ids are kept
+abbrev pub placing : Engine → List Item
+placing e = take (e.queue - length e.unread) e.rest
+
 abbrev pub places : Engine → Engine
 places e =
-    record e { unread = e.unread ++ take (e.queue - length e.unread) e.rest; rest = drop (e.queue - length e.unread) e.rest }
+    record e {
+      unread = e.unread ++ placing e;
+      rest = drop (e.queue - length e.unread) e.rest;
+      kept = keep_all (due_at e.delay e.clock) (placing e) e.kept;
+    }
 
 abbrev pub finish : Engine → Engine
 finish e = record e { live = option_map (finishes e.batch) e.live }
-
-abbrev pub begin : Frame → Engine → Engine
-begin f e = places (record e { live = option_map (begins f.weight) e.live; rest = f.items })
 
 abbrev pub no_items : List Item → Bool
 no_items [] = true
 no_items (item ∷ items) = false
 
--- A frame is finished once each of its items is placed, and then the next is begun.
+abbrev pub no_letters : List Letter → Bool
+no_letters [] = true
+no_letters (l ∷ ls) = false
+
+-- A dead letter whose copies are not made gives one error for all its entries.
+abbrev pub error_for : List Letter → List Item
+error_for [] = []
+error_for (l ∷ ls) = lost_letter ∷ []
+
+abbrev pub opens : List Item → List Letter → Engine → Engine
+opens items ls e =
+    record e {
+      rest = items ++ (if e.stopped then error_for ls else []);
+      letters = if e.stopped then [] else ls;
+    }
+
+abbrev pub begin : Frame → Engine → Engine
+begin f e = places (opens f.items f.letters (record e { live = option_map (begins f.weight) e.live }))
+
+-- an entry of it is to be copied, or its copy is under way
+abbrev pub is_pending : Engine → Bool
+is_pending e = is_some e.copying || not (no_letters e.letters)
+
+-- A frame is finished once each of its items is placed and none of its entries is pending, and then the next is begun.
+abbrev pub is_finished : Engine → Bool
+is_finished e = no_items e.rest && not (is_pending e)
+
 abbrev pub goes_on : List Frame → Engine → Engine
-goes_on [] e = if no_items e.rest then finish e else e
-goes_on (f ∷ fs) e = if no_items e.rest then goes_on fs (begin f (record (finish e) { waiting = fs })) else e
+goes_on [] e = if is_finished e then finish e else e
+goes_on (f ∷ fs) e = if is_finished e then goes_on fs (begin f (record (finish e) { waiting = fs })) else e
 
 -- as far as there is room
 abbrev pub advances : Engine → Engine
@@ -103,6 +145,68 @@ gives_from (item ∷ items) e = advances (record e { unread = items })
 
 abbrev pub gives : Engine → Engine
 gives e = gives_from e.unread e
+
+-- COPIES OF DEAD LETTERS: one at a time
+
+-- the entry that is to be copied now
+abbrev pub first_letter : List Letter → Option Letter
+first_letter [] = None
+first_letter (l ∷ ls) = Some l
+
+abbrev pub to_copy : Engine → Option Letter
+to_copy e = if is_some e.copying then None else first_letter e.letters
+
+-- it is taken: its copy is under way
+abbrev pub takes_copy_from : List Letter → Engine → Engine
+takes_copy_from [] e = e
+takes_copy_from (l ∷ ls) e = record e { letters = ls; copying = Some l.0 }
+
+abbrev pub takes_copy : Engine → Engine
+takes_copy e = if is_some e.copying then e else takes_copy_from e.letters e
+
+-- Its copy has its receipt: the entry is left out. Where a subscription is live it is acknowledged, and so it is not asked for again. Or its
+-- copy could not be sent: one error is given, and the rest of its frame is left out.
+abbrev pub only_if : Bool → Option Id → Option Id
+only_if true id = id
+only_if false id = None
+
+abbrev pub acked_by : Engine → Option Id
+acked_by e = only_if (is_some e.live) e.copying
+
+abbrev pub copied : Engine → Engine
+copied e = if is_some e.copying then advances (record e { copying = None; kept = forget_one (acked_by e) e.kept }) else e
+
+abbrev pub gives_up : Engine → Engine
+gives_up e = advances (record e { rest = e.rest ++ lost_letter ∷ []; letters = []; copying = None })
+
+abbrev pub copy_failed : Engine → Engine
+copy_failed e = if is_some e.copying then gives_up e else e
+
+-- the client is stopped: what is pending fails, and no copy is made any more
+abbrev pub stops : Engine → Engine
+stops e = if is_pending e then gives_up (record e { stopped = true }) else record e { stopped = true }
+
+-- a subscription is live, and from the first on there are checks
+abbrev pub lives : (link : ℕ) → Parts → Engine → Engine
+lives link url e = record e { live = Some (subscribed e.batch link url); check = option_or e.check (first_check e.delay e.clock) }
+
+-- it is lost; or there will be none, so that nothing is asked for again
+abbrev pub cut_off : Engine → Engine
+cut_off e = record e { live = None }
+
+abbrev pub shut : Engine → Engine
+shut e = record e { live = None; delay = None; kept = []; check = None }
+
+-- the ids that are due are named where a subscription is live, and forgotten
+abbrev pub names_due : (clock : ℕ) → Engine → Engine
+names_due clock e = if is_some e.live then record e { kept = forget_all (due_before clock e.kept) e.kept } else e
+
+abbrev pub checks : (clock : ℕ) → Engine → Engine
+checks clock e = record (names_due clock e) { check = next_check clock e.check }
+
+-- the moment at which items are placed from now on
+abbrev pub clocked : (clock : ℕ) → Engine → Engine
+clocked clock e = record e { clock = clock }
 
 -- the flow that is to be asked for next, and those behind it
 abbrev pub first_in : List ℕ → Option ℕ
@@ -137,20 +241,36 @@ pub data Act : Type 0 where
   Polls : (clock : ℕ) → Act
   -- the flow that is due is asked for
   Asks : Act
+  -- it is this moment now
+  IsAt : (clock : ℕ) → Act
+  -- the copy of a dead letter that is due is taken, to be sent to the other topic
+  TakesCopy : Act
+  -- at this moment the copy that the consumer of this key took has its receipt, or could not be sent
+  IsCopied : (key clock : ℕ) → Act
+  FailsCopy : (key clock : ℕ) → Act
+  -- the client is stopped: what is pending fails, and no copy is made any more
+  Stops : Act
+  -- the message of this id is acknowledged, or is asked for again by its user
+  Forgets : Id → Act
+  -- at this moment the messages that are due are asked for again
+  Checks : (clock : ℕ) → Act
 
 -- WHAT IS SEEN OF IT
 
--- Its topic, its number, and how it is made. A raw one grants no permits, and is not subscribed again.
+-- Its key, which no other one that makes copies ever has, its topic, its number, and how it is made. A raw one grants no permits, and is not
+-- subscribed again.
 pub record Setup : Type 0 where
+  pub key : ℕ
   pub topic : List ℕ
   pub number : ℕ
   pub config : ConfigValues
   pub is_raw : Bool
 
--- the consumer that a raw call makes
+-- the consumer that a raw call makes: it has no dead letters, so that nothing names its key
 abbrev pub of_raw : Subscribed → Setup
 of_raw s =
     record {
+      key = 0;
       topic = s.topic;
       number = s.consumer;
       config =
@@ -169,6 +289,7 @@ of_raw s =
 
 -- and why it has ended, how many messages it gave, and when it gave the last
 pub record Seen : Type 0 where
+  pub key : ℕ
   pub topic : List ℕ
   pub number : ℕ
   pub config : ConfigValues
@@ -183,20 +304,32 @@ abbrev pub queue_of : Option ℕ → ℕ
 queue_of None = 1000
 queue_of (Some n) = if n == 0 then 1 else n
 
-abbrev pub idle : (is_raw : Bool) → ConfigValues → Engine
-idle is_raw c =
+abbrev pub nothing_held : (queue : ℕ) (batch delay : Option ℕ) → Engine
+nothing_held queue batch delay =
     record {
-      queue = queue_of c.options.receiver_queue_size;
-      batch = if is_raw then None else Some (batch_size c);
+      queue = queue;
+      batch = batch;
+      delay = delay;
+      clock = 0;
       live = None;
       unread = [];
       rest = [];
+      letters = [];
+      copying = None;
       waiting = [];
+      kept = [];
+      check = None;
+      stopped = false;
     }
+
+abbrev pub idle : (is_raw : Bool) → ConfigValues → Engine
+idle is_raw c =
+    nothing_held (queue_of c.options.receiver_queue_size) (if is_raw then None else Some (batch_size c)) c.unacked_message_redelivery_delay
 
 abbrev pub fresh : Setup → Seen
 fresh s =
     record {
+      key = s.key;
       topic = s.topic;
       number = s.number;
       config = s.config;
@@ -226,18 +359,26 @@ is_due v = is_some (first_due v.engine.live)
 abbrev pub is_ended : Seen → Bool
 is_ended v = is_some v.ended
 
+-- it has ended, and no dead letter is pending
+abbrev pub is_over : Seen → Bool
+is_over v = is_ended v && not (is_pending v.engine)
+
 abbrev pub resubscribes : (link : ℕ) → Seen → Bool
 resubscribes link v = lives_on link v && not v.is_raw
 
--- WHAT A POLL GIVES: the first unread item; else the end, where it has ended
+-- WHAT A POLL GIVES: the first unread item; else the end, where it has ended and no dead letter is pending
 
 abbrev pub polled_from : Option Item → Option Ending → Polled
-polled_from (Some item) why = poll.Item item
+polled_from (Some item) why = poll.Item (handed item)
 polled_from None (Some why) = poll.End
 polled_from None None = poll.Empty
 
+abbrev pub over : (is_pending : Bool) → Option Ending → Option Ending
+over true why = None
+over false why = why
+
 abbrev pub polled : Seen → Polled
-polled v = polled_from (first_of v.engine.unread) v.ended
+polled v = polled_from (first_of v.engine.unread) (over (is_pending v.engine) v.ended)
 
 abbrev pub counts : (clock : ℕ) → Item → Seen → Seen
 counts clock item v = if is_message item then record v { received = capped (v.received + 1); last = Some clock } else v
@@ -246,22 +387,52 @@ abbrev pub counts_first : (clock : ℕ) → Option Item → Seen → Seen
 counts_first clock None v = v
 counts_first clock (Some item) v = counts clock item v
 
+-- WHAT IT ASKS FOR BESIDE FLOWS
+
+-- the copy that is to be sent to the other topic now, with the key of its consumer
+abbrev pub copy_due : Seen → Option (ℕ × ProducerMessageValues)
+copy_due v = option_map (λ m. (v.key, m)) (option_map (copy_of v.topic) (to_copy v.engine))
+
+-- the entry that is acknowledged as its copy has its receipt, where a subscription is live then; that of another consumer acknowledges nothing
+abbrev pub acked : (key : ℕ) → Seen → Option Id
+acked key v = only_if (v.key == key) (acked_by v.engine)
+
+-- the messages that are asked for again at this moment, where a subscription is live: they are kept no longer
+abbrev pub asked_again : (clock : ℕ) → Seen → List Id
+asked_again clock v = if is_some (link_of v) then due_before clock v.engine.kept else []
+
 -- WHAT A HISTORY SAYS. Its acts, newest first.
 
+abbrev pub frame_for : Seen → Frame → Frame
+frame_for v f = frame_by v.config.dead_letter_policy f
+
 abbrev pub ends : Ending → Seen → Seen
-ends why v = record v { engine = record v.engine { live = None }; ended = option_or v.ended (Some why) }
+ends why v = record v { engine = shut v.engine; ended = option_or v.ended (Some why) }
 
 abbrev pub loses : Seen → Seen
-loses v = if v.is_raw then ends LinkLost v else record v { engine = record v.engine { live = None } }
+loses v = if v.is_raw then ends LinkLost v else record v { engine = cut_off v.engine }
+
+abbrev pub heard : Frame → Seen → Seen
+heard f v = record v { engine = hears (frame_for v f) v.engine }
+
+abbrev pub told : (key : ℕ) → Engine → Seen → Seen
+told key e v = if v.key == key then record v { engine = e } else v
 
 abbrev pub after : Act → Seen → Seen
-after (Lives link url) v = if is_ended v then v else record v { engine = record v.engine { live = Some (subscribed v.engine.batch link url) } }
-after (Hears link f) v = if lives_on link v then record v { engine = hears f v.engine } else v
+after (Lives link url) v = if is_ended v then v else record v { engine = lives link url v.engine }
+after (Hears link f) v = if lives_on link v then heard f v else v
 after (Loses link) v = if lives_on link v then loses v else v
 after (Fails f) v = if is_ended v then v else ends NotSubscribed (record v { engine = hears (failed f) v.engine })
 after (Ends why) v = ends why v
-after (Polls clock) v = counts_first clock (first_of v.engine.unread) (record v { engine = gives v.engine })
+after (Polls clock) v = counts_first clock (first_of v.engine.unread) (record v { engine = gives (clocked clock v.engine) })
 after Asks v = record v { engine = record v.engine { live = option_map asked v.engine.live } }
+after (IsAt clock) v = record v { engine = clocked clock v.engine }
+after TakesCopy v = record v { engine = takes_copy v.engine }
+after (IsCopied key clock) v = told key (copied (clocked clock v.engine)) v
+after (FailsCopy key clock) v = told key (copy_failed (clocked clock v.engine)) v
+after Stops v = record v { engine = stops v.engine }
+after (Forgets id) v = record v { engine = record v.engine { kept = forget id v.engine.kept } }
+after (Checks clock) v = record v { engine = checks clock v.engine }
 
 abbrev pub seen : Setup → List Act → Seen
 seen s [] = fresh s

@@ -1,22 +1,28 @@
 //! A message of the broker as a consumer takes it.
 
-ghost use Rattle.std.specs.Prelude.{◌≡◌, ◌<◌, ◌^◌, ◌∷◌, [], map, Some, IfOk};
+ghost use Rattle.std.specs.Prelude.{◌≡◌, ◌<◌, ◌^◌, ◌∷◌, ◌++◌, [], map, Some, IfOk, OnOk};
 ghost use Rattle.std.specs.Option.{option_map};
 ghost use Rattle.pulsar_wire.specs.Views.{body_values, message_id_values};
 ghost use Rattle.pulsar_frame.specs.Batch.{batch_items};
 ghost use Rattle.pulsar_frame.specs.Payload.{payload_values};
-ghost use Rattle.pulsar_frame.specs.Held.{item_of};
 ghost use Rattle.pulsar_frame.specs.Items as meant;
-ghost use Rattle.pulsar_frame.specs.Items.{given, is_compressed, items_of, opened, weight_behind};
+ghost use Rattle.pulsar_frame.specs.Items.{is_compressed, weight_behind};
+ghost use Rattle.pulsar_consumer.specs.Items.{given, items_of, opened};
+ghost use Rattle.pulsar_consumer.specs.KeptItem.{item_of};
+ghost use Rattle.pulsar_incoming.specs.Content.{dead_letter_values};
+ghost use Rattle.pulsar_consumer.specs.DeadLetters as dead;
 ghost use Rattle.pulsar_consumer.specs.Frames as meaning;
-ghost use Rattle.pulsar_consumer.specs.Frames.{frame_in};
+ghost use Rattle.pulsar_consumer.specs.Frames.{frame_by, frame_in};
 
+use crate::dead_letter::is_dead;
+use crate::frame_item::FrameItem;
+use crate::letter::Letter;
 use pulsar_addresses::content::Refusal;
 use pulsar_exchange::content::Received;
 use pulsar_frame::batch::iterator::BatchedMessageIterator;
 use pulsar_frame::items::Unread as Item;
 use pulsar_frame::payload::Payload;
-use pulsar_incoming::unread::Unread;
+use pulsar_incoming::config::DeadLetterPolicy;
 use pulsar_wire::commands::base::Body;
 use pulsar_wire::commands::consumer::delivery::CommandMessage;
 use pulsar_wire::commands::ids::MessageIdData;
@@ -25,11 +31,13 @@ use std::alloc::Global;
 use std::collections::VecDeque;
 use std::marker::Model;
 
-/// What it costs, and its items.
+/// What it costs, its items, its entries that go to another topic, and how often its message was given before.
 #[derive(Drop)]
 pub struct Frame {
     weight: u32,
-    items: VecDeque<Unread>,
+    items: VecDeque<FrameItem>,
+    letters: VecDeque<Letter>,
+    redeliveries: Option<u32>,
 }
 
 impl Model for Frame {
@@ -58,7 +66,7 @@ impl Frame {
         let payload = message.payload.take();
         match &message.command.body {
             Some(body) => frame_with(alloc, payload, body),
-            None => Ok(Frame::empty(alloc, 0)),
+            None => Ok(Frame::empty(alloc, 0, None)),
         }
     }
 
@@ -67,17 +75,49 @@ impl Frame {
         ensures { IfOk result (λ f. f ≡ meaning.failed refusal) }
     {
         let items = one(alloc, Item::Failure(refusal.into_inner()))?;
-        Ok(Frame { weight: 0, items })
+        Ok(Frame {
+            weight: 0,
+            items,
+            letters: VecDeque::new(alloc),
+            redeliveries: None,
+        })
     }
 
-    fn empty(alloc: Global, weight: u32) -> Frame
+    fn empty(alloc: Global, weight: u32, redeliveries: Option<u32>) -> Frame
         requires { weight < 2 ^ 31 }
-        ensures { result ≡ record { weight = weight; items = [] } }
+        ensures { result ≡ record { weight = weight; items = []; letters = []; redeliveries = redeliveries } }
     {
         Frame {
             weight,
             items: VecDeque::new(alloc),
+            letters: VecDeque::new(alloc),
+            redeliveries,
         }
+    }
+
+    /// By the policy of a consumer it may be a dead letter.
+    pub(crate) fn sorted(
+        self,
+        alloc: Global,
+        policy: &Option<DeadLetterPolicy>,
+    ) -> Result<Frame, NoMemory>
+        ensures { IfOk result (λ f. f ≡ frame_by (option_map dead_letter_values policy.now) self) }
+    {
+        let Frame {
+            weight,
+            items,
+            letters: _,
+            redeliveries,
+        } = self;
+        if is_dead(policy, redeliveries) {
+            return dead_frame(alloc, weight, items, redeliveries);
+        }
+        Ok(Frame {
+            weight,
+            items,
+            letters: VecDeque::new(alloc),
+            redeliveries,
+        })
     }
 
     /// How many permits it costs.
@@ -88,12 +128,13 @@ impl Frame {
         self.weight
     }
 
-    /// Its items in order.
-    pub fn into_items(self) -> VecDeque<Unread>
-        ensures { result.items ≡ self.items }
+    /// Its items in order, and its entries that go to another topic.
+    pub(crate) fn into_parts(self) -> (VecDeque<FrameItem>, VecDeque<Letter>)
+        ensures items { result.0.items ≡ self.items }
+        ensures letters { result.1.items ≡ self.letters }
     {
-        let Frame { items, .. } = self;
-        items
+        let Frame { items, letters, .. } = self;
+        (items, letters)
     }
 }
 
@@ -103,7 +144,7 @@ fn frame_with(alloc: Global, payload: Option<Payload>, body: &Body) -> Result<Fr
 {
     match body {
         Body::Message(message) => frame_of_message(alloc, payload, message),
-        _ => Ok(Frame::empty(alloc, 0)),
+        _ => Ok(Frame::empty(alloc, 0, None)),
     }
 }
 
@@ -116,24 +157,79 @@ fn frame_of_message(
 ) -> Result<Frame, NoMemory>
     ensures { IfOk result (λ f. f ≡ meaning.frame_with (option_map payload_values payload) (Some (body_values (Body.Message message.now)))) }
 {
+    let redeliveries = message.redelivery_count;
     match payload {
-        Some(payload) => frame_of(alloc, message.message_id.copy()?, payload),
-        None => Ok(Frame::empty(alloc, 1)),
+        Some(payload) => frame_of(alloc, message.message_id.copy()?, payload, redeliveries),
+        None => Ok(Frame::empty(alloc, 1, redeliveries)),
     }
 }
 
 /// What a payload brings under its id.
-fn frame_of(alloc: Global, id: MessageIdData, payload: Payload) -> Result<Frame, NoMemory>
+fn frame_of(
+    alloc: Global,
+    id: MessageIdData,
+    payload: Payload,
+    redeliveries: Option<u32>,
+) -> Result<Frame, NoMemory>
     ensures { IfOk result (λ f. f ≡ record {
       weight = weight_behind (Some (payload_values payload));
       items = items_of (message_id_values id) (payload_values payload);
+      letters = [];
+      redeliveries = redeliveries;
     }) }
 {
     let weight = weight_of(&payload);
     Ok(Frame {
         weight,
         items: items(alloc, id, payload)?,
+        letters: VecDeque::new(alloc),
+        redeliveries,
     })
+}
+
+/// A dead letter with these items: an error among them is given in any case, and the messages go to another topic.
+fn dead_frame(
+    alloc: Global,
+    weight: u32,
+    mut items: VecDeque<FrameItem>,
+    redeliveries: Option<u32>,
+) -> Result<Frame, NoMemory>
+    requires { weight < 2 ^ 31 }
+    ensures { IfOk result (λ f. f ≡ record {
+      weight = weight;
+      items = dead.faults items.items;
+      letters = dead.letters items.items;
+      redeliveries = redeliveries;
+    }) }
+{
+    let mut faults = VecDeque::new(alloc);
+    let mut letters = VecDeque::new(alloc);
+    while let Some(item) = items.pop_front() {
+        sort(alloc, item, &mut faults, &mut letters)?;
+    }
+    Ok(Frame {
+        weight,
+        items: faults,
+        letters,
+        redeliveries,
+    })
+}
+
+/// An item stands behind the errors, or behind the entries that are copied.
+fn sort(
+    alloc: Global,
+    item: FrameItem,
+    faults: &mut VecDeque<FrameItem>,
+    letters: &mut VecDeque<Letter>,
+) -> Result<(), NoMemory>
+    ensures faults { OnOk result (faults.new.items ≡ faults.old.items ++ dead.faults (item ∷ [])) }
+    ensures letters { OnOk result (letters.new.items ≡ letters.old.items ++ dead.letters (item ∷ [])) }
+{
+    match item.into_inner() {
+        Item::Message { id, payload } => letters.push_back(Letter::new(alloc, id, payload)?)?,
+        Item::Failure(error) => faults.push_back(FrameItem::new(alloc, Item::Failure(error))?)?,
+    }
+    Ok(())
 }
 
 /// How many permits a payload costs.
@@ -160,17 +256,21 @@ fn weight(count: Option<i32>) -> u32
 }
 
 /// One item.
-fn one(alloc: Global, item: Item) -> Result<VecDeque<Unread>, NoMemory>
+fn one(alloc: Global, item: Item) -> Result<VecDeque<FrameItem>, NoMemory>
     ensures { IfOk result (λ items. items.items ≡ item_of item ∷ []) }
 {
     let mut items = VecDeque::new(alloc);
-    items.push_back(Unread::new(alloc, item)?)?;
+    items.push_back(FrameItem::new(alloc, item)?)?;
     Ok(items)
 }
 
 /// What a payload gives under its id.
 #[tactic(auto, unfolding(pulsar_wire::specs::Views::message_metadata_values))]
-fn items(alloc: Global, id: MessageIdData, payload: Payload) -> Result<VecDeque<Unread>, NoMemory>
+fn items(
+    alloc: Global,
+    id: MessageIdData,
+    payload: Payload,
+) -> Result<VecDeque<FrameItem>, NoMemory>
     ensures { IfOk result (λ items. items.items ≡ items_of (message_id_values id) (payload_values payload)) }
 {
     if is_compressed(payload.metadata.compression) {
@@ -193,7 +293,7 @@ fn is_compressed(compression: Option<i32>) -> bool
 }
 
 /// The messages of a batch in order, or one failure where it does not parse.
-fn open(alloc: Global, id: MessageIdData, payload: Payload) -> Result<VecDeque<Unread>, NoMemory>
+fn open(alloc: Global, id: MessageIdData, payload: Payload) -> Result<VecDeque<FrameItem>, NoMemory>
     ensures { IfOk result (λ items. items.items ≡ opened (batch_items (message_id_values id) (payload_values payload))) }
 {
     match BatchedMessageIterator::new(id, payload) {
@@ -206,12 +306,15 @@ fn open(alloc: Global, id: MessageIdData, payload: Payload) -> Result<VecDeque<U
     }
 }
 
-fn all_of(alloc: Global, mut messages: BatchedMessageIterator) -> Result<VecDeque<Unread>, NoMemory>
+fn all_of(
+    alloc: Global,
+    mut messages: BatchedMessageIterator,
+) -> Result<VecDeque<FrameItem>, NoMemory>
     ensures { IfOk result (λ items. items.items ≡ map given messages) }
 {
     let mut items = VecDeque::new(alloc);
     while let Some((id, payload)) = messages.next() {
-        items.push_back(Unread::new(alloc, Item::Message { id, payload })?)?;
+        items.push_back(FrameItem::new(alloc, Item::Message { id, payload })?)?;
     }
     Ok(items)
 }

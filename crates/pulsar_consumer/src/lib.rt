@@ -3,15 +3,21 @@
 
 pub mod building;
 pub mod consumer;
+pub mod dead_letter;
 pub mod engine;
 pub mod frame;
+pub mod frame_item;
+pub mod kept;
+pub mod kept_id;
 pub mod laws;
+pub mod letter;
 pub mod live;
 pub mod resuming;
 pub mod topic_consumer;
 
 pub use consumer::Consumer;
 pub use engine::ConsumerEngine;
+pub use letter::LetterCopy;
 pub use pulsar_frame::message::Message as RawMessage;
 pub use pulsar_incoming::builder::ConsumerBuilder;
 pub use pulsar_incoming::config::{ConsumerConfig, DeadLetterPolicy};

@@ -1,22 +1,26 @@
 //! A consumer of one topic, or of one partition.
 
-ghost use Rattle.std.specs.Prelude.{◌≡◌, None, IfOk, OnOk};
-ghost use Rattle.std.specs.Option.{option_map};
+ghost use Rattle.std.specs.Prelude.{◌≡◌, map, Some, None, IfOk, OnOk};
+ghost use Rattle.std.specs.Option.{is_some, option_map, option_or};
+ghost use Rattle.pulsar_wire.specs.Views.{message_id_values};
+ghost use Rattle.pulsar_messages.specs.Content.{message_content};
 ghost use Rattle.pulsar_consumer.specs.Commands.{command_of};
 ghost use Rattle.pulsar_incoming.specs.Content.{config_values};
-ghost use Rattle.pulsar_consumer.specs.Topic.{Asks, Ends, Fails, Hears, Lives, Loses, Polls, after, first_due, fresh, is_due, is_ended, link_of, lives_on, of_raw, polled, queue_of, resubscribes};
+ghost use Rattle.pulsar_consumer.specs.Topic.{Asks, Checks, Ends, Fails, FailsCopy, Forgets, Hears, IsAt, IsCopied, Lives, Loses, Polls, Stops, TakesCopy, acked, acked_by, after, asked_again, copy_due, first_due, fresh, is_due, is_ended, is_over, link_of, lives_on, of_raw, polled, queue_of, resubscribes};
 ghost use Rattle.pulsar_consumer.specs.Topic as meaning;
 
 use crate::building::command;
 use crate::engine::ConsumerEngine;
 use crate::frame::Frame;
+use crate::frame_item::FrameItem;
+use crate::letter::LetterCopy;
 use pulsar_addresses::content::{Refusal, Text};
 use pulsar_exchange::content::Subscribed;
 use pulsar_incoming::config::ConsumerConfig;
 use pulsar_incoming::polled::{Ending, Polled};
 use pulsar_incoming::settings::Settings;
-use pulsar_incoming::unread::Unread;
 use pulsar_searches::making::Command;
+use pulsar_wire::commands::ids::MessageIdData;
 use pulsar_wire::error::NoMemory;
 use std::alloc::Global;
 use std::marker::Model;
@@ -31,6 +35,7 @@ const DEFAULT_QUEUE_SIZE: u32 = 1000;
 /// A consumer of one topic, or of one partition. It knows links and numbers, and never who asks.
 pub struct TopicConsumer {
     alloc: Global,
+    key: u64,
     topic: Text,
     number: u64,
     config: Settings,
@@ -45,6 +50,7 @@ impl Drop for TopicConsumer {
     fn drop(self) {
         let TopicConsumer {
             alloc: _,
+            key: _,
             topic: _,
             number: _,
             config: _,
@@ -71,17 +77,19 @@ impl Model for TopicConsumer {
 }
 
 impl TopicConsumer {
-    /// One that was made so, and has heard nothing. A raw one grants no permits, and is not subscribed again.
+    /// One that was made so, and has heard nothing. No other has its key, also later. A raw one grants no permits, and is not subscribed again.
     pub fn new(
         alloc: Global,
+        key: u64,
         topic: Text,
         number: u64,
         config: Settings,
         is_raw: bool,
     ) -> TopicConsumer
-        ensures { result ≡ fresh (record { topic = topic; number = number; config = config; is_raw = is_raw }) }
+        ensures { result ≡ fresh (record { key = key; topic = topic; number = number; config = config; is_raw = is_raw }) }
     {
         let queue = queue_of(config.get().options.receiver_queue_size);
+        let delay = config.get().unacked_message_redelivery_delay;
         let batch = if is_raw {
             None
         } else {
@@ -89,18 +97,19 @@ impl TopicConsumer {
         };
         TopicConsumer {
             alloc,
+            key,
             topic,
             number,
             config,
             is_raw,
-            engine: ConsumerEngine::new(alloc, queue as usize, batch),
+            engine: ConsumerEngine::new(alloc, queue as usize, batch, delay),
             ended: None,
             received: 0,
             last: None,
         }
     }
 
-    /// The consumer that a raw call makes.
+    /// The consumer that a raw call makes. It has no dead letters, so that nothing names its key.
     pub fn of_raw(alloc: Global, made: Subscribed) -> Result<TopicConsumer, NoMemory>
         ensures { IfOk result (λ t. t ≡ fresh (of_raw made)) }
     {
@@ -117,7 +126,14 @@ impl TopicConsumer {
         };
         let config = Settings::new(alloc, config)?;
         let topic = Text::new(made.topic);
-        Ok(TopicConsumer::new(alloc, topic, made.consumer, config, true))
+        Ok(TopicConsumer::new(alloc, 0, topic, made.consumer, config, true))
+    }
+
+    /// Its key, which no other one that makes copies ever has.
+    pub fn key(&self) -> u64
+        ensures { result ≡ self.now.key }
+    {
+        self.key
     }
 
     /// Its topic.
@@ -228,13 +244,29 @@ impl TopicConsumer {
         Ok(())
     }
 
+    /// It is this moment now.
+    pub fn tell(&mut self, clock: u64)
+        ensures { self.new ≡ after (IsAt clock) self.old }
+    {
+        self.engine.tell(clock);
+    }
+
     /// A message for it came on this link.
     pub fn hear(&mut self, link: u64, frame: Frame) -> Result<(), NoMemory>
         ensures { OnOk result (self.new ≡ after (Hears link frame) self.old) }
     {
         if self.lives_on(link) {
-            self.engine.hear(frame)?;
+            self.hear_frame(frame)?;
         }
+        Ok(())
+    }
+
+    fn hear_frame(&mut self, frame: Frame) -> Result<(), NoMemory>
+        ensures { OnOk result (self.new ≡ meaning.heard frame self.old) }
+    {
+        let policy = &self.config.get().dead_letter_policy;
+        let frame = frame.sorted(self.alloc, policy)?;
+        self.engine.hear(frame)?;
         Ok(())
     }
 
@@ -260,12 +292,20 @@ impl TopicConsumer {
         Ok(())
     }
 
-    /// It ends. What came is still given.
+    /// It ends. What came is still given, and what is pending goes on.
     pub fn end(&mut self, why: Ending)
         ensures { self.new ≡ after (Ends why) self.old }
     {
-        self.engine.lose();
+        self.engine.shut();
         self.ended = self.ended.or(Some(why));
+    }
+
+    /// The client is stopped: what is pending fails, and no copy of a dead letter is made any more.
+    pub fn stop(&mut self) -> Result<(), NoMemory>
+        ensures { OnOk result (self.new ≡ after Stops self.old) }
+    {
+        self.engine.stop()?;
+        Ok(())
     }
 
     /// What it gives to a poll at this moment.
@@ -273,13 +313,104 @@ impl TopicConsumer {
         ensures given { IfOk result (λ p. p ≡ polled self.old) }
         ensures after { OnOk result (self.new ≡ after (Polls clock) self.old) }
     {
+        self.engine.tell(clock);
         match self.engine.give()? {
             Some(item) => {
                 self.count(clock, &item);
-                Ok(Polled::Item(item))
+                Ok(Polled::Item(item.hand(self.alloc)?))
             }
             None => Ok(self.give_none()),
         }
+    }
+
+    /// A copy of a dead letter is to be sent to the other topic now.
+    pub fn is_copy_due(&self) -> bool
+        ensures { result ≡ is_some (copy_due self.now) }
+    {
+        self.engine.is_copy_due()
+    }
+
+    /// The copy that is to be sent to the other topic now. It counts as under way.
+    pub fn take_copy(&mut self) -> Result<Option<LetterCopy>, NoMemory>
+        ensures copy { IfOk result (λ c. option_map (λ x. (x.key, message_content x.message.value)) c ≡ copy_due self.old) }
+        ensures after { OnOk result (self.new ≡ after TakesCopy self.old) }
+    {
+        let key = self.key;
+        match self.engine.take_copy(self.topic.as_str())? {
+            Some(message) => Ok(Some(LetterCopy { key, message })),
+            None => Ok(None),
+        }
+    }
+
+    /// At this moment the copy that the consumer of this key took has its receipt: the id of its entry, which is acknowledged where a
+    /// subscription is live.
+    pub fn copy_sent(&mut self, key: u64, clock: u64) -> Result<Option<MessageIdData>, NoMemory>
+        ensures acked { IfOk result (λ id. option_map message_id_values id ≡ acked key self.old) }
+        ensures after { OnOk result (self.new ≡ after (IsCopied key clock) self.old) }
+    {
+        if self.key != key {
+            return Ok(None);
+        }
+        let acked = self.own_sent(clock)?;
+        Ok(acked)
+    }
+
+    fn own_sent(&mut self, clock: u64) -> Result<Option<MessageIdData>, NoMemory>
+        ensures acked { IfOk result (λ id. option_map message_id_values id ≡ acked_by self.old.engine) }
+        ensures after { OnOk result (self.new ≡ record self.old { engine = meaning.copied (meaning.clocked clock self.old.engine) }) }
+    {
+        self.engine.tell(clock);
+        let acked = self.engine.copy_sent()?;
+        Ok(acked)
+    }
+
+    /// At this moment the copy that the consumer of this key took could not be sent: one error is given for what is left of its frame.
+    pub fn copy_failed(&mut self, key: u64, clock: u64) -> Result<(), NoMemory>
+        ensures { OnOk result (self.new ≡ after (FailsCopy key clock) self.old) }
+    {
+        if self.key == key {
+            self.own_failed(clock)?;
+        }
+        Ok(())
+    }
+
+    fn own_failed(&mut self, clock: u64) -> Result<(), NoMemory>
+        ensures { OnOk result (self.new ≡ record self.old { engine = meaning.copy_failed (meaning.clocked clock self.old.engine) }) }
+    {
+        self.engine.tell(clock);
+        self.engine.copy_failed()?;
+        Ok(())
+    }
+
+    /// The message of this id is acknowledged, or asked for again by its user.
+    pub fn forget(&mut self, id: &MessageIdData) -> Result<(), NoMemory>
+        ensures { OnOk result (self.new ≡ after (Forgets (message_id_values id.now)) self.old) }
+    {
+        self.engine.forget(id)?;
+        Ok(())
+    }
+
+    /// The messages that are to be asked for again at this moment, in the order of their ids. They are kept no longer.
+    pub fn check(&mut self, clock: u64) -> Result<Vec<MessageIdData>, NoMemory>
+        ensures named { IfOk result (λ ids. map message_id_values ids.items ≡ asked_again clock self.old) }
+        ensures after { OnOk result (self.new ≡ after (Checks clock) self.old) }
+    {
+        let named = self.engine.check(clock)?;
+        Ok(named)
+    }
+
+    /// When the next check is due, which names messages that are to be asked for again.
+    pub fn next_check(&self) -> Option<u64>
+        ensures { result ≡ self.now.engine.check }
+    {
+        self.engine.next_check()
+    }
+
+    /// It has ended, and no dead letter is pending: it is served no longer.
+    pub fn is_over(&self) -> bool
+        ensures { result ≡ is_over self.now }
+    {
+        self.is_ended() && !self.engine.is_pending()
     }
 
     /// A flow is to be asked for.
@@ -307,7 +438,7 @@ impl TopicConsumer {
         }
     }
 
-    fn count(&mut self, clock: u64, item: &Unread)
+    fn count(&mut self, clock: u64, item: &FrameItem)
         ensures { self.new ≡ meaning.counts clock item.now self.old }
     {
         if item.is_message() {
@@ -316,12 +447,12 @@ impl TopicConsumer {
         }
     }
 
-    /// Once it has ended, it keeps no memory for items.
+    /// Once it has ended and nothing is pending, it keeps no memory for items.
     fn give_none(&mut self) -> Polled
-        ensures given { result ≡ meaning.polled_from None self.old.ended }
+        ensures given { result ≡ meaning.polled_from None (meaning.over (meaning.is_pending self.old.engine) self.old.ended) }
         ensures after { self.new ≡ self.old }
     {
-        if self.is_ended() {
+        if self.is_over() {
             self.engine.let_go();
             Polled::End
         } else {

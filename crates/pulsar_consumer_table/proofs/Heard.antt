@@ -95,7 +95,7 @@ module _ (l : ℕ) (r : Reply) (m : Member) (h : lives_on l m.seen ≡ false) wh
   unheard = by (is_body 9 r.content.body) (is_body 27 r.content.body) (is_body 16 r.content.body)
     where
       by : (b c d : Bool) → cond b (member_after (Hears l (frame_in r)) m) (cond c (ends_on l TopicEnded m) (cond d (member_after (Loses l) m) m)) ≡ m
-      by true c d = ap (λ e. record m { seen = cond e (record m.seen { engine = topic.hears (frame_in r) m.seen.engine }) m.seen }) h
+      by true c d = ap (λ e. record m { seen = cond e (topic.heard (frame_in r) m.seen) m.seen }) h
       by false true d = ap (λ e. cond e (member_after (Ends TopicEnded) m) m) h
       by false false true = ap (λ e. record m { seen = cond e (topic.loses m.seen) m.seen }) h
       by false false false = refl
@@ -217,11 +217,14 @@ all_same f same cs i = record {
   held = cs.held;
   named = cs.named;
   next = cs.next;
+  next_key = cs.next_key;
 }
 
 -- what is seen of consumers, part by part
-pub consumers_are : (a b : Consumers) → ((t : ℕ) → a.rows t ≡ b.rows t) → a.tickets ≡ b.tickets → a.held ≡ b.held → a.named ≡ b.named → a.next ≡ b.next → a ≡ b
-consumers_are a b rows tickets held named next i = record { rows = λ t. rows t i; tickets = tickets i; held = held i; named = named i; next = next i }
+pub consumers_are : (a b : Consumers) → ((t : ℕ) → a.rows t ≡ b.rows t) → a.tickets ≡ b.tickets → a.held ≡ b.held → a.named ≡ b.named → a.next ≡ b.next →
+    a.next_key ≡ b.next_key → a ≡ b
+consumers_are a b rows tickets held named next key i =
+    record { rows = λ t. rows t i; tickets = tickets i; held = held i; named = named i; next = next i; next_key = key i }
 
 -- ONE HEARS A FRAME, and is told what follows by the number that it keeps
 

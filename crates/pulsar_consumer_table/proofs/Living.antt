@@ -7,9 +7,9 @@ use Rattle.std.specs.List.{list_any}
 use Rattle.std.specs.Option.{option_map}
 use Rattle.std.specs.Ordering.{nat_cmp}
 use Rattle.pulsar_requests.proofs.Awaiting.{is_at-eqb}
-use Rattle.pulsar_frame.specs.Items.{Item}
 use Rattle.pulsar_exchange.specs.Messages.{Reply, is_body}
 use Rattle.pulsar_consumer.specs.Frames.{Frame, frame_in}
+use Rattle.pulsar_consumer.specs.Items.{Item}
 use Rattle.pulsar_consumer.specs.Topic as topic
 use Rattle.pulsar_consumer.specs.Topic.{Engine, Hears, Loses, Ends, Live, Seen, link_of, lives_on}
 use Rattle.pulsar_incoming.specs.declared.polled.Ending.{Ending}
@@ -41,11 +41,11 @@ finished_link None l = refl
 finished_link (Some batch) l = link_if _ _ _ l.link refl refl
 
 going_link : (fs : List Frame) (e : Engine) → link_in (topic.goes_on fs e) ≡ link_in e
-going_link [] e = elim (cases_Bool (topic.no_items e.rest)) [
+going_link [] e = elim (cases_Bool (topic.is_finished e)) [
   | inl y ↦ rw y (same_link (topic.finishes e.batch) (finished_link e.batch) e.live)
   | inr n ↦ rw n refl
 ]
-going_link (f ∷ fs) e = elim (cases_Bool (topic.no_items e.rest)) [
+going_link (f ∷ fs) e = elim (cases_Bool (topic.is_finished e)) [
   | inl y ↦ rw y (going_link fs (topic.begin f (record (topic.finish e) { waiting = fs }))
       ∙ same_link (topic.begins f.weight) (λ l. refl) (option_map (topic.finishes e.batch) e.live)
       ∙ same_link (topic.finishes e.batch) (finished_link e.batch) e.live)
@@ -70,9 +70,11 @@ none_there l v w none h = absurd (false≢true (sym (away l w none) ∙ h))
 hears_lifeless : (k : ℕ) (f : Frame) → Holds lives_at (member_after (Hears k f))
 hears_lifeless k f l m = by (lives_on k m.seen)
   where
-    by : (b : Bool) → lives_on l (cond b (record m.seen { engine = topic.hears f m.seen.engine }) m.seen) ≡ true → lives_on l m.seen ≡ true
-    by true h = from_link l m.seen (record m.seen { engine = topic.hears f m.seen.engine })
-        (going_link (m.seen.engine.waiting ++ f ∷ []) (topic.places (record m.seen.engine { waiting = m.seen.engine.waiting ++ f ∷ [] }))) h
+    more : List Frame
+    more = m.seen.engine.waiting ++ topic.frame_for m.seen f ∷ []
+
+    by : (b : Bool) → lives_on l (cond b (topic.heard f m.seen) m.seen) ≡ true → lives_on l m.seen ≡ true
+    by true h = from_link l m.seen (topic.heard f m.seen) (going_link more (topic.places (record m.seen.engine { waiting = more }))) h
     by false h = h
 
 lost_live : (v : Seen) → (topic.loses v).engine.live ≡ None

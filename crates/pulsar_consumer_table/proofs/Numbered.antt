@@ -1,12 +1,13 @@
 -- Who is to be found by a number, as consumers change: none is so again that was not.
-use Rattle.std.proofs.Common.{◌≡◌, ◌∙◌, ℕ, ◌==◌, ◌&&◌, ◌||◌, not, sym, ap, refl, Bool, true, false, cond, List, [], ◌∷◌, Option, Some, None, inl, inr}
+use Rattle.std.proofs.Common.{◌≡◌, ◌∙◌, ℕ, ◌==◌, ◌&&◌, ◌||◌, not, sym, ap, refl, Bool, true, false, cond, Option, Some, None, inl, inr}
 use Rattle.std.proofs.lemmas.Bool.{cases_Bool, eq-eqb, eqb-true, false≢true, and_from, and_parts}
 use Rattle.std.specs.Option.{is_some, option_map, option_or}
-use Rattle.pulsar_frame.specs.Items.{Item, Given, Faulty}
 use Rattle.pulsar_exchange.specs.Messages.{Reply, is_body}
-use Rattle.pulsar_consumer.specs.Frames.{Frame, frame_in}
+use Rattle.pulsar_consumer.specs.Frames.{frame_in}
 use Rattle.pulsar_consumer.specs.Topic as topic
-use Rattle.pulsar_consumer.specs.Topic.{Act, Engine, Lives, Hears, Loses, Fails, Ends, Polls, Asks, Live, Seen, counts_first, first_of, is_ended, link_of, lives_on}
+use Rattle.pulsar_consumer.specs.Topic.{Act, Hears, Loses, Ends, Live, Seen, is_ended, link_of, lives_on}
+use Rattle.pulsar_consumer.proofs.Checking.{same_after}
+use Rattle.pulsar_consumer.proofs.Histories.{shut_after, stays_after}
 use Rattle.pulsar_incoming.specs.declared.polled.Ending.{Ending}
 use Rattle.pulsar_incoming.specs.declared.polled.Ending.TheVariants.{Stopped, TopicEnded}
 use Rattle.pulsar_consumer_table.specs.Consumers.{Member, ends_on, hears_frame, lives_with, member_after, number_at, stopped}
@@ -14,80 +15,26 @@ use Rattle.pulsar_consumer_table.specs.KeptConsumers.{is_known, known_at}
 use Rattle.pulsar_consumer_table.proofs.Placed.{Holds}
 use Rattle.pulsar_calls.proofs.Places.{swapped}
 
--- AN ENGINE WITHOUT A SUBSCRIPTION has none as it goes on
-
-none_there : (f : Live → Live) (o : Option Live) → o ≡ None → option_map f o ≡ None
-none_there f o h = ap (option_map f) h
-
-going : (fs : List Frame) (e : Engine) → e.live ≡ None → (topic.goes_on fs e).live ≡ None
-going [] e h = elim (cases_Bool (topic.no_items e.rest)) [
-  | inl y ↦ rw y (none_there _ e.live h)
-  | inr n ↦ rw n h
-]
-going (f ∷ fs) e h = elim (cases_Bool (topic.no_items e.rest)) [
-  | inl y ↦ rw y (going fs (topic.begin f (record (topic.finish e) { waiting = fs })) (none_there _ (option_map _ e.live) (none_there _ e.live h)))
-  | inr n ↦ rw n h
-]
-
-giving : (items : List Item) (e : Engine) → e.live ≡ None → (topic.gives_from items e).live ≡ None
-giving [] e h = h
-giving (item ∷ items) e h = going e.waiting (topic.places (record e { unread = items })) h
-
 -- ONE THAT IS OVER has ended, and lives on no link. So it stays.
 
 record IsOver (v : Seen) : Type 0 where
   ended : is_ended v ≡ true
   live : v.engine.live ≡ None
 
-off : (l : ℕ) (v : Seen) → v.engine.live ≡ None → lives_on l v ≡ false
-off l v h = ap (λ o. topic.is_on l (option_map (λ (x : Live). x.link) o)) h
-
-or_ended : (o : Option Ending) (why : Ending) → is_some o ≡ true → is_some (option_or o (Some why)) ≡ true
-or_ended None why h = refl
-or_ended (Some x) why h = refl
-
-same_if : (b : Bool) (v x : Seen) → IsOver v → b ≡ false → IsOver (cond b x v)
-same_if true v x k h = absurd (false≢true (sym h))
-same_if false v x k h = k
-
-same_unless : (b : Bool) (v x : Seen) → IsOver v → b ≡ true → IsOver (cond b v x)
-same_unless true v x k h = k
-same_unless false v x k h = absurd (false≢true h)
-
-counting : (clock : ℕ) (item : Option Item) (v : Seen) → IsOver v → IsOver (counts_first clock item v)
-counting clock None v k = k
-counting clock (Some (Given id size metadata payload)) v k = record { ended = k.ended; live = k.live }
-counting clock (Some (Faulty f)) v k = k
+reason : (o : Option Ending) → is_some o ≡ true → (why : Ending) × (o ≡ Some why)
+reason None h = absurd (false≢true h)
+reason (Some why) h = (why, refl)
 
 stays_over : (act : Act) (v : Seen) → IsOver v → IsOver (topic.after act v)
-stays_over (Lives l url) v k = same_unless (is_ended v) v _ k k.ended
-stays_over (Hears l f) v k = same_if (lives_on l v) v _ k (off l v k.live)
-stays_over (Loses l) v k = same_if (lives_on l v) v _ k (off l v k.live)
-stays_over (Fails f) v k = same_unless (is_ended v) v _ k k.ended
-stays_over (Ends why) v k = record { ended = or_ended v.ended why k.ended; live = refl }
-stays_over (Polls clock) v k =
-    counting clock (first_of v.engine.unread) (record v { engine = topic.gives v.engine }) (record { ended = k.ended; live = giving v.engine.unread v.engine k.live })
-stays_over Asks v k = record { ended = k.ended; live = none_there _ v.engine.live k.live }
+stays_over act v k =
+    let why = reason v.ended k.ended in
+    let ended = (stays_after act v why.0 why.1 k.live).0 in
+    record { ended = ap is_some ended; live = shut_after act v (λ x is. k.live) why.0 ended }
 
 -- ITS NUMBER stays too
 
-number_if : (b : Bool) (n : ℕ) (x y : Seen) → x.number ≡ n → y.number ≡ n → (cond b x y).number ≡ n
-number_if true n x y p q = p
-number_if false n x y p q = q
-
-number_counts : (clock : ℕ) (item : Option Item) (v : Seen) → (counts_first clock item v).number ≡ v.number
-number_counts clock None v = refl
-number_counts clock (Some (Given id size metadata payload)) v = refl
-number_counts clock (Some (Faulty f)) v = refl
-
 pub same_number : (act : Act) (v : Seen) → (topic.after act v).number ≡ v.number
-same_number (Lives l url) v = number_if (is_ended v) v.number v _ refl refl
-same_number (Hears l f) v = number_if (lives_on l v) v.number _ v refl refl
-same_number (Loses l) v = number_if (lives_on l v) v.number _ v (number_if v.is_raw v.number _ _ refl refl) refl
-same_number (Fails f) v = number_if (is_ended v) v.number v _ refl refl
-same_number (Ends why) v = refl
-same_number (Polls clock) v = number_counts clock (first_of v.engine.unread) (record v { engine = topic.gives v.engine })
-same_number Asks v = refl
+same_number act v = ap (λ x. x.number) (same_after act v)
 
 -- WHO IS KNOWN
 

@@ -2,15 +2,15 @@
 use Rattle.std.proofs.Common.{◌≡◌, ◌∙◌, ℕ, ◌==◌, ◌&&◌, ◌||◌, not, sym, ap, refl, Bool, true, false, cond, Option, Some, None}
 use Rattle.std.specs.Option.{is_some}
 use Rattle.url.specs.Parts.{Parts}
-use Rattle.pulsar_frame.specs.Items.{Item, Given, Faulty}
 use Rattle.pulsar_calls.specs.declared.act.Who.{Who}
 use Rattle.pulsar_consumer.specs.Topic as topic
-use Rattle.pulsar_consumer.specs.Topic.{Polls, Asks, Seen, counts_first, first_of, is_ended, link_of, lives_on}
+use Rattle.pulsar_consumer.specs.Topic.{Polls, Asks, Seen, first_of, is_ended, link_of, lives_on}
+use Rattle.pulsar_consumer.proofs.Histories.{counted_same}
 use Rattle.pulsar_consumer_table.specs.declared.row.LinkAnswer.{LinkAnswer}
 use Rattle.pulsar_consumer_table.specs.declared.row.LinkAnswer.TheVariants.{Found, Gone, Later}
 use Rattle.pulsar_consumer_table.specs.Consumers.{lives_at, member_after, revived, seeks, sought, waits_so}
 use Rattle.pulsar_consumer_table.specs.KeptConsumers.{is_known}
-use Rattle.pulsar_consumer_table.proofs.Living.{giving_link, same_link}
+use Rattle.pulsar_consumer_table.proofs.Living.{giving_link, link_in, same_link}
 use Rattle.pulsar_consumer_table.proofs.Numbered.{same_number, there}
 use Rattle.pulsar_consumer_table.proofs.Placed.{Stays}
 
@@ -23,23 +23,17 @@ same_known v w number ended link n =
 
 -- A POLL
 
-ended_counts : (clock : ℕ) (item : Option Item) (v : Seen) → is_ended (counts_first clock item v) ≡ is_ended v
-ended_counts clock None v = refl
-ended_counts clock (Some (Given id size metadata payload)) v = refl
-ended_counts clock (Some (Faulty f)) v = refl
-
-counted_link : (clock : ℕ) (item : Option Item) (v : Seen) → link_of (counts_first clock item v) ≡ link_of v
-counted_link clock None v = refl
-counted_link clock (Some (Given id size metadata payload)) v = refl
-counted_link clock (Some (Faulty f)) v = refl
+abbrev polls_at : (clock : ℕ) → Seen → Seen
+polls_at clock v = record v { engine = topic.gives (topic.clocked clock v.engine) }
 
 polls_link : (clock : ℕ) (v : Seen) → link_of (topic.after (Polls clock) v) ≡ link_of v
-polls_link clock v = counted_link clock (first_of v.engine.unread) (record v { engine = topic.gives v.engine }) ∙ giving_link v.engine.unread v.engine
+polls_link clock v =
+    ap (λ e. link_in e) (counted_same (first_of v.engine.unread) clock (polls_at clock v)).0 ∙ giving_link v.engine.unread (topic.clocked clock v.engine)
 
 pub polls_known : (clock : ℕ) → Stays is_known (member_after (Polls clock))
 polls_known clock n m =
     same_known m.seen (topic.after (Polls clock) m.seen) (same_number (Polls clock) m.seen)
-    (ended_counts clock (first_of m.seen.engine.unread) (record m.seen { engine = topic.gives m.seen.engine })) (polls_link clock m.seen) n
+    (ap is_some (counted_same (first_of m.seen.engine.unread) clock (polls_at clock m.seen)).1) (polls_link clock m.seen) n
 
 pub polls_living : (clock : ℕ) → Stays lives_at (member_after (Polls clock))
 polls_living clock l m = ap (topic.is_on l) (polls_link clock m.seen)
@@ -76,7 +70,7 @@ seeks_living w l m = by (sought (Some m))
 -- A NEW SUBSCRIPTION, which only one has that has not ended: so it stays to be found by its number
 
 abbrev resubscribed : (link : ℕ) → Parts → Seen → Seen
-resubscribed link url v = record v { engine = record v.engine { live = Some (topic.subscribed v.engine.batch link url) } }
+resubscribed link url v = record v { engine = topic.lives link url v.engine }
 
 pub revived_known : (link : ℕ) (url : Option Parts) → Stays is_known (revived link url)
 revived_known link None n m = refl

@@ -1,5 +1,5 @@
 -- The consumers of a client: what is seen of them, and what becomes of that.  (Pulsar binary protocol, Consumer)
-use Rattle.std.specs.Prelude.{ℕ, zero, suc, ◌+◌, ◌-◌, ◌^◌, ◌==◌, ◌≡◌, ◌&&◌, ◌||◌, not, Bool, true, false, if◌then◌else◌, List, [], ◌∷◌, ◌++◌, Option, Some, None}
+use Rattle.std.specs.Prelude.{ℕ, zero, suc, ◌-◌, ◌^◌, ◌==◌, ◌≡◌, ◌&&◌, ◌||◌, not, Bool, true, false, if◌then◌else◌, List, [], ◌∷◌, ◌++◌, Option, Some, None}
 use Rattle.std.specs.BTreeMap.{insert_entry, is_at}
 use Rattle.std.specs.BTreeSet.{insert_key}
 use Rattle.std.specs.List.{flat_map, list_any}
@@ -18,6 +18,7 @@ use Rattle.pulsar_consumer.specs.Commands.{command_of}
 use Rattle.pulsar_consumer.specs.Frames.{frame_in}
 use Rattle.pulsar_consumer.specs.Topic as topic
 use Rattle.pulsar_consumer.specs.Topic.{Act, Seen, Setup, Live, Lives, Hears, Loses, Fails, Ends, first_due, fresh, is_due as is_flow_due, is_ended, link_of, lives_on, resubscribes}
+use Rattle.pulsar_incoming.specs.Content.{ConfigValues}
 use Rattle.pulsar_incoming.specs.declared.polled.Ending.{Ending}
 use Rattle.pulsar_incoming.specs.declared.polled.Ending.TheVariants.{Closed, TopicEnded, Stopped}
 use Rattle.pulsar_incoming.specs.declared.polled.Polled.{Polled}
@@ -43,17 +44,19 @@ pub record Member : Type 0 where
   pub seekers : List Who
 
 -- The consumers, by the tickets of the calls that made them, and these tickets in order; the numbers that are held while consumers are built,
--- each behind the ticket of its call; the numbers that raw calls have named, in order; and the number from which on the next one is drawn.
+-- each behind the ticket of its call; the numbers that raw calls have named, in order; the number from which on the next one is drawn; and the
+-- key of the one that is built next.
 pub record Consumers : Type 0 where
   pub rows : (ticket : ℕ) → Option Member
   pub tickets : List ℕ
   pub held : List (ℕ × ℕ)
   pub named : List ℕ
   pub next : ℕ
+  pub next_key : ℕ
 
 -- at first
 abbrev pub none : (first_number : ℕ) → Consumers
-none first_number = record { rows = λ t. None; tickets = []; held = []; named = []; next = first_number }
+none first_number = record { rows = λ t. None; tickets = []; held = []; named = []; next = first_number; next_key = 1 }
 
 -- ALL OF THEM
 
@@ -344,6 +347,14 @@ names_in None cs = cs
 names_in (Some number) cs = record cs { named = insert_key nat_cmp cs.named number }
 
 -- CONSUMERS ARE MADE
+
+-- The key of one that is built is drawn: no other ever has it, and a raw one has none.
+abbrev pub keyed : Consumers → Consumers
+keyed cs = record cs { next_key = suc cs.next_key }
+
+-- no dead letters are asked for, and no message is asked for again
+abbrev pub plain : ConfigValues → ConfigValues
+plain c = record c { unacked_message_redelivery_delay = None; dead_letter_policy = None }
 
 abbrev pub member_of : Setup → (link : ℕ) → Option Parts → Member
 member_of s l url = subscribed_on l url (record { seen = fresh s; seekers = [] })

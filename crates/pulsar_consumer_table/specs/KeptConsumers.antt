@@ -18,7 +18,14 @@ rows_in rows t = option_map member_in (get nat_cmp rows t)
 
 abbrev pub consumers_in : BTreeMap ℕ ConsumerRow → Numbers → Consumers
 consumers_in rows numbers =
-    record { rows = rows_in rows; tickets = keys rows; held = numbers.held.entries; named = numbers.named.keys; next = numbers.next }
+    record {
+      rows = rows_in rows;
+      tickets = keys rows;
+      held = numbers.held.entries;
+      named = numbers.named.keys;
+      next = numbers.next;
+      next_key = numbers.next_key;
+    }
 
 -- THE LISTING
 

@@ -1,6 +1,6 @@
-//! The numbers of consumers: those that are held while consumers are built, those that raw calls have named, and the next.
+//! The numbers of consumers: those that are held while consumers are built, those that raw calls have named, and the next; and their keys.
 
-ghost use Rattle.std.specs.Prelude.{◌≡◌, ◌==◌, [], OnOk};
+ghost use Rattle.std.specs.Prelude.{◌≡◌, ◌==◌, [], suc, IfOk, OnOk};
 ghost use Rattle.std.specs.BTreeMap.{insert_entry, is_at};
 ghost use Rattle.std.specs.BTreeSet.{insert_key};
 ghost use Rattle.std.specs.List.{list_any};
@@ -23,12 +23,13 @@ pub enum Numbering {
     Spent,
 }
 
-/// The numbers that are held while consumers are built, by the tickets of the calls that build them; those that raw calls have named; and
-/// the number from which on the next is drawn.
+/// The numbers that are held while consumers are built, by the tickets of the calls that build them; those that raw calls have named; the
+/// number from which on the next is drawn; and the key of the consumer that is built next.
 pub struct Numbers {
     pub held: BTreeMap<u64, u64>,
     pub named: BTreeSet<u64>,
     pub next: u64,
+    pub next_key: u64,
 }
 
 impl Drop for Numbers {
@@ -37,21 +38,24 @@ impl Drop for Numbers {
             held: _,
             named: _,
             next: _,
+            next_key: _,
         } = self;
     }
 }
 
 impl Numbers {
-    /// None is held or named. The first number is this.
+    /// None is held or named. The first number is this, and the first key is 1.
     pub fn new(alloc: Global, first_number: u64) -> Numbers
         ensures held { result.held.entries ≡ [] }
         ensures named { result.named.keys ≡ [] }
         ensures next { result.next ≡ first_number }
+        ensures key { result.next_key ≡ 1 }
     {
         Numbers {
             held: BTreeMap::new(alloc),
             named: BTreeSet::new(alloc),
             next: first_number,
+            next_key: 1,
         }
     }
 
@@ -74,6 +78,7 @@ impl Numbers {
         ensures held { OnOk result (self.new.held.entries ≡ insert_entry nat_cmp self.old.held.entries ticket number) }
         ensures named { self.new.named ≡ self.old.named }
         ensures next { self.new.next ≡ self.old.next }
+        ensures key { self.new.next_key ≡ self.old.next_key }
     {
         self.held.insert(ticket, number)?;
         Ok(())
@@ -84,6 +89,7 @@ impl Numbers {
         ensures held { self.new.held.entries ≡ remove_entry (is_at (nat_cmp ticket)) self.old.held.entries }
         ensures named { self.new.named ≡ self.old.named }
         ensures next { self.new.next ≡ self.old.next }
+        ensures key { self.new.next_key ≡ self.old.next_key }
     {
         self.held.remove(&ticket);
     }
@@ -93,6 +99,7 @@ impl Numbers {
         ensures named { OnOk result (self.new.named.keys ≡ insert_key nat_cmp self.old.named.keys number) }
         ensures held { self.new.held ≡ self.old.held }
         ensures next { self.new.next ≡ self.old.next }
+        ensures key { self.new.next_key ≡ self.old.next_key }
     {
         self.named.insert(number)?;
         Ok(())
@@ -103,7 +110,24 @@ impl Numbers {
         ensures next { self.new.next ≡ behind number }
         ensures held { self.new.held ≡ self.old.held }
         ensures named { self.new.named ≡ self.old.named }
+        ensures key { self.new.next_key ≡ self.old.next_key }
     {
         self.next = number.saturating_add(1);
+    }
+
+    /// The key of a consumer that is built. No other ever has it.
+    pub fn draw_key(&mut self) -> Result<u64, NoMemory>
+        ensures drawn { IfOk result (λ key. key ≡ self.old.next_key) }
+        ensures key { OnOk result (self.new.next_key ≡ suc self.old.next_key) }
+        ensures held { self.new.held ≡ self.old.held }
+        ensures named { self.new.named ≡ self.old.named }
+        ensures next { self.new.next ≡ self.old.next }
+    {
+        let key = self.next_key;
+        let Some(after) = key.checked_add(1) else {
+            return Err(NoMemory);
+        };
+        self.next_key = after;
+        Ok(key)
     }
 }

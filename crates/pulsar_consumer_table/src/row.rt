@@ -4,7 +4,7 @@ ghost use Rattle.std.specs.Prelude.{◌≡◌, [], ◌&&◌, ◌==◌, not, IfOk
 ghost use Rattle.pulsar_calls.specs.Content.{shown};
 ghost use Rattle.pulsar_consumer.specs.Topic.{Asks, Ends, Hears, Loses, Polls, is_due as is_flow_due, is_ended, lives_on, resubscribes};
 ghost use Rattle.pulsar_consumer.specs.Frames.{frame_in};
-ghost use Rattle.pulsar_consumer_table.specs.Consumers.{ends_on, failed, flow_at, hears_frame, member_after, polled, polled_item, polled_so, revived, seeks, sought, stopped, subscribed_on, unsought, who_of, word_if, word_of_frame};
+ghost use Rattle.pulsar_consumer_table.specs.Consumers.{ends_on, failed, flow_at, hears_frame, member_after, plain, polled, polled_item, polled_so, revived, seeks, sought, stopped, subscribed_on, unsought, who_of, word_if, word_of_frame};
 ghost use Rattle.pulsar_consumer_table.specs.KeptConsumers.{is_known, member_in};
 
 use pulsar_addresses::content::Refusal;
@@ -17,6 +17,7 @@ use pulsar_exchange::content::Received;
 use pulsar_frame::items::Unread as Item;
 use pulsar_incoming::message::MessageData;
 use pulsar_incoming::polled::{Ending, Polled};
+use pulsar_incoming::settings::Settings;
 use pulsar_incoming::unread::Unread;
 use pulsar_wire::bodies;
 use pulsar_wire::error::NoMemory;
@@ -245,6 +246,16 @@ impl ConsumerRow {
         let found = self.consumer.inner.poll(clock)?;
         effect_of(alloc, ticket, self.consumer.inner.topic(), found)
     }
+}
+
+/// No dead letters are asked for, and no message is asked for again.
+pub fn plain(alloc: Global, config: Settings) -> Result<Settings, NoMemory>
+    ensures { IfOk result (λ s. s ≡ plain config) }
+{
+    let mut config = config.get().copy()?;
+    config.unacked_message_redelivery_delay = None;
+    config.dead_letter_policy = None;
+    Settings::new(alloc, config)
 }
 
 /// A word, where that is so.

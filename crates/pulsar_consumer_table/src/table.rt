@@ -482,6 +482,14 @@ impl Consumers {
         }
     }
 
+    /// The key of a consumer that is built. No other ever has it.
+    pub fn draw_key(&mut self) -> Result<u64, NoMemory>
+        ensures drawn { IfOk result (λ key. key ≡ (consumers_in self.old.rows self.old.numbers).next_key) }
+        ensures after { OnOk result (consumers_in self.new.rows self.new.numbers ≡ meaning.keyed (consumers_in self.old.rows self.old.numbers)) }
+    {
+        self.numbers.draw_key()
+    }
+
     /// The call of this ticket has ended, and holds no number.
     pub fn free(&mut self, ticket: u64)
         ensures { consumers_in self.new.rows self.new.numbers ≡ meaning.freed ticket (consumers_in self.old.rows self.old.numbers) }

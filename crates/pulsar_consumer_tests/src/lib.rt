@@ -2,6 +2,8 @@
 #![tactic(auto)]
 
 #[cfg(test)]
+mod dead_letters;
+#[cfg(test)]
 mod messages;
 #[cfg(test)]
 mod topic;

@@ -32,7 +32,7 @@ fn settings(alloc: Global, queue: Option<u32>, batch: Option<u32>) -> Result<Set
 /// One whose subscription is live on link 0.
 fn subscribed(alloc: Global, settings: Settings) -> Result<Box<TopicConsumer>, Fail> {
     let topic = Text::new(String::from_str(alloc, "t")?);
-    let consumer = TopicConsumer::new(alloc, topic, 0, settings, false);
+    let consumer = TopicConsumer::new(alloc, 0, topic, 0, settings, false);
     let mut consumer = Box::new(alloc, consumer)?;
     consumer.subscribe(0, url(alloc)?)?;
     Ok(consumer)

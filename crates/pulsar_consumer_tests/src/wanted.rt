@@ -111,7 +111,7 @@ fn a_configuration_is_copied(rt: HostRuntime) -> Result<(), Fail> {
 fn consumer(alloc: Global) -> Result<Box<Consumer>, Fail> {
     let settings = Settings::new(alloc, config(alloc)?)?;
     let topic = Text::new(text(alloc, "t")?);
-    let mut inner = TopicConsumer::new(alloc, topic, 9, settings.copy(alloc)?, false);
+    let mut inner = TopicConsumer::new(alloc, 0, topic, 9, settings.copy(alloc)?, false);
     inner.subscribe(0, Url::parse(alloc, "pulsar://127.0.0.1:6650")?)?;
     Ok(Box::new(alloc, Consumer::new(alloc, inner))?)
 }

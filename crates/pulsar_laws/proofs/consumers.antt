@@ -10,9 +10,9 @@ pub mod Placed
 pub mod Queueing
 pub mod Covered
 pub mod Deeds
+pub mod Keys
 pub mod Taken
 pub mod Answered
-pub mod Finished
 pub mod Due
 pub mod Rested
 pub mod Tended

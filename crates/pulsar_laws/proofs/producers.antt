@@ -32,4 +32,5 @@ pub mod Reread
 pub mod Texts
 pub mod TextReplies
 pub mod Named
+pub mod Newest
 pub mod Spelled

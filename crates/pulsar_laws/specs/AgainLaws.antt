@@ -229,19 +229,27 @@ answers_ask _ = false
 -- A question fails so that another time may help where the broker says that it is not ready; and a command by the fault with which it fails.
 abbrev pub CountMayPass : Counting → Outcome → Type 0
 CountMayPass (count.Asked again n l) (outcome.Replied r) = IsNotReady 22 1 r.content
-CountMayPass _ u = ⊥
+CountMayPass (count.Asked again n l) _ = ⊥
+CountMayPass (count.Getting again n) u = ⊥
+CountMayPass (count.Resting n l) u = ⊥
 
 abbrev pub LookMayPass : Looking → Outcome → Type 0
 LookMayPass (look.Asked s l) (outcome.Replied r) = IsNotReady 24 2 r.content
-LookMayPass _ u = ⊥
+LookMayPass (look.Asked s l) _ = ⊥
+LookMayPass (look.Getting s) u = ⊥
+LookMayPass (look.Resting s l) u = ⊥
+LookMayPass (look.Reaching place) u = ⊥
 
 abbrev pub FailsWith : Command → Making → Outcome → Fault → Type 0
+FailsWith c (make.Getting n) u f = ⊥
 FailsWith c (make.Asked n l) u f = search.verdict c.answer (news_in u) ≡ Err f
-FailsWith c _ u f = ⊥
+FailsWith c (make.Retrying r n) u f = ⊥
 
 abbrev pub WithinMayPass : Making → Outcome → Type 0
+WithinMayPass (make.Getting n) u = ⊥
+WithinMayPass (make.Asked n l) u = ⊥
+WithinMayPass (make.Retrying retry.Resting n) u = ⊥
 WithinMayPass (make.Retrying (retry.Looking l) n) u = LookMayPass l u
-WithinMayPass _ u = ⊥
 
 abbrev pub MayPass : Operation → Stage → Outcome → Type 0
 MayPass Counts (InCount c) u = CountMayPass c u

@@ -13,15 +13,17 @@ use Rattle.pulsar_searches.specs.declared.turn.Ways.{Ways}
 use Rattle.pulsar_wire.specs.Failures.{Disconnected, Encoding, Failure, OfBatch, Shutdown}
 use Rattle.pulsar_wire.specs.declared.error.Reason.{Reason}
 use Rattle.pulsar_exchange.specs.Messages.{Reply, is_body}
+use Rattle.pulsar_outgoing.specs.declared.multi_topic.Taker.TheVariants as taker
 use Rattle.pulsar_outgoing.specs.Batch.{batch_of, entries_in, entry_of, placed}
 use Rattle.pulsar_outgoing.specs.Errors.{in_producer}
-use Rattle.pulsar_producer.specs.BatchLaws.{items_of, joined, taken_of}
+use Rattle.pulsar_producer.specs.BatchLaws.{cut_by, items_of, joined, taken_of}
 use Rattle.pulsar_messages.specs.Message.{with_version}
 use Rattle.pulsar_outgoing.specs.Storage.{Item, SingleMessage, Flush, bytes_of, is_nothing}
 use Rattle.pulsar_producer.specs.Producer as producer
-use Rattle.pulsar_producer.specs.Topic.{Setup, seen}
+use Rattle.pulsar_producer.specs.Topic.{Act as Deed, Cuts, Setup, seen}
 use Rattle.pulsar_outgoing.specs.declared.batch.Fate.{Fate}
 use Rattle.pulsar_outgoing.specs.declared.batch.Fate.TheVariants as fate
+use Rattle.pulsar_producer.specs.declared.batching.Batching.{Batching}
 use Rattle.pulsar_producer.specs.declared.batching.Batching.TheVariants as batching
 use Rattle.pulsar_outgoing.specs.declared.news.News.TheVariants as news
 use Rattle.pulsar_outgoing.specs.declared.orders.Errand.{Errand}
@@ -42,13 +44,12 @@ use Rattle.pulsar_calls.specs.declared.act.Verdict.{Verdict}
 use Rattle.pulsar_calls.specs.declared.act.Who.{Who}
 use Rattle.pulsar_calls.specs.declared.act.Who.TheVariants.{Call, Consumer, Producer}
 use Rattle.pulsar_plans.specs.declared.plan.Plan.{Plan}
-use Rattle.pulsar_plans.specs.declared.plan.Plan.TheVariants as plan
 use Rattle.pulsar_producer_table.specs.declared.table.Topic.{Topic}
 use Rattle.pulsar_calls.specs.Content.{Asked, Failed, Receipt, sent_by}
 use Rattle.pulsar_laws.specs.Laws.{AreActs, FailsSo, IsDropped, started}
 use Rattle.pulsar_plans.specs.Plan.{closed_notice, fails, overrides, verdict}
-use Rattle.pulsar_laws.specs.ProducerLaws.{acts_on, asks_in, is_queued, queued_times, version_told}
-use Rattle.pulsar_producer_table.specs.Producers.{is_bare, next_batch_at, numbers_at, stored_at, timeout_at}
+use Rattle.pulsar_laws.specs.ProducerLaws.{Dealing, DealsWithNone, GoesRound, Sends, SendsBatches, acts_on, asks_in, dealing, is_queued, queued_times, version_told}
+use Rattle.pulsar_producer_table.specs.Producers.{is_bare, is_settled_at, next_batch_at, numbers_at, stored_at, timeout_at}
 use Rattle.pulsar_acts.specs.Rules.{call_part, notice, ready_notice}
 use Rattle.pulsar_acts.specs.Run.{Entry, Then, IsRun, Rests, view}
 use Rattle.pulsar_acts.specs.View.{View}
@@ -113,9 +114,21 @@ OneThingAtATime = (o : Options) (log : List Entry) (n : ℕ) (a : Action) → Is
 -- WHAT BECOMES OF A BATCH
 
 -- how often a frame was queued for the batch that was taken last
+abbrev pub asks_in_batch : Batching → Bool
+asks_in_batch batching.Resting = false
+asks_in_batch batching.Taking = false
+asks_in_batch (batching.Sending ms count s) = asks_in s
+asks_in_batch batching.Settling = false
+
+abbrev pub asks_batch_as : Dealing → Bool
+asks_batch_as (Sends e s) = false
+asks_batch_as (SendsBatches e b) = asks_in_batch b
+asks_batch_as (GoesRound n x) = false
+asks_batch_as DealsWithNone = false
+
 abbrev pub asks_batch : Option Plan → Bool
-asks_batch (Some (plan.Batching w e (batching.Sending ms count s))) = asks_in s
-asks_batch _ = false
+asks_batch None = false
+asks_batch (Some p) = asks_batch_as (dealing p)
 
 abbrev pub frames_queued : Options → (number : ℕ) → List Entry → ℕ
 frames_queued o n [] = 0
@@ -247,7 +260,7 @@ FramesOfBatches = (o : Options) (log : List Entry) (n l k s : ℕ) (name : List 
     IsRun o (Then (Does (Producer n) (Ask l (words.Send k name s m block))) ∷ log) →
     (items : List Item) × (whole : ProducerMessageValues) × (version : Option (List ℕ)) × (row : Topic) × (under_way o n log ≡ Some items)
     × (batch_of (entries_in items) ≡ Ok whole) × (m ≡ with_version version whole) × (k ≡ n) × ((view o log).producers.topics n ≡ Some row)
-    × (row.seen.holder ≡ Some behind_all) × (row.seen.link ≡ l) × (row.seen.given.name ≡ name) × (row.seen.next ≡ s + 1)
+    × (row.seen.holder ≡ Some (taker.Call behind_all)) × (row.seen.link ≡ l) × (row.seen.given.name ≡ name) × (row.seen.next ≡ s + 1)
     × (version_told (Producer n) log ≡ Some version)
 
 -- an entry asks for a frame of a topic producer by this number: that of the send of a call, or that of a batch
@@ -308,6 +321,33 @@ BatchesByItsOptions = (o : Options) (log : List Entry) (n : ℕ) (row : Topic) �
     ((limit : ℕ) → order.options.batch_size ≡ Some limit → length row.seen.storage.items < limit)
     × ((limit : ℕ) → order.options.batch_byte_size ≡ Some limit → capped (bytes_of row.seen.storage.items) < limit))
 
+-- What is stored has as many bytes as its payloads, and a flush has none: that is compared with the limit.
+abbrev pub SizesAreSaid : Type 0
+SizesAreSaid =
+    (bytes_of [] ≡ 0) × ((t : ℕ) (items : List Item) → bytes_of (Flush t ∷ items) ≡ bytes_of items)
+    × ((t : ℕ) (m : ProducerMessageValues) (x : EntryValues) (items : List Item) → entry_of m ≡ Some x →
+    bytes_of (SingleMessage t x ∷ items) ≡ length m.payload + bytes_of items)
+
+-- a batch reaches the greatest count of messages or of bytes, or a flush ends it
+abbrev pub Reaches : ℕ → Option ℕ → Type 0
+Reaches n None = ⊥
+Reaches n (Some limit) = limit ≤ n
+
+abbrev pub IsFullBy : (count bytes : Option ℕ) → List Item → Type 0
+IsFullBy count bytes b = Reaches (length b) count ⊎ (Reaches (capped (bytes_of b)) bytes ⊎ ((xs : List Item) × (t : ℕ) × (b ≡ xs ++ Flush t ∷ [])))
+
+-- A batch is cut only where it does by these limits, or by its time.
+abbrev pub CutByLimits : Type 0
+CutByLimits = (s : Setup) (h : List Deed) (d : Deed) (b : List Item) → cut_by d (seen s h) ≡ b ∷ [] →
+    (d ≡ Cuts) ⊎ IsFullBy s.limits.max_size s.limits.max_byte_size b
+
+-- So whatever is done to a topic producer in a run cuts a batch only where the options of the call that built it say so, or by its time.
+abbrev pub CutByItsOptions : Type 0
+CutByItsOptions = (o : Options) (log : List Entry) (n : ℕ) (row : Topic) (d : Deed) (b : List Item) → IsRun o log →
+    (view o log).producers.topics n ≡ Some row → cut_by d row.seen ≡ b ∷ [] →
+    (w : Ways) × (order : ProducerOrder) × (started (Call row.owner) log ≡ Some (procedure.Produce w order))
+    × ((d ≡ Cuts) ⊎ IsFullBy order.options.batch_size order.options.batch_byte_size b)
+
 -- WHERE ITS PRODUCER IS CLOSED
 
 -- As a producer is closed, each message that one of its topic producers stores is settled in that step: its send fails. Nothing is stored there any
@@ -363,3 +403,10 @@ FlushesWait = (o : Options) (log : List Entry) (n t : ℕ) (ns : List Notice) (i
     (s : Setup) × (row : Topic) × (before : List (List Item)) × (left : List Item) × ((view o log).producers.topics n ≡ Some row)
     × (row.seen ≡ seen s (acts_on o n log)) × (items ≡ left ++ Flush t ∷ []) × (taken_of s (acts_on o n log) ≡ before ++ items ∷ [])
     × (items_of s (acts_on o n log) ≡ joined before ++ (items ++ (joined row.seen.cut ++ row.seen.storage.items)))
+
+-- And a flush is done at once (GrantsSo) only where all that its topic producer stored was taken, and no batch is under way.
+abbrev pub FlushesAtOnce : Type 0
+FlushesAtOnce = (o : Options) (log : List Entry) (n : ℕ) (row : Topic) → IsRun o log → (view o log).producers.topics n ≡ Some row →
+    is_settled_at (Some row) ≡ true →
+    (s : Setup) × (row.seen ≡ seen s (acts_on o n log)) × (items_of s (acts_on o n log) ≡ joined (taken_of s (acts_on o n log)))
+    × (row.seen.is_under_way ≡ false)

@@ -13,7 +13,8 @@ use Rattle.pulsar_session.specs.declared.states.Asked.TheVariants as placed
 use Rattle.pulsar_frame.specs.Items.{Item, Given, Faulty}
 use Rattle.pulsar_exchange.specs.Messages.{Reply, is_body}
 use Rattle.pulsar_consumer.specs.Frames.{frame_in}
-use Rattle.pulsar_consumer.specs.Laws.{IsFinished, arrivals, asked_since, begun, items_of, weighed_before, weights}
+use Rattle.pulsar_consumer.specs.Items.{Item as Arrived, handed}
+use Rattle.pulsar_consumer.specs.Laws.{ArePlaced, arrivals, asked_since, begun, items_of, weighed_before, weights}
 use Rattle.pulsar_consumer.specs.Topic as reader
 use Rattle.pulsar_consumer.specs.Topic.{Act as Done, Lives, Hears, Loses, Fails, Ends as Over, Polls as Polled, Asks, Live, Seen, Setup, batch_size, first_of, half, is_ended, link_of, lives_on, of_raw, polled_from}
 use Rattle.pulsar_incoming.specs.declared.polled.Ending.{Ending}
@@ -92,12 +93,12 @@ does_to v t m (Does who StopAll) = Over Stopped ∷ []
 does_to v t m _ = []
 
 -- and by the verdict that makes it: its first subscription
-abbrev pub made_as : Makes → Option Setup
-made_as makes.Nothing = None
-made_as makes.Client = None
-made_as (makes.Consumer j) = Some (setup_of j)
-made_as (makes.RawConsumer l made) = Some (of_raw made)
-made_as (makes.Producer b) = None
+abbrev pub made_as : (key : ℕ) → Makes → Option Setup
+made_as key makes.Nothing = None
+made_as key makes.Client = None
+made_as key (makes.Consumer j) = Some (setup_of key j)
+made_as key (makes.RawConsumer l made) = Some (of_raw made)
+made_as key (makes.Producer b) = None
 
 abbrev pub making_does : (ℕ → Option Seat) → Makes → List Done
 making_does live makes.Nothing = []
@@ -107,10 +108,11 @@ making_does live (makes.RawConsumer l made) = subscription_does l (url_at (live 
 making_does live (makes.Producer b) = []
 
 -- how the consumer of a ticket was made
-abbrev pub made_with : (ticket : ℕ) → List Entry → Option Setup
-made_with t [] = None
-made_with t (Then (Answers who verdict) ∷ log) = if is_same (Call t) who then made_as verdict.makes else made_with t log
-made_with t (_ ∷ log) = made_with t log
+abbrev pub made_with : Options → (ticket : ℕ) → List Entry → Option Setup
+made_with o t [] = None
+made_with o t (Then (Answers who verdict) ∷ log) =
+    if is_same (Call t) who then made_as (view o log).consumers.next_key verdict.makes else made_with o t log
+made_with o t (_ ∷ log) = made_with o t log
 
 -- all that was done to it since, newest first
 abbrev pub done_since : View → (ticket : ℕ) → Act → Option Member → List Done → List Done
@@ -127,7 +129,7 @@ done_to o t (Then a ∷ log) = done_since (view o log) t a ((view o log).consume
 -- its arrivals, as many are placed as its receiver queue holds, frames are begun in turn, and nothing arrives behind its end.
 abbrev pub ConsumersAlone : Type 0
 ConsumersAlone = (o : Options) (log : List Entry) (t : ℕ) (m : Member) → IsRun o log → (view o log).consumers.rows t ≡ Some m →
-    (s : Setup) × (made_with t log ≡ Some s) × (m.seen ≡ reader.seen s (done_to o t log))
+    (s : Setup) × (made_with o t log ≡ Some s) × (m.seen ≡ reader.seen s (done_to o t log))
 
 -- ITEMS
 
@@ -154,10 +156,10 @@ shows_next t topic [] None = FindsNothing t
 -- poll gives the first that is left; where none is left it gives the end if it has ended, and else nothing.
 abbrev pub PollsFollow : Type 0
 PollsFollow = (o : Options) (log : List Entry) (t : ℕ) (m : Member) → IsRun o log → (view o log).consumers.rows t ≡ Some m →
-    (s : Setup) × (left : List Item) × (made_with t log ≡ Some s)
-    × (items_given t (steps o log) ++ left ≡ items_of (arrivals s (done_to o t log)))
+    (s : Setup) × (left : List Arrived) × (made_with o t log ≡ Some s)
+    × (items_given t (steps o log) ++ map handed left ≡ map handed (items_of (arrivals s (done_to o t log))))
     × (reader.polled m.seen ≡ polled_from (first_of left) m.seen.ended)
-    × (consumer.polled t m ≡ shows_next t m.seen.topic left m.seen.ended)
+    × (consumer.polled t m ≡ shows_next t m.seen.topic (map handed left) m.seen.ended)
 
 -- A consumer is polled where the user asks for it, and that is the one effect of that step.
 abbrev pub PollsAreAnswered : Type 0
@@ -239,10 +241,16 @@ ConsumersEnd = (o : Options) (log : List Entry) (t : ℕ) (m : Member) → IsRun
 -- A consumer remains what it is. Once it has ended it stays so, for the same reason; no subscription of it is live, and nothing arrives.
 abbrev pub ConsumersRemain : Type 0
 ConsumersRemain = (o : Options) (later older : List Entry) (t : ℕ) (m : Member) → IsRun o (later ++ older) → (view o older).consumers.rows t ≡ Some m →
-    (s : Setup) × (m' : Member) × ((view o (later ++ older)).consumers.rows t ≡ Some m') × (made_with t (later ++ older) ≡ Some s)
-    × (made_with t older ≡ Some s)
+    (s : Setup) × (m' : Member) × ((view o (later ++ older)).consumers.rows t ≡ Some m') × (made_with o t (later ++ older) ≡ Some s)
+    × (made_with o t older ≡ Some s)
     × ((why : Ending) → m.seen.ended ≡ Some why → (m'.seen.ended ≡ Some why) × (link_of m'.seen ≡ None)
     × (arrivals s (done_to o t (later ++ older)) ≡ arrivals s (done_to o t older)))
+
+-- Each consumer that was built has a key of its own: no other has it, at the same time or later, and no raw one.
+abbrev pub KeysAreOwn : Type 0
+KeysAreOwn = (o : Options) (later older : List Entry) (t u : ℕ) (m n : Member) → IsRun o (later ++ older) →
+    (view o older).consumers.rows t ≡ Some m → (view o (later ++ older)).consumers.rows u ≡ Some n → (m.seen.is_raw && n.seen.is_raw) ≡ false →
+    m.seen.key ≡ n.seen.key → t ≡ u
 
 -- PERMITS
 
@@ -253,8 +261,8 @@ ConsumersRemain = (o : Options) (later older : List Entry) (t : ℕ) (m : Member
 abbrev pub PermitsAreKept : Type 0
 PermitsAreKept = (o : Options) (log : List Entry) (t : ℕ) (m : Member) (l : Live) → IsRun o log → (view o log).consumers.rows t ≡ Some m →
     m.seen.is_raw ≡ false → m.seen.engine.live ≡ Some l →
-    (s : Setup) × (made_with t log ≡ Some s) × (l.level - l.weight ≤ batch_size m.seen.config)
-    × (IsFinished s (done_to o t log) → half (batch_size m.seen.config) + l.weight ≤ l.level)
+    (s : Setup) × (made_with o t log ≡ Some s) × (l.level - l.weight ≤ batch_size m.seen.config)
+    × (ArePlaced s (done_to o t log) → half (batch_size m.seen.config) + l.weight ≤ l.level)
     × (l.level + weights (begun s (done_to o t log))
     ≡ l.weight + (asked_since s (done_to o t log) + sum l.due) + weighed_before s (done_to o t log))
 
@@ -333,7 +341,7 @@ FlowsAreQueued = (o : Options) (log : List Entry) (t l : ℕ) (m : Member) → I
 -- sum of the flows that are queued, of those in the line and of those that are due, less what was begun.
 abbrev pub FlowsAreCounted : Type 0
 FlowsAreCounted = (o : Options) (log : List Entry) (t l : ℕ) (m : Member) (s : Setup) → IsRun o log → (view o log).consumers.rows t ≡ Some m →
-    link_of m.seen ≡ Some l → made_with t log ≡ Some s →
+    link_of m.seen ≡ Some l → made_with o t log ≡ Some s →
     (permits_of (flows_since o t log) ≤ asked_since s (done_to o t log))
     × (Rests o log → permits_of (flows_since o t log) ≡ asked_since s (done_to o t log))
 
@@ -348,10 +356,14 @@ NoFlowIsDue = (o : Options) (log : List Entry) (t : ℕ) (m : Member) (l : Live)
 abbrev pub PermitsAreGranted : Type 0
 PermitsAreGranted = (o : Options) (log : List Entry) (t : ℕ) (m : Member) (l : Live) → IsRun o log → Rests o log → (view o log).consumers.rows t ≡ Some m →
     m.seen.is_raw ≡ false → m.seen.engine.live ≡ Some l →
-    (s : Setup) × (made_with t log ≡ Some s)
+    (s : Setup) × (made_with o t log ≡ Some s)
     × (permits_of (flows_since o t log) + weighed_before s (done_to o t log) ≤ batch_size m.seen.config + weights (begun s (done_to o t log)))
-    × (IsFinished s (done_to o t log) → half (batch_size m.seen.config) + weights (begun s (done_to o t log))
+    × (ArePlaced s (done_to o t log) → half (batch_size m.seen.config) + weights (begun s (done_to o t log))
     ≤ permits_of (flows_since o t log) + weighed_before s (done_to o t log))
+
+-- Half of a batch size, rounded up, is just that: twice as much is the batch size, or one more.
+abbrev pub HalfIsHalf : Type 0
+HalfIsHalf = (batch : ℕ) → (batch ≤ half batch + half batch) × (half batch + half batch ≤ batch + 1)
 
 -- ACKNOWLEDGEMENTS
 

@@ -79,6 +79,7 @@ use Rattle.pulsar_acts.specs.View.{View, builds, member_on, pause_of, setup, set
 use Rattle.pulsar_machine.specs.Options.{Options}
 use Rattle.pulsar_links.specs.Seats.{Base, Seat, answer_at, arrival_at, closing, is_asked, url_at}
 use Rattle.pulsar_calls.specs.Who.{in_turn, is_same, rank, ticket_of, turn_of as taken_as}
+use Rattle.pulsar_outgoing.specs.declared.multi_topic.Taker.TheVariants as taker
 use Rattle.pulsar_run.specs.Laws as run
 use Rattle.pulsar_session.specs.Link as session
 use Rattle.pulsar_outgoing.specs.declared.news.News.TheVariants as news
@@ -422,7 +423,8 @@ RevivedDue o who e older =
 abbrev pub BuiltDue : Options → Who → Entry → List Entry → Type 0
 BuiltDue o who e older =
     (other : Who) × (j : Joining) × (said : Said) × (e ≡ Then (Answers other (record { makes = makes.Consumer j; said = said })))
-    × (who ≡ Consumer j.number (ticket_of other)) × (reader.is_due (member_on (view o older).links.live j.link (setup_of j)).seen ≡ true)
+    × (who ≡ Consumer j.number (ticket_of other))
+    × (reader.is_due (member_on (view o older).links.live j.link (setup_of (view o older).consumers.next_key j)).seen ≡ true)
 
 -- it waits for the link of a consumer, that was subscribed again, or could not be
 abbrev pub SeeksAgain : Options → Who → Entry → List Entry → Type 0
@@ -442,7 +444,7 @@ WordComes o who w e older =
 abbrev pub GetsTurn : Options → Who → News → Entry → List Entry → Type 0
 GetsTurn o who n e older =
     (other : Who) × (number turn : ℕ) × (version : Option (List ℕ)) × (e ≡ Then (Does other (OfTopic number PassTurn))) × (who ≡ in_turn number turn)
-    × (n ≡ news.HasTurn version) × (turn_passed ((view o older).producers.topics number) ≡ Some (turn, version))
+    × (n ≡ news.HasTurn version) × (turn_passed ((view o older).producers.topics number) ≡ Some (taker.Call turn, version))
 
 -- what is stored at a topic producer is cut into a batch, and none was under way: by another message, by a flush, or since it has waited
 abbrev pub CutsSo : Options → (number : ℕ) → (act : topic.Act) → Entry → List Entry → Type 0

@@ -9,3 +9,6 @@ pub mod Traces
 pub mod RetryLaws
 pub mod PartLaws
 pub mod AgainLaws
+pub mod AlarmLaws
+pub mod WordLaws
+pub mod ToldLaws

@@ -5,7 +5,7 @@ use Rattle.std.specs.List.{AllByRecursion, list_any}
 use Rattle.std.specs.Map.{lookup}
 use Rattle.std.specs.Ordering.{nat_cmp}
 use Rattle.std.specs.Option.{option_map}
-use Rattle.pulsar_run.specs.Laws.{In}
+use Rattle.pulsar_run.specs.Laws.{In, InThisStep}
 use Rattle.pulsar_wire.specs.declared.error.ConnectionError.TheVariants as error
 use Rattle.pulsar_wire.specs.declared.key.RequestKey.TheVariants as key
 use Rattle.pulsar_wire.specs.Fits.{InRange}
@@ -26,7 +26,7 @@ use Rattle.pulsar_session.specs.Link as session
 use Rattle.pulsar_session.specs.Link.{Asks, frame_at, frame_for, message_of, ticked}
 use Rattle.pulsar_exchange.specs.Messages.{Reply, is_body}
 use Rattle.pulsar_messages.specs.Message.{with_version}
-use Rattle.pulsar_producer.specs.Laws.{AreAbove}
+use Rattle.pulsar_producer.specs.Laws.{AreAbove, tickets}
 use Rattle.pulsar_producer.specs.Topic as topic
 use Rattle.pulsar_producer.specs.Topic.{Act as TopicAct}
 use Rattle.pulsar_outgoing.specs.Batch.{batch_of}
@@ -43,7 +43,7 @@ use Rattle.pulsar_searches.specs.declared.turn.Ways.{Ways}
 use Rattle.pulsar_calls.specs.declared.act.Act.{Act}
 use Rattle.pulsar_calls.specs.declared.act.Act.TheVariants.{Answers, Does, Told}
 use Rattle.pulsar_calls.specs.declared.act.Action.TheVariants.{OfTopic, Ask}
-use Rattle.pulsar_calls.specs.declared.act.TopicAsk.TheVariants.{PassTurn, Remake}
+use Rattle.pulsar_calls.specs.declared.act.TopicAsk.TheVariants.{PassTurn, Remake, TakeTurn}
 use Rattle.pulsar_calls.specs.declared.act.Makes.{Makes}
 use Rattle.pulsar_calls.specs.declared.act.Makes.TheVariants as makes
 use Rattle.pulsar_calls.specs.declared.act.Share.{Share}
@@ -70,7 +70,10 @@ pub use Rattle.pulsar_acts.specs.View.{rung_by, topic_acts}
 use Rattle.pulsar_acts.specs.View.{View}
 use Rattle.pulsar_machine.specs.Options.{Options}
 use Rattle.pulsar_links.specs.Seats.{Seat, answer_at}
-use Rattle.pulsar_calls.specs.Who.{in_turn, is_same, turn_of as taken_as}
+use Rattle.pulsar_calls.specs.Who.{is_same, turn_of as taken_as}
+use Rattle.pulsar_producer_table.specs.Takers.{who_at}
+use Rattle.pulsar_outgoing.specs.declared.multi_topic.Taker.{Taker}
+use Rattle.pulsar_outgoing.specs.declared.multi_topic.Taker.TheVariants as taker
 use Rattle.pulsar_laws.specs.Laws.{started, outcomes, deeds, Answered}
 
 -- what is told of a frame that is queued
@@ -78,14 +81,55 @@ abbrev pub is_queued : Outcome → Bool
 is_queued outcome.Queued = true
 is_queued _ = false
 
+-- what a plan has to do with topic producers: it sends a message by one, or batches, or goes round them
+pub data Dealing : Type 0 where
+  Sends : Errand → Sending → Dealing
+  SendsBatches : Errand → Batching → Dealing
+  GoesRound : (number : ℕ) → At → Dealing
+  DealsWithNone : Dealing
+
+abbrev pub dealing : Plan → Dealing
+dealing plan.Building = DealsWithNone
+dealing (plan.Getting request s) = DealsWithNone
+dealing (plan.Asking w) = DealsWithNone
+dealing (plan.Awaiting w) = DealsWithNone
+dealing (plan.Searching w s) = DealsWithNone
+dealing (plan.Producing w order b) = DealsWithNone
+dealing (plan.Sending w e share s) = Sends e s
+dealing (plan.Reporting w e) = Sends e send.Sent
+dealing (plan.Storing share) = DealsWithNone
+dealing plan.Stored = DealsWithNone
+dealing (plan.Batching w e b) = SendsBatches e b
+dealing (plan.Leaving f) = DealsWithNone
+dealing (plan.Gathering first count left failures) = DealsWithNone
+dealing (plan.Shutting numbers) = DealsWithNone
+dealing (plan.Visiting r n left x) = GoesRound n x
+dealing (plan.Subscribing w order b) = DealsWithNone
+dealing (plan.Serving w n s) = DealsWithNone
+dealing plan.Acknowledging = DealsWithNone
+dealing (plan.Departing consumer n) = DealsWithNone
+dealing plan.Stopping = DealsWithNone
+
 -- a plan has asked for the frame of a message
 abbrev pub asks_in : Sending → Bool
+asks_in (send.Waiting m) = false
+asks_in (send.Drawing m) = false
 asks_in (send.Asked kept) = true
-asks_in _ = false
+asks_in send.Sent = false
+asks_in (send.Recalling m) = false
+asks_in (send.Looking m c l) = false
+asks_in (send.Making m c k) = false
+asks_in (send.Remaking m) = false
+asks_in (send.Ending f) = false
+
+abbrev pub asks_as : Dealing → Bool
+asks_as (Sends e s) = asks_in s
+asks_as (SendsBatches e b) = false
+asks_as (GoesRound n x) = false
+asks_as DealsWithNone = false
 
 abbrev pub asks_at : Plan → Bool
-asks_at (plan.Sending w e share s) = asks_in s
-asks_at _ = false
+asks_at p = asks_as (dealing p)
 
 abbrev pub asks_send : Option Plan → Bool
 asks_send None = false
@@ -136,6 +180,13 @@ abbrev pub AsMadeLast : Type 0
 AsMadeLast = (o : Options) (log : List Entry) (n : ℕ) (t : Topic) → (view o log).producers.topics n ≡ Some t →
     made_last n log ≡ Some (t.seen.link, t.seen.given)
 
+-- The version that one is told with its turn, had at once or passed on to it, is that with which the topic producer was made last.
+abbrev pub TurnsTellTheNewest : Type 0
+TurnsTellTheNewest = (o : Options) (log : List Entry) (who : Who) (version : Option (List ℕ)) →
+    IsRun o (Then (Told (notice who (outcome.Granted (news.HasTurn version)))) ∷ log) →
+    InThisStep (λ e older. (n link : ℕ) × (given : Given) × (made_last n older ≡ Some (link, given)) × (given.version ≡ version)
+    × ((e ≡ Then (Does who (OfTopic n TakeTurn))) ⊎ ((other : Who) × (e ≡ Then (Does other (OfTopic n PassTurn)))))) log
+
 -- No other topic producer has the number of a new one, and none that was drawn before is as great: so none is drawn twice. And it is none that a raw call
 -- has named before, where the first number of the options has 64 bits, as its type says: one of 2^64 is the number of the first topic producer, also where
 -- a raw call has named it.
@@ -152,7 +203,7 @@ FramesAreOfTheirSends = (o : Options) (log : List Entry) (t l n s : ℕ) (name :
     (w : Ways) (e : Errand) (share : Option Share) (given : ProducerMessageValues) →
     IsRun o (Then (Does (Call t) (Ask l (words.Send n name s m block))) ∷ log) → started (Call t) log ≡ Some (procedure.Send w e share given) →
     (row : Topic) × (version : Option (List ℕ)) × ((view o log).producers.topics n ≡ Some row) × (n ≡ e.producer) × (block ≡ e.block)
-    × (row.seen.holder ≡ Some t) × (row.seen.link ≡ l) × (row.seen.given.name ≡ name) × (row.seen.next ≡ s + 1) × (m ≡ with_version version given)
+    × (row.seen.holder ≡ Some (taker.Call t)) × (row.seen.link ≡ l) × (row.seen.given.name ≡ name) × (row.seen.next ≡ s + 1) × (m ≡ with_version version given)
     × (version_told (Call t) log ≡ Some version)
 
 -- The frame that is queued for it spells these words, and nothing else does at that place,
@@ -253,32 +304,53 @@ SlowDownLeavesAll = (o : Options) (log : List Entry) (who : Who) (l : ℕ) (requ
 -- what a plan waits for the turn of
 abbrev pub turn_in : Errand → Sending → Option ℕ
 turn_in e (send.Waiting m) = Some e.producer
-turn_in e _ = None
+turn_in e (send.Drawing m) = None
+turn_in e (send.Asked kept) = None
+turn_in e send.Sent = None
+turn_in e (send.Recalling m) = None
+turn_in e (send.Looking m c l) = None
+turn_in e (send.Making m c k) = None
+turn_in e (send.Remaking m) = None
+turn_in e (send.Ending f) = None
 
 abbrev pub turn_in_batch : Errand → Batching → Option ℕ
+turn_in_batch e batching.Resting = None
+turn_in_batch e batching.Taking = None
 turn_in_batch e (batching.Sending ms count s) = turn_in e s
-turn_in_batch e _ = None
+turn_in_batch e batching.Settling = None
 
 abbrev pub turn_at : (number : ℕ) → At → Option ℕ
+turn_at n at.Settling = None
 turn_at n at.Turning = Some n
-turn_at n _ = None
+turn_at n at.Finding = None
+turn_at n at.Asking = None
+turn_at n at.Passing = None
+turn_at n at.Awaiting = None
+
+abbrev pub turn_as : Dealing → Option ℕ
+turn_as (Sends e s) = turn_in e s
+turn_as (SendsBatches e b) = turn_in_batch e b
+turn_as (GoesRound n x) = turn_at n x
+turn_as DealsWithNone = None
 
 abbrev pub turn_of : Plan → Option ℕ
-turn_of (plan.Sending w e share s) = turn_in e s
-turn_of (plan.Batching w e b) = turn_in_batch e b
-turn_of (plan.Visiting r n left x) = turn_at n x
-turn_of _ = None
+turn_of p = turn_as (dealing p)
 
 -- one has the turn of a topic producer
 abbrev pub HasTurn : View → Who → (number : ℕ) → Type 0
-HasTurn v who n = (row : Topic) × (v.producers.topics n ≡ Some row) × (row.seen.holder ≡ Some (taken_as who))
+HasTurn v who n = (row : Topic) × (v.producers.topics n ≡ Some row) × (row.seen.holder ≡ Some (taker.Call (taken_as who)))
+
+-- who waits behind the one that has the turn next: all have greater tickets; nobody takes a turn for a copy
+abbrev pub AreBehind : Taker → List Taker → Type 0
+AreBehind (taker.Call t) left = AreAbove t (tickets left)
+AreBehind (taker.Copy consumer ticket key) left = ⊥
 
 -- The turn is passed on by the one that has it, to the lowest ticket of those that wait, which is told so.
 abbrev pub PassedInTurn : Type 0
 PassedInTurn = (o : Options) (log : List Entry) (who : Who) (n : ℕ) → IsRun o (Then (Does who (OfTopic n PassTurn)) ∷ log) →
-    (row : Topic) × ((view o log).producers.topics n ≡ Some row) × (row.seen.holder ≡ Some (taken_as who))
-    × ((next : ℕ) (left : List ℕ) → row.seen.waiting ≡ next ∷ left → AreAbove next left
-    × In (notice (in_turn n next) (outcome.Granted (news.HasTurn row.seen.given.version))) (joins (view o log) (Does who (OfTopic n PassTurn))))
+    (row : Topic) × ((view o log).producers.topics n ≡ Some row) × (row.seen.holder ≡ Some (taker.Call (taken_as who)))
+    × ((next : Taker) (left : List Taker) → row.seen.waiting ≡ next ∷ left → AreBehind next left
+    × In (notice (who_at n next) (outcome.Granted (news.HasTurn row.seen.given.version))) (joins (view o log) (Does who (OfTopic n PassTurn))))
 
 -- One that is told that its turn has come has it, if it waits for it still.
 abbrev pub ToldInTurn : Type 0

@@ -229,8 +229,10 @@ is_wait s (wish.Wait delay) = true
 is_wait s _ = false
 
 abbrev pub rests_making : Making → Wish → Bool
+rests_making (make.Getting n) action = false
+rests_making (make.Asked n l) action = false
 rests_making (make.Retrying retry.Resting n) action = true
-rests_making _ action = false
+rests_making (make.Retrying (retry.Looking l) n) action = false
 
 -- a reply tells that it failed since the service is not ready
 abbrev pub IsNotReady : (body fails : ℕ) → Content → Type 0

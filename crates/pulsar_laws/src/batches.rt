@@ -1,6 +1,6 @@
 //! What follows of the batches of producers from the definition of a good run: each contract is a law, and its body is empty.
 
-ghost use Rattle.pulsar_laws.specs.BatchLaws.{BatchSentOnce, BatchesByItsOptions, BatchesOneByOne, ClosedWithTheProducer, EachSentOnce, FlushesWait, FramesOfBatches, MembersAreTold, NumbersOfAllFramesRise, OneThingAtATime, QueuedIsWaitedFor, ReceiptsOfBatches, StoredAtOnce, StoredEndsByItsBatch};
+ghost use Rattle.pulsar_laws.specs.BatchLaws.{BatchSentOnce, BatchesByItsOptions, BatchesOneByOne, ClosedWithTheProducer, CutByItsOptions, CutByLimits, EachSentOnce, FlushesAtOnce, FlushesWait, FramesOfBatches, MembersAreTold, NumbersOfAllFramesRise, OneThingAtATime, QueuedIsWaitedFor, ReceiptsOfBatches, SizesAreSaid, StoredAtOnce, StoredEndsByItsBatch};
 
 /// A topic producer takes its next batch once all of the one before were told, so that one is under way at a time.
 pub fn batches_one_by_one()
@@ -52,6 +52,13 @@ pub fn batches_by_its_options()
     ensures { BatchesByItsOptions }
 {}
 
+/// A batch is cut only where it reaches a limit of these options, by the sizes of its payloads, behind a flush, or by its time.
+pub fn batches_are_cut()
+    ensures sizes { SizesAreSaid }
+    ensures limits { CutByLimits }
+    ensures options { CutByItsOptions }
+{}
+
 /// What a producer stores is settled as it is closed.
 pub fn closed_with_the_producer()
     ensures { ClosedWithTheProducer }
@@ -65,6 +72,11 @@ pub fn stored_at_once()
 /// A flush is told that it is done with its batch, behind which nothing waits that was stored before it.
 pub fn flushes_wait()
     ensures { FlushesWait }
+{}
+
+/// A flush is done at once only where all that was stored before it was taken, and no batch is under way.
+pub fn flushes_at_once()
+    ensures { FlushesAtOnce }
 {}
 
 /// A call that stores its message fails, or ends with the receipt that it is told of its batch.

@@ -1,10 +1,15 @@
 //! What follows of consumers from the definition of a good run: each contract is a law, and its body is empty.
 
-ghost use Rattle.pulsar_laws.specs.ConsumerLaws.{AcksAreLicensed, AcksOnce, ConsumersAlone, ConsumersEnd, ConsumersRemain, EachPollIsAnswered, FlowsAreAsked, FlowsAreCounted, FlowsArePlaced, FlowsAreQueued, FlowsAreTaken, NoFlowIsDue, PermitsAreGranted, PermitsAreKept, PollsAreAnswered, PollsComeFirst, PollsFollow};
+ghost use Rattle.pulsar_laws.specs.ConsumerLaws.{AcksAreLicensed, AcksOnce, ConsumersAlone, ConsumersEnd, ConsumersRemain, EachPollIsAnswered, FlowsAreAsked, FlowsAreCounted, FlowsArePlaced, FlowsAreQueued, FlowsAreTaken, HalfIsHalf, KeysAreOwn, NoFlowIsDue, PermitsAreGranted, PermitsAreKept, PollsAreAnswered, PollsComeFirst, PollsFollow};
 
 /// A consumer is what was done to it since it was made, and nothing else.
 pub fn consumers_alone()
     ensures { ConsumersAlone }
+{}
+
+/// Each consumer that was built has a key of its own, at any time.
+pub fn keys_are_own()
+    ensures { KeysAreOwn }
 {}
 
 /// The polls of a consumer give the items of its arrivals, in order, each once and without gap; where none is left, they find the end where
@@ -43,6 +48,7 @@ pub fn permits_are_kept()
     ensures counted { FlowsAreCounted }
     ensures none_due { NoFlowIsDue }
     ensures granted { PermitsAreGranted }
+    ensures half { HalfIsHalf }
 {}
 
 /// A frame that acknowledges is asked for by a call for just this, and at most once for each.

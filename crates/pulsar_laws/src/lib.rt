@@ -1,7 +1,10 @@
 //! What every good run of a client has, in the words of its users. Each contract is a law, and its body is empty.
 #![tactic(auto)]
 
+pub mod alarms;
 pub mod batches;
 pub mod consumers;
 pub mod producers;
 pub mod runs;
+pub mod told;
+pub mod words;

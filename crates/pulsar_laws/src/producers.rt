@@ -1,7 +1,7 @@
 //! What follows of producers from the definition of a good run: each contract is a law, and its body is empty.
 
 ghost use Rattle.pulsar_laws.specs.PartLaws.{PartsAreReported};
-ghost use Rattle.pulsar_laws.specs.ProducerLaws.{AsMadeLast, FramesAreOfTheirSends, FramesAreReadAgain, NumbersAreFree, NumbersOfFramesRise, PartsAreGathered, PassedInTurn, QueuedAsAsked, QueuedInTurn, ReceiptsAreOwn, SentOnce, SlowDownLeavesAll, ToldInTurn, TopicsAlone};
+ghost use Rattle.pulsar_laws.specs.ProducerLaws.{AsMadeLast, FramesAreOfTheirSends, FramesAreReadAgain, NumbersAreFree, NumbersOfFramesRise, PartsAreGathered, PassedInTurn, QueuedAsAsked, QueuedInTurn, ReceiptsAreOwn, SentOnce, SlowDownLeavesAll, ToldInTurn, TopicsAlone, TurnsTellTheNewest};
 
 /// A topic producer is what the acts on it made of it since it was built, and nothing else. Its link, its name and the version of its
 /// schema are those with which it was made last.
@@ -16,11 +16,12 @@ pub fn numbers_are_free()
 {}
 
 /// The turn of a topic producer is passed on by the one that has it, to the lowest ticket of those that wait, and one that is told
-/// that it has its turn has it, until its frame is queued.
+/// that it has its turn has it, until its frame is queued; it is told the newest version of the schema with it.
 pub fn turns_by_ticket()
     ensures passed { PassedInTurn }
     ensures told { ToldInTurn }
     ensures queued { QueuedInTurn }
+    ensures newest { TurnsTellTheNewest }
 {}
 
 /// The frame that a send asks for is its own message, by what its topic producer has then, in its turn. What is queued at its

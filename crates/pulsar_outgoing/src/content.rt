@@ -165,6 +165,13 @@ impl Settings {
         &self.options
     }
 
+    /// A copy.
+    pub fn copy(&self, alloc: Global) -> Result<Settings, NoMemory>
+        ensures { IfOk result (λ s. s ≡ self.now) }
+    {
+        Settings::new(alloc, self.options.copy()?)
+    }
+
     /// It sends messages as batches: a batch may have more than one, or where that is not said, how many bytes it has is, or how long it
     /// waits.
     pub fn is_batching(&self) -> bool
@@ -191,6 +198,52 @@ impl Settings {
         ensures { result ≡ self.now.batch_timeout }
     {
         self.options.batch_timeout
+    }
+}
+
+/// Numbers of topic producers that are left, in order.
+pub struct Numbers {
+    all: VecDeque<u64>,
+}
+
+impl Drop for Numbers {
+    fn drop(self) {
+        let Numbers { all: _ } = self;
+    }
+}
+
+impl Model for Numbers {
+    ghost use Rattle.std.specs.Prelude.{ℕ, List};
+
+    ghost Value = { List ℕ };
+
+    ghost view = { λ n. n.all.items };
+}
+
+impl Numbers {
+    /// None.
+    pub fn new(alloc: Global) -> Numbers
+        ensures { result ≡ [] }
+    {
+        Numbers {
+            all: VecDeque::new(alloc),
+        }
+    }
+
+    /// One more behind these.
+    pub fn with(self, number: u64) -> Result<Numbers, NoMemory>
+        ensures { IfOk result (λ n. n ≡ self ++ number ∷ []) }
+    {
+        let Numbers { mut all } = self;
+        all.push_back(number)?;
+        Ok(Numbers { all })
+    }
+
+    /// The first, which is left no longer.
+    pub fn next(&mut self) -> Option<u64>
+        ensures { MatchOption result (self.old ≡ []) (λ n. self.old ≡ n ∷ self.new) }
+    {
+        self.all.pop_front()
     }
 }
 

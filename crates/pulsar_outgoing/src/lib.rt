@@ -5,6 +5,7 @@ pub mod batch;
 pub mod content;
 pub mod copying;
 pub mod failing;
+pub mod multi_topic;
 pub mod news;
 pub mod orders;
 pub mod producer_builder;

@@ -8,14 +8,21 @@ use Rattle.pulsar_wire.specs.declared.key.RequestKey.{RequestKey}
 use Rattle.pulsar_frame.specs.Items.{Item}
 use Rattle.pulsar_frame.specs.Message.{MessageValues}
 use Rattle.pulsar_frame.specs.Reply as frame
-use Rattle.pulsar_exchange.specs.Messages.{Reply, read_body, written}
+use Rattle.pulsar_exchange.specs.Messages.{Reply, id_in, read_body, redeliveries_in, written}
 use Rattle.pulsar_calls.specs.declared.act.Says.{Says}
 use Rattle.pulsar_calls.specs.declared.act.Says.TheVariants.{Names, Bodies, Nothing}
 use Rattle.pulsar_plans.specs.Plan.{answer_with}
 
 -- the reply of this body, and of what stands beside it
 abbrev pub beside : MessageValues → Option RequestKey → List Item → (weight : ℕ) → Option BodyValues → Reply
-beside m k items weight body = record { content = frame.framed m (frame.read_body k body); items = items; weight = weight }
+beside m k items weight body =
+    record {
+      content = frame.framed m (frame.read_body k body);
+      items = items;
+      weight = weight;
+      id = id_in body;
+      redeliveries = redeliveries_in body;
+    }
 
 said_alone : (s : Says) (m : MessageValues) (k : Option RequestKey) (items : List Item) (weight : ℕ) (b : BodyValues) →
     answer_with s (read_body None [] 0 (Some b)) (Some (written b)) ≡ answer_with s (beside m k items weight (Some b)) (Some (written b))

@@ -15,10 +15,11 @@ use pulsar_addresses::content::Refusal as Failure;
 use pulsar_calls::act::{
     Action, CallRefusal, Makes, Outcome, Place, Procedure, Round, Says, Share, TopicAsk, Verdict,
 };
-use pulsar_calls::content::{Failures, Numbers, Said};
+use pulsar_calls::content::{Failures, Said};
 use pulsar_calls::effect::Answer;
 use pulsar_exchange::content::{Received, Request, Subscribed};
 use pulsar_incoming::orders::ConsumerOrder;
+use pulsar_outgoing::content::Numbers;
 use pulsar_outgoing::orders::{Errand, ProducerOrder};
 use pulsar_producer::deed;
 use pulsar_searches::transition::Transition;

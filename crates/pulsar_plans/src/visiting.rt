@@ -11,9 +11,9 @@ use crate::plan::{At, Plan, PlanTransition, done, error_of, fails, left, of_topi
 use crate::producing::closes;
 use pulsar_addresses::content::Refusal;
 use pulsar_calls::act::{Action, Makes, Outcome, Round, TopicAsk, Verdict};
-use pulsar_calls::content::Numbers;
 use pulsar_exchange::content::{Received, Request};
 use pulsar_exchange::raw_call::RawCall;
+use pulsar_outgoing::content::Numbers;
 use pulsar_outgoing::failing::in_producer;
 use pulsar_producer::deed::{News, error_told};
 use pulsar_searches::transition::Transition;

@@ -4,9 +4,10 @@ use Rattle.std.proofs.Math.Seq.{take-append_seam, take-length}
 use Rattle.std.proofs.lemmas.Grind.{flat_map-append}
 use Rattle.std.specs.Option.{option_to_list}
 use Rattle.pulsar_messages.specs.Claims.{is_spent}
+use Rattle.pulsar_outgoing.specs.declared.multi_topic.Taker.{Taker}
 use Rattle.pulsar_producer.specs.BatchLaws.{BatchesInOrder, CutInTime, FlushIsLast, ItemsInOrder, batches_dropped, cut_by, is_full, items_dropped, joined, stored_by, taken_by, taken_of, without_last}
 use Rattle.pulsar_outgoing.specs.Storage.{Item, SingleMessage, Flush, Storage, is_ready, pushed}
-use Rattle.pulsar_producer.specs.Topic.{Act, Takes, Passes, Draws, Remakes, Closes, Stores, Flushes, Cuts, TakesBatch, Halts, Seen, after, cuts, flushes, is_settled, left_of, next_of, seen, stores, takes_in}
+use Rattle.pulsar_producer.specs.Topic.{Act, Takes, Draws, Closes, Stores, Flushes, Cuts, TakesBatch, Halts, Seen, after, cuts, flushes, is_settled, left_of, next_of, seen, stores, takes_in}
 use Rattle.pulsar_outgoing.specs.Storage.{is_nothing}
 use Rattle.pulsar_outgoing.specs.declared.storage.Limits.{Limits}
 use Rattle.pulsar_producer.proofs.Storages.{NotYet, draws_storage, flush_full, left_storage, limits_stay, not_yet, split_last, takes_storage}
@@ -30,7 +31,7 @@ joined_append bs cs = flat_map-append (λ b. b) bs cs
 
 -- BATCHES
 
-takes_cut : (o : Option ℕ) (t : ℕ) (v : Seen) → (takes_in o t v).cut ≡ v.cut
+takes_cut : (o : Option Taker) (t : Taker) (v : Seen) → (takes_in o t v).cut ≡ v.cut
 takes_cut None t v = refl
 takes_cut (Some other) t v = refl
 
@@ -67,15 +68,13 @@ queue_kept xs c d t u e = ap (λ z. z ++ d) (whole (xs ++ c)) ∙ append_assoc x
 queue_step : (act : Act) (v : Seen) (xs : List (List Item)) →
     without_last (batches_dropped act v) (xs ++ v.cut) ++ cut_by act v ≡ (xs ++ taken_by act v) ++ (after act v).cut
 queue_step (Takes t) v xs = queue_kept xs v.cut [] [] (after (Takes t) v).cut (append-nil v.cut ∙ sym (takes_cut v.holder t v))
-queue_step Passes v xs = queue_kept xs v.cut [] [] v.cut (append-nil v.cut)
 queue_step Draws v xs = queue_kept xs v.cut [] [] (after Draws v).cut (append-nil v.cut ∙ sym (draws_cut (is_spent v.next) v _ refl))
-queue_step (Remakes l g) v xs = queue_kept xs v.cut [] [] v.cut (append-nil v.cut)
-queue_step Closes v xs = queue_kept xs v.cut [] [] v.cut (append-nil v.cut)
 queue_step (Stores t e) v xs = queue_kept xs v.cut (cut_by (Stores t e) v) [] (after (Stores t e) v).cut (stores_cut (SingleMessage t e) v)
 queue_step (Flushes t) v xs = queue_kept xs v.cut (cut_by (Flushes t) v) [] (after (Flushes t) v).cut (flushes_cut t v)
 queue_step Cuts v xs = queue_kept xs v.cut (cut_by Cuts v) [] (after Cuts v).cut (cuts_cut (is_nothing v.storage.items) v)
 queue_step TakesBatch v xs = queue_kept xs v.cut [] (taken_by TakesBatch v) (after TakesBatch v).cut (takes_next v.cut v refl)
 queue_step Halts v xs = append-nil _ ∙ but_last xs v.cut ∙ sym (append-nil xs) ∙ sym (append-nil (xs ++ []))
+queue_step _ v xs = queue_kept xs v.cut [] [] v.cut (append-nil v.cut)
 
 pub batches_in_order : BatchesInOrder
 batches_in_order s [] = refl
@@ -129,9 +128,7 @@ items_step : (act : Act) (v : Seen) (ts : List (List Item)) →
     without_last (items_dropped act v) (joined (ts ++ v.cut) ++ v.storage.items) ++ stored_by act v
     ≡ joined (without_last (batches_dropped act v) (ts ++ v.cut) ++ cut_by act v) ++ (after act v).storage.items
 items_step (Takes t) v ts = items_same (ts ++ v.cut) v.storage.items (after (Takes t) v).storage.items (ap (λ s. s.items) (takes_storage v.holder t v))
-items_step Passes v ts = items_same (ts ++ v.cut) v.storage.items v.storage.items refl
 items_step Draws v ts = items_same (ts ++ v.cut) v.storage.items (after Draws v).storage.items (ap (λ s. s.items) (draws_storage (is_spent v.next) v _ refl))
-items_step (Remakes l g) v ts = items_same (ts ++ v.cut) v.storage.items v.storage.items refl
 items_step Closes v ts =
     append-nil _ ∙ but_last (joined (ts ++ v.cut)) v.storage.items ∙ ap joined (sym (append-nil _ ∙ whole (ts ++ v.cut))) ∙ sym (append-nil _)
 items_step (Stores t e) v ts =
@@ -141,6 +138,7 @@ items_step (Flushes t) v ts =
 items_step Cuts v ts = items_kept (ts ++ v.cut) (cut_by Cuts v) v.storage.items [] (after Cuts v).storage.items (cuts_items (is_nothing v.storage.items) v)
 items_step TakesBatch v ts = items_same (ts ++ v.cut) v.storage.items (after TakesBatch v).storage.items (ap (λ s. s.items) (left_storage v.cut v))
 items_step Halts v ts = items_left ts v.cut v.storage.items
+items_step _ v ts = items_same (ts ++ v.cut) v.storage.items v.storage.items refl
 
 pub items_in_order : ItemsInOrder
 items_in_order s [] = refl
@@ -193,13 +191,7 @@ cut_here Cuts v b k is = by (is_nothing v.storage.items) refl is
     by : (r : Bool) → is_nothing v.storage.items ≡ r → cond r [] (v.storage.items ∷ []) ≡ b ∷ [] → IsCut v.storage.limits Cuts b
     by true some is = absurd cc
     by false some is = subst (IsCut v.storage.limits Cuts) (one_batch v.storage.items b is) (by_time v.storage k some)
-cut_here (Takes t) v b k is = absurd cc
-cut_here Passes v b k is = absurd cc
-cut_here Draws v b k is = absurd cc
-cut_here (Remakes l g) v b k is = absurd cc
-cut_here Closes v b k is = absurd cc
-cut_here TakesBatch v b k is = absurd cc
-cut_here Halts v b k is = absurd cc
+cut_here _ v b k is = absurd cc
 
 pub cut_in_time : CutInTime
 cut_in_time s h act b is = subst (λ l. IsCut l act b) (limits_stay s h) (cut_here act (seen s h) b (not_yet s h) is)

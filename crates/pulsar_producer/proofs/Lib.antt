@@ -1,4 +1,9 @@
 pub mod Cutting
+pub mod Waiting
+pub mod MultiMaps
+pub mod MultiPassing
+pub mod MultiTopics
+pub mod MultiTurns
 pub mod Numbers
 pub mod Reading
 pub mod Routes

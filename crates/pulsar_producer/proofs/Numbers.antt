@@ -3,11 +3,12 @@ use Rattle.std.proofs.Common.{◌≡◌, ◌∙◌, sym, ap, refl, ℕ, ◌+◌,
 use Rattle.std.specs.Option.{is_some}
 use Rattle.pulsar_messages.specs.Claims.{is_spent}
 use Rattle.pulsar_outgoing.specs.Storage.{SingleMessage}
-use Rattle.pulsar_producer.specs.Topic.{Act, Takes, Passes, Draws, Remakes, Closes, Stores, Flushes, Cuts, TakesBatch, Halts, Seen, Setup, after, drawn, passes, seen, takes_in}
+use Rattle.pulsar_outgoing.specs.declared.multi_topic.Taker.{Taker}
+use Rattle.pulsar_producer.specs.Topic.{Act, Takes, Draws, Stores, Flushes, Cuts, TakesBatch, Seen, Setup, after, drawn, passes, seen, takes_in}
 use Rattle.pulsar_producer.specs.Laws.{NumbersCount, NumbersRise, RefusedSpendsItsNumber, draws_of, given_by}
 use Rattle.pulsar_producer.proofs.Untouched.{stores_keeps, flushes_keeps, cuts_keeps, takes_batch_keeps}
 
-takes_next : (o : Option ℕ) (t : ℕ) (v : Seen) → (takes_in o t v).next ≡ v.next
+takes_next : (o : Option Taker) (t : Taker) (v : Seen) → (takes_in o t v).next ≡ v.next
 takes_next None t v = refl
 takes_next (Some other) t v = refl
 
@@ -18,15 +19,12 @@ draws_next false v = refl
 -- the next number rises by how many an act draws
 next_after : (act : Act) (v : Seen) → (after act v).next ≡ v.next + given_by act v
 next_after (Takes t) v = takes_next v.holder t v ∙ sym (add-zero v.next)
-next_after Passes v = sym (add-zero v.next)
 next_after Draws v = draws_next (is_spent v.next) v
-next_after (Remakes l g) v = sym (add-zero v.next)
-next_after Closes v = sym (add-zero v.next)
 next_after (Stores t e) v = (stores_keeps (SingleMessage t e) v).0 ∙ sym (add-zero v.next)
 next_after (Flushes t) v = (flushes_keeps t v).0 ∙ sym (add-zero v.next)
 next_after Cuts v = (cuts_keeps v).0 ∙ sym (add-zero v.next)
 next_after TakesBatch v = (takes_batch_keeps v.cut v).0 ∙ sym (add-zero v.next)
-next_after Halts v = sym (add-zero v.next)
+next_after _ v = sym (add-zero v.next)
 
 -- so it never gets less
 pub next_rises : (act : Act) (v : Seen) → v.next ≤ (after act v).next

@@ -3,15 +3,16 @@ use Rattle.std.proofs.Common.{◌≡◌, ◌∙◌, sym, ap, refl, subst, ℕ, �
 use Rattle.std.proofs.lemmas.Bool.Decides.{nat_tests}
 use Rattle.pulsar_messages.specs.Claims.{is_spent}
 use Rattle.pulsar_wire.specs.Sink.{capped}
+use Rattle.pulsar_outgoing.specs.declared.multi_topic.Taker.{Taker}
 use Rattle.pulsar_producer.specs.BatchLaws.{NeverReady, StoredIsNotReady, is_full, is_positive}
 use Rattle.pulsar_outgoing.specs.Storage.{Item, SingleMessage, Flush, Storage, ends_in_flush, is_ready, pushed, reaches}
-use Rattle.pulsar_producer.specs.Topic.{Act, Takes, Passes, Draws, Remakes, Closes, Stores, Flushes, Cuts, TakesBatch, Halts, Seen, Setup, after, cuts, is_settled, left_of, seen, stores, takes_in}
+use Rattle.pulsar_producer.specs.Topic.{Act, Takes, Draws, Closes, Stores, Flushes, Cuts, TakesBatch, Halts, Seen, Setup, after, cuts, is_settled, left_of, seen, stores, takes_in}
 use Rattle.pulsar_outgoing.specs.Storage.{is_nothing}
 use Rattle.pulsar_outgoing.specs.declared.storage.Limits.{Limits}
 
 -- WHERE IT STAYS
 
-pub takes_storage : (o : Option ℕ) (t : ℕ) (v : Seen) → (takes_in o t v).storage ≡ v.storage
+pub takes_storage : (o : Option Taker) (t : Taker) (v : Seen) → (takes_in o t v).storage ≡ v.storage
 takes_storage None t v = refl
 takes_storage (Some other) t v = refl
 
@@ -34,15 +35,12 @@ stores_limits x v = let w = record v { storage = pushed x v.storage } in limits_
 
 limits_after : (act : Act) (v : Seen) → (after act v).storage.limits ≡ v.storage.limits
 limits_after (Takes t) v = ap (λ s. s.limits) (takes_storage v.holder t v)
-limits_after Passes v = refl
 limits_after Draws v = ap (λ s. s.limits) (draws_storage (is_spent v.next) v _ refl)
-limits_after (Remakes l g) v = refl
-limits_after Closes v = refl
 limits_after (Stores t e) v = stores_limits (SingleMessage t e) v
 limits_after (Flushes t) v = limits_if (is_settled v) v v (stores (Flush t) v) refl (stores_limits (Flush t) v)
 limits_after Cuts v = limits_if (is_nothing v.storage.items) v v (cuts v) refl refl
 limits_after TakesBatch v = ap (λ s. s.limits) (left_storage v.cut v)
-limits_after Halts v = refl
+limits_after _ v = refl
 
 pub limits_stay : (s : Setup) (h : List Act) → (seen s h).storage.limits ≡ s.limits
 limits_stay s [] = refl
@@ -93,15 +91,14 @@ yet_if false w u k l = l
 
 yet_after : (act : Act) (v : Seen) → NotYet v.storage → NotYet (after act v).storage
 yet_after (Takes t) v k = subst NotYet (sym (takes_storage v.holder t v)) k
-yet_after Passes v k = k
 yet_after Draws v k = subst NotYet (sym (draws_storage (is_spent v.next) v _ refl)) k
-yet_after (Remakes l g) v k = k
 yet_after Closes v k = none_yet v.storage.limits
 yet_after (Stores t e) v k = stores_yet (SingleMessage t e) v k
 yet_after (Flushes t) v k = yet_if (is_settled v) v (stores (Flush t) v) k (stores_yet (Flush t) v k)
 yet_after Cuts v k = yet_if (is_nothing v.storage.items) v (cuts v) k (none_yet v.storage.limits)
 yet_after TakesBatch v k = subst NotYet (sym (left_storage v.cut v)) k
 yet_after Halts v k = none_yet v.storage.limits
+yet_after _ v k = k
 
 pub not_yet : (s : Setup) (h : List Act) → NotYet (seen s h).storage
 not_yet s [] = none_yet s.limits

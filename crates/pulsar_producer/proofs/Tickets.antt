@@ -1,13 +1,15 @@
 -- Those that use a topic producer: whoever waits for its turn wanted it, and whatever it has, stored or cut, was stored there or flushes it.
 use Rattle.std.proofs.Common.{ℕ, ◌+◌, List, [], ◌∷◌, ◌++◌, Bool, true, false, cond, Option, Some, None}
-use Rattle.std.specs.BTreeSet.{insert_key}
 use Rattle.std.specs.List.{AllByRecursion}
-use Rattle.std.specs.Ordering.{match_ordering, nat_cmp}
+use Rattle.std.specs.Ordering.{match_ordering}
 use Rattle.std.specs.declared.cmp.Ordering.{Ordering}
 use Rattle.std.specs.declared.cmp.Ordering.TheVariants.{Less, Equal, Greater}
 use Rattle.pulsar_messages.specs.Claims.{is_spent}
 use Rattle.pulsar_outgoing.specs.Storage.{Item, SingleMessage, Flush, is_nothing, is_ready, pushed}
-use Rattle.pulsar_producer.specs.Topic.{Act, Takes, Passes, Draws, Remakes, Closes, Stores, Flushes, Cuts, TakesBatch, Halts, Seen, Setup, after, cuts, fresh, is_settled, left_of, rest_of, stores, takes_in}
+use Rattle.pulsar_producer.specs.Topic.{Act, Takes, Passes, Draws, Closes, Stores, Flushes, Cuts, TakesBatch, Halts, Seen, Setup, after, cuts, fresh, is_settled, left_of, stores, takes_in}
+use Rattle.pulsar_producer.specs.Turns.{beside, placed, queued, rest_of}
+use Rattle.pulsar_outgoing.specs.declared.multi_topic.Taker.{Taker}
+use Rattle.pulsar_outgoing.specs.declared.multi_topic.Taker.TheVariants.{Call, Copy}
 
 -- LISTS
 
@@ -19,31 +21,28 @@ all_map : {A : Type 0} (P Q : A → Type 0) (xs : List A) → ((x : A) → P x �
 all_map P Q [] f p = tt
 all_map P Q (x ∷ xs) f p = (f x p.0, all_map P Q xs f p.1)
 
-all_insert : (P : ℕ → Type 0) (k : ℕ) (xs : List ℕ) → P k → AllByRecursion P xs → AllByRecursion P (insert_key nat_cmp xs k)
-all_insert P k [] p ps = (p, tt)
-all_insert P k (x ∷ xs) p ps = by (nat_cmp k x) (all_insert P k xs p ps.1)
+all_placed : (P : Taker → Type 0) (t : ℕ) (xs : List Taker) → P (Call t) → AllByRecursion P xs → AllByRecursion P (placed t xs)
+all_placed P t [] p ps = (p, tt)
+all_placed P t (x ∷ xs) p ps = by (beside t x) (all_placed P t xs p ps.1)
   where
-    by : (c : Ordering) → AllByRecursion P (insert_key nat_cmp xs k) →
-        AllByRecursion P (match_ordering c (k ∷ x ∷ xs) (x ∷ xs) (x ∷ insert_key nat_cmp xs k))
+    by : (c : Ordering) → AllByRecursion P (placed t xs) → AllByRecursion P (match_ordering c (Call t ∷ x ∷ xs) (x ∷ xs) (x ∷ placed t xs))
     by Less more = (p, ps)
     by Equal more = ps
     by Greater more = (ps.0, more)
 
+all_queued : (P : Taker → Type 0) (t : Taker) (xs : List Taker) → P t → AllByRecursion P xs → AllByRecursion P (queued t xs)
+all_queued P (Call t) xs p ps = all_placed P t xs p ps
+all_queued P (Copy consumer ticket key) xs p ps = all_append P xs (Copy consumer ticket key ∷ []) ps (p, tt)
+
 -- WHAT IS SO OF THEM: T of those that wait for the turn, and P of what is stored
 
-module _ (T : ℕ → Type 0) (P : Item → Type 0) where
+module _ (T : Taker → Type 0) (P : Item → Type 0) where
   -- what an act brings is so
   abbrev pub BringsSo : Act → Type 0
   BringsSo (Takes t) = T t
-  BringsSo Passes = Unit {0}
-  BringsSo Draws = Unit {0}
-  BringsSo (Remakes l g) = Unit {0}
-  BringsSo Closes = Unit {0}
   BringsSo (Stores t e) = P (SingleMessage t e)
   BringsSo (Flushes t) = P (Flush t)
-  BringsSo Cuts = Unit {0}
-  BringsSo TakesBatch = Unit {0}
-  BringsSo Halts = Unit {0}
+  BringsSo _ = Unit {0}
 
   -- and all that is there is
   abbrev pub UsersSo : Seen → Type 0
@@ -56,11 +55,11 @@ module _ (T : ℕ → Type 0) (P : Item → Type 0) where
   either_so true v w p q = p
   either_so false v w p q = q
 
-  takes_so : (t : ℕ) (holder : Option ℕ) (v : Seen) → T t → UsersSo v → UsersSo (takes_in holder t v)
+  takes_so : (t : Taker) (holder : Option Taker) (v : Seen) → T t → UsersSo v → UsersSo (takes_in holder t v)
   takes_so t None v p k = k
-  takes_so t (Some other) v p k = (all_insert T t v.waiting p k.0, k.1, k.2)
+  takes_so t (Some other) v p k = (all_queued T t v.waiting p k.0, k.1, k.2)
 
-  rest_so : (ts : List ℕ) → AllByRecursion T ts → AllByRecursion T (rest_of ts)
+  rest_so : (ts : List Taker) → AllByRecursion T ts → AllByRecursion T (rest_of ts)
   rest_so [] k = tt
   rest_so (t ∷ ts) k = k.1
 
@@ -81,15 +80,15 @@ module _ (T : ℕ → Type 0) (P : Item → Type 0) where
   users_so (Takes t) v p k = takes_so t v.holder v p k
   users_so Passes v p k = (rest_so v.waiting k.0, k.1, k.2)
   users_so Draws v p k = either_so (is_spent v.next) v (record v { next = v.next + 1 }) k k
-  users_so (Remakes l g) v p k = k
   users_so Closes v p k = (k.0, tt, k.2)
   users_so (Stores t e) v p k = stores_so (SingleMessage t e) v p k
   users_so (Flushes t) v p k = either_so (is_settled v) v (stores (Flush t) v) k (stores_so (Flush t) v p k)
   users_so Cuts v p k = either_so (is_nothing v.storage.items) v (cuts v) k (cuts_so v k)
   users_so TakesBatch v p k = left_so v.cut v k.2 k
   users_so Halts v p k = (k.0, tt, tt)
+  users_so _ v p k = k
 
 -- what follows from it is so too
-pub users_map : (T U : ℕ → Type 0) (P Q : Item → Type 0) (v : Seen) → ((t : ℕ) → T t → U t) → ((x : Item) → P x → Q x) → UsersSo T P v → UsersSo U Q v
+pub users_map : (T U : Taker → Type 0) (P Q : Item → Type 0) (v : Seen) → ((t : Taker) → T t → U t) → ((x : Item) → P x → Q x) → UsersSo T P v → UsersSo U Q v
 users_map T U P Q v f g k =
     (all_map T U v.waiting f k.0, all_map P Q v.storage.items g k.1, all_map (AllByRecursion P) (AllByRecursion Q) v.cut (λ b p. all_map P Q b g p) k.2)

@@ -1,8 +1,8 @@
 -- What follows of every history of a topic producer, of every send and of every building, in plain words. `h` has the acts of a history,
 -- newest first, and `later` those behind them.
-use Rattle.std.specs.Prelude.{◌≡◌, ℕ, ◌+◌, ◌<◌, ◌==◌, Bool, true, false, if◌then◌else◌, List, [], ◌∷◌, ◌++◌, Option, Some, None}
+use Rattle.std.specs.Prelude.{◌≡◌, ℕ, ◌+◌, ◌<◌, ◌==◌, ◌&&◌, Bool, true, false, if◌then◌else◌, List, [], ◌∷◌, ◌++◌, Option, Some, None}
 use Rattle.std.specs.List.{list_all, list_any}
-use Rattle.std.specs.Option.{is_some}
+use Rattle.std.specs.Option.{is_some, option_to_list}
 use Rattle.pulsar_messages.specs.Content.{ProducerMessageValues}
 use Rattle.pulsar_searches.specs.declared.turn.Ways.{Ways}
 use Rattle.pulsar_producer.specs.Plans.{Sent, send_of, send_told}
@@ -15,6 +15,8 @@ use Rattle.pulsar_outgoing.specs.declared.news.Drawn.{Drawn}
 use Rattle.pulsar_producer.specs.News.{News}
 use Rattle.pulsar_outgoing.specs.declared.news.News.TheVariants.{Queued, Drew}
 use Rattle.pulsar_producer.specs.declared.deed.Send.{Send}
+use Rattle.pulsar_outgoing.specs.declared.multi_topic.Taker.{Taker}
+use Rattle.pulsar_outgoing.specs.declared.multi_topic.Taker.TheVariants.{Call, Copy}
 use Rattle.pulsar_outgoing.specs.declared.orders.Errand.{Errand}
 use Rattle.pulsar_producer.specs.declared.sending.Sending.{Sending}
 use Rattle.pulsar_producer.specs.declared.sending.Sending.TheVariants.{Drawing, Asked}
@@ -62,11 +64,11 @@ RefusedSpendsItsNumber = (s : Setup) (h : List Act) (n : ℕ) → drawn (seen s 
 -- TURNS
 
 -- whom an act gives the turn
-abbrev pub turn_if : Option ℕ → ℕ → Option ℕ
+abbrev pub turn_if : Option Taker → Taker → Option Taker
 turn_if None t = Some t
 turn_if (Some other) t = None
 
-abbrev pub gives_turn : Act → Seen → Option ℕ
+abbrev pub gives_turn : Act → Seen → Option Taker
 gives_turn (Takes t) v = turn_if v.holder t
 gives_turn Passes v = next_holder v
 gives_turn Draws v = None
@@ -83,18 +85,67 @@ abbrev pub AreAbove : ℕ → List ℕ → Type 0
 AreAbove t [] = Unit {0}
 AreAbove t (u ∷ us) = (t < u) × AreAbove t us
 
--- The turn is passed on to the lowest ticket of those that wait, and that one waits no longer.
-abbrev pub LowestIsNext : Type 0
-LowestIsNext = (s : Setup) (h : List Act) (t : ℕ) → next_holder (seen s h) ≡ Some t →
-    AreAbove t (seen s (Passes ∷ h)).waiting × ((seen s h).waiting ≡ t ∷ (seen s (Passes ∷ h)).waiting)
+-- the tickets of the calls among these
+abbrev pub tickets : List Taker → List ℕ
+tickets [] = []
+tickets (Call t ∷ ts) = t ∷ tickets ts
+tickets (Copy consumer ticket key ∷ ts) = tickets ts
 
--- who waits: the tickets that wanted their turn and have not got it
-abbrev pub is_listed : ℕ → List ℕ → Bool
-is_listed t ts = list_any (λ u. t == u) ts
+-- The turn is passed on to the first of those that wait, and that one waits no longer. Where that is a call, its ticket is the lowest of the
+-- calls that wait.
+abbrev pub LowestIsNext : Type 0
+LowestIsNext = (s : Setup) (h : List Act) (t : ℕ) → next_holder (seen s h) ≡ Some (Call t) →
+    AreAbove t (tickets (seen s (Passes ∷ h)).waiting) × ((seen s h).waiting ≡ Call t ∷ (seen s (Passes ∷ h)).waiting)
+
+abbrev pub FirstIsNext : Type 0
+FirstIsNext = (s : Setup) (h : List Act) (t : Taker) → next_holder (seen s h) ≡ Some t →
+    (seen s h).waiting ≡ t ∷ (seen s (Passes ∷ h)).waiting
+
+-- who waits: those that wanted their turn and have not got it
+abbrev pub is_taker : Taker → Taker → Bool
+is_taker (Call t) (Call u) = t == u
+is_taker (Call t) (Copy consumer ticket key) = false
+is_taker (Copy consumer ticket key) (Call u) = false
+is_taker (Copy consumer ticket key) (Copy other made more) = (consumer == other) && (key == more)
+
+abbrev pub is_listed : Taker → List Taker → Bool
+is_listed t ts = list_any (λ u. is_taker t u) ts
 
 -- One whose turn is taken waits, until it has it.
 abbrev pub WaitsInLine : Type 0
-WaitsInLine = (s : Setup) (h : List Act) (t : ℕ) → is_free (seen s h) ≡ false → is_listed t (seen s (Takes t ∷ h)).waiting ≡ true
+WaitsInLine = (s : Setup) (h : List Act) (t : Taker) → is_free (seen s h) ≡ false → is_listed t (seen s (Takes t ∷ h)).waiting ≡ true
+
+-- those who wanted their turn, and those who were given it, in order
+abbrev pub taker_of : Act → List Taker
+taker_of (Takes t) = t ∷ []
+taker_of Passes = []
+taker_of Draws = []
+taker_of (Remakes l g) = []
+taker_of Closes = []
+taker_of (Stores t e) = []
+taker_of (Flushes t) = []
+taker_of Cuts = []
+taker_of TakesBatch = []
+taker_of Halts = []
+
+abbrev pub takers : List Act → List Taker
+takers [] = []
+takers (act ∷ h) = takers h ++ taker_of act
+
+abbrev pub served : Setup → List Act → List Taker
+served s [] = []
+served s (act ∷ h) = served s h ++ option_to_list (gives_turn act (seen s h))
+
+-- each of these tickets is greater than those before it
+abbrev pub Ascend : List ℕ → Type 0
+Ascend [] = Unit {0}
+Ascend (t ∷ ts) = AreAbove t ts × Ascend ts
+
+-- Where calls come in the order of their tickets it is first come, first served, whatever copies come between them: those who were given
+-- their turn, and behind them those who wait for it, are those who wanted it, in the order in which they came. So a copy that comes between
+-- two sends stays between them.
+abbrev pub FirstComeFirstServed : Type 0
+FirstComeFirstServed = (s : Setup) (h : List Act) → Ascend (tickets (takers h)) → served s h ++ (seen s h).waiting ≡ takers h
 
 -- acts that leave the turn where it is
 abbrev pub keeps : Act → Bool
@@ -111,7 +162,7 @@ keeps Halts = true
 
 -- One has the turn at a time: who has it keeps it until it is passed on, and meanwhile nobody is given it.
 abbrev pub OneAtATime : Type 0
-OneAtATime = (s : Setup) (later h : List Act) (t : ℕ) → (seen s h).holder ≡ Some t → list_all keeps later ≡ true →
+OneAtATime = (s : Setup) (later h : List Act) (t : Taker) → (seen s h).holder ≡ Some t → list_all keeps later ≡ true →
     ((seen s (later ++ h)).holder ≡ Some t) × ((act : Act) → keeps act ≡ true → gives_turn act (seen s (later ++ h)) ≡ None)
 
 -- Nobody waits while the turn is free.

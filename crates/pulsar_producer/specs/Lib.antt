@@ -2,6 +2,7 @@ pub mod Transitions
 pub mod Routing
 pub mod Producer
 pub mod Random
+pub mod Turns
 pub mod Topic
 pub mod Kept
 pub mod Commands
@@ -10,3 +11,8 @@ pub mod Batching
 pub mod Laws
 pub mod BatchLaws
 pub mod News
+pub mod Dispatching
+pub mod MultiTopic
+pub mod MultiKept
+pub mod MultiPlans
+pub mod MultiLaws

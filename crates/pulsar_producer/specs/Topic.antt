@@ -1,24 +1,24 @@
--- A topic producer: what is done to it, what is seen of it, and what it answers. It knows the tickets of those that use it, and no
--- messages but those that it stores until they are sent as a batch.
+-- A topic producer: what is done to it, what is seen of it, and what it answers. It knows who uses it, and no messages but those that it
+-- stores until they are sent as a batch.
 -- (Pulsar binary protocol, Producer: sequence_id, producer_name; Batch messages)
 use Rattle.std.specs.Prelude.{ℕ, ◌+◌, ◌&&◌, not, Bool, true, false, if◌then◌else◌, List, [], ◌∷◌, ◌++◌, map, Option, Some, None}
 use Rattle.std.specs.List.{flat_map}
-use Rattle.std.specs.BTreeSet.{insert_key}
 use Rattle.std.specs.Option.{is_none}
-use Rattle.std.specs.Ordering.{nat_cmp}
 use Rattle.pulsar_frame.specs.Batch.{EntryValues}
 use Rattle.pulsar_messages.specs.Claims.{is_spent}
 use Rattle.pulsar_outgoing.specs.Storage.{Item, SingleMessage, Flush, Storage, empty, emptied, is_ready, pushed}
 use Rattle.pulsar_outgoing.specs.declared.content.Built.{Built}
+use Rattle.pulsar_outgoing.specs.declared.multi_topic.Taker.{Taker}
 use Rattle.pulsar_outgoing.specs.declared.replies.Given.{Given}
 use Rattle.pulsar_outgoing.specs.declared.storage.Limits.{Limits}
 use Rattle.pulsar_outgoing.specs.Storage.{is_nothing, ticket_of}
+use Rattle.pulsar_producer.specs.Turns.{first_of, queued, rest_of}
 
 -- WHAT IS DONE TO IT: an act for each call that changes it
 
 pub data Act : Type 0 where
   -- one wants its turn
-  Takes : (ticket : ℕ) → Act
+  Takes : Taker → Act
   -- the turn of the one that has it is over
   Passes : Act
   -- a message is to have a number
@@ -46,17 +46,17 @@ pub record Setup : Type 0 where
   pub first_number : ℕ
   pub limits : Limits
 
--- Its topic, its own number, its link, and what its broker says of it; the number of the next message; who has its turn, and the tickets
--- of those that wait for theirs, the lowest first; whether it is closed; what it stores; the batches that were cut and wait; and whether
--- one is under way.
+-- Its topic, its own number, its link, and what its broker says of it; the number of the next message; who has its turn, and those that
+-- wait for theirs, the next one first; whether it is closed; what it stores; the batches that were cut and wait; and whether one is under
+-- way.
 pub record Seen : Type 0 where
   pub topic : List ℕ
   pub number : ℕ
   pub link : ℕ
   pub given : Given
   pub next : ℕ
-  pub holder : Option ℕ
-  pub waiting : List ℕ
+  pub holder : Option Taker
+  pub waiting : List Taker
   pub is_closed : Bool
   pub storage : Storage
   pub cut : List (List Item)
@@ -78,26 +78,18 @@ fresh s =
       is_under_way = false;
     }
 
--- TURNS. One has it at a time, and then the lowest ticket of those that wait.
+-- TURNS. One has it at a time, and then the first of those that wait.
 
 -- whether one has its turn at once
 abbrev pub is_free : Seen → Bool
 is_free v = is_none v.holder
 
-abbrev pub takes_in : Option ℕ → ℕ → Seen → Seen
+abbrev pub takes_in : Option Taker → Taker → Seen → Seen
 takes_in None t v = record v { holder = Some t }
-takes_in (Some other) t v = record v { waiting = insert_key nat_cmp v.waiting t }
-
-abbrev pub first_of : List ℕ → Option ℕ
-first_of [] = None
-first_of (t ∷ ts) = Some t
-
-abbrev pub rest_of : List ℕ → List ℕ
-rest_of [] = []
-rest_of (t ∷ ts) = ts
+takes_in (Some other) t v = record v { waiting = queued t v.waiting }
 
 -- who has the turn when it is passed on
-abbrev pub next_holder : Seen → Option ℕ
+abbrev pub next_holder : Seen → Option Taker
 next_holder v = first_of v.waiting
 
 abbrev pub passes : Seen → Seen
@@ -162,7 +154,7 @@ unsent_tickets v = map ticket_of (flat_map (λ b. b) v.cut ++ v.storage.items)
 -- WHAT A HISTORY SAYS. Its acts, newest first.
 
 abbrev pub after : Act → Seen → Seen
-after (Takes ticket) v = takes_in v.holder ticket v
+after (Takes taker) v = takes_in v.holder taker v
 after Passes v = passes v
 after Draws v = draws v
 after (Remakes link given) v = record v { link = link; given = given }

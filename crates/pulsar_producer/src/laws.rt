@@ -1,7 +1,7 @@
 //! What follows of every history of a topic producer and of every plan: each contract is a law, and its body is empty.
 
 ghost use Rattle.pulsar_producer.specs.BatchLaws.{BatchIsReadAgain, BatchesInOrder, CutInTime, EachHasItsPlace, EachHasItsReport, EachIsTold, EntrySaysItsMessage, FlushIsLast, HaltTellsAll, IdSaysItsPlace, ItemsInOrder, NeverReady, ReceiptIsTheSame, StoredIsNotReady, TakesWhereSettled, ToldInOrder};
-ghost use Rattle.pulsar_producer.specs.Laws.{EachFrameHasItsNumber, LowestIsNext, NobodyWaitsForFree, NumbersCount, NumbersRise, OneAtATime, PartitionIsThere, QueuedIsNotAskedAgain, RefusedSpendsItsNumber, WaitsInLine};
+ghost use Rattle.pulsar_producer.specs.Laws.{EachFrameHasItsNumber, FirstComeFirstServed, FirstIsNext, LowestIsNext, NobodyWaitsForFree, NumbersCount, NumbersRise, OneAtATime, PartitionIsThere, QueuedIsNotAskedAgain, RefusedSpendsItsNumber, WaitsInLine};
 
 /// The numbers of the messages of a topic producer rise, and none is drawn twice: each is the first and how many were drawn before.
 pub fn numbers_rise()
@@ -14,9 +14,11 @@ pub fn refused_spends_its_number()
     ensures { RefusedSpendsItsNumber }
 {}
 
-/// One has the turn at a time, and then the lowest ticket of those that wait.
+/// One has the turn at a time, and then the first of those that wait: a call of the lowest ticket, or a copy in its place among the calls.
 pub fn turns_in_order()
+    ensures next { FirstIsNext }
     ensures lowest { LowestIsNext }
+    ensures order { FirstComeFirstServed }
     ensures one { OneAtATime }
     ensures waits { WaitsInLine }
     ensures free { NobodyWaitsForFree }

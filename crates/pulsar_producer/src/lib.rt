@@ -5,12 +5,15 @@ pub mod batching;
 pub mod building;
 pub mod deed;
 pub mod laws;
+pub mod line;
+pub mod multi_topic;
 pub mod producer;
 pub mod random;
 pub mod routing;
 pub mod sending;
 pub mod topic_producer;
 
+pub use multi_topic::producer::MultiTopicProducer;
 pub use producer::Producer;
 pub use pulsar_messages::message_builder::MessageBuilder;
 pub use pulsar_messages::serialize::{SerializeMessage, message_from_bytes, message_from_text};

@@ -1,17 +1,23 @@
 //! A producer as its user sees it.
 
-ghost use Rattle.std.specs.Prelude.{◌≡◌, ◌⊎◌, map, Some, None, IfOk, MatchResult, string_bytes};
+ghost use Rattle.std.specs.Prelude.{◌≡◌, ◌⊎◌, map, Some, None, IfOk, MatchResult, OnOk, string_bytes};
 ghost use Rattle.std.specs.Option.{option_map};
 ghost use Rattle.pulsar_messages.specs.Content.{message_content, producer_options_values};
 ghost use Rattle.pulsar_wire.specs.Failures.{failure};
+ghost use Rattle.pulsar_outgoing.specs.Batch.{entry_of};
 ghost use Rattle.pulsar_outgoing.specs.Errors.{IsNoMemory, no_such_index};
+ghost use Rattle.pulsar_producer.specs.Dispatching.{dispatched, sent_as, stored_as};
 ghost use Rattle.pulsar_producer.specs.Producer.{advice, after, is_single, made, names, number_for, number_on, topic_of};
 
 use crate::routing::{CustomRoutingPolicy, Partition, PartitionedProducer};
-use pulsar_addresses::content::Text;
+use pulsar_addresses::content::{Refusal, Text};
 use pulsar_messages::{Message, ProducerOptions};
-use pulsar_outgoing::content::Settings;
-use pulsar_wire::error::{Error, NoMemory};
+use pulsar_outgoing::content::{Entry, Outgoing, Settings};
+use pulsar_outgoing::failing::in_producer;
+use pulsar_outgoing::multi_topic::{Dispatch, UserMessage};
+use pulsar_outgoing::orders::Errand;
+use pulsar_wire::error::{ConnectionError, Error, NoMemory, ProducerError, Reason};
+use std::alloc::Global;
 use std::marker::Model;
 
 /// A producer of a topic: a single one, or one of several partitions.
@@ -152,4 +158,61 @@ impl Producer {
         };
         self.routes.number_at(index)
     }
+
+    /// It takes a message by this advice: that is sent by itself, or stored where messages are sent in batches. It is refused where there is
+    /// no partition for it, and where it is to be stored and its payload is too large for a batch.
+    pub fn dispatch(
+        &mut self,
+        alloc: Global,
+        message: UserMessage,
+        advice: Option<usize>,
+    ) -> Result<Result<Dispatch, Refusal>, NoMemory>
+        ensures dispatch { IfOk result (λ d. d ≡ dispatched advice message self.old) }
+        ensures after { OnOk result (self.new ≡ after message self.old) }
+    {
+        let batches = self.settings.is_batching();
+        let block = self.settings.options().block_queue_if_full;
+        match self.target(message.message(), advice) {
+            Some(producer) => dispatch(alloc, batches, Errand { producer, block }, message),
+            None => Ok(Err(no_partition(alloc)?)),
+        }
+    }
+}
+
+/// A message is sent by itself, or stored.
+fn dispatch(
+    alloc: Global,
+    batches: bool,
+    errand: Errand,
+    message: UserMessage,
+) -> Result<Result<Dispatch, Refusal>, NoMemory>
+    ensures { IfOk result (λ d. d ≡ sent_as batches errand.block errand.producer message) }
+{
+    if batches {
+        return store(alloc, errand.producer, message.into_inner());
+    }
+    let message = Outgoing::of_message(alloc, message.into_inner())?;
+    Ok(Ok(Dispatch::Send { errand, message }))
+}
+
+/// A message is stored, unless its payload is too large for a batch.
+fn store(
+    alloc: Global,
+    number: u64,
+    message: Message,
+) -> Result<Result<Dispatch, Refusal>, NoMemory>
+    ensures { IfOk result (λ d. d ≡ stored_as number (entry_of (message_content message))) }
+{
+    match Entry::of_message(alloc, message)? {
+        Some(entry) => Ok(Ok(Dispatch::Store { number, entry })),
+        None => Ok(Err(in_producer(alloc, ConnectionError::Encoding(Reason::Batch))?)),
+    }
+}
+
+/// A policy, or the partition that it names, is not there.
+fn no_partition(alloc: Global) -> Result<Refusal, NoMemory>
+    ensures { IfOk result (λ r. r ≡ no_such_index) }
+{
+    let text = String::from_str(alloc, "routing index out of range")?;
+    Refusal::new(alloc, Error::Producer(ProducerError::Custom(text)))
 }

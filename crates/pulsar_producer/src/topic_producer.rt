@@ -7,27 +7,29 @@ ghost use Rattle.pulsar_outgoing.specs.Storage.{item_of};
 ghost use Rattle.pulsar_producer.specs.Topic.{Closes, Cuts, Draws, Flushes, Halts, Passes, Remakes, Stores, Takes, TakesBatch, after, cuts, drawn, fresh, is_free, is_settled, next_batch, next_holder, stored_tickets, stores, unsent_tickets, wakes};
 ghost use Rattle.pulsar_outgoing.specs.Storage.{is_nothing};
 
+use crate::line::Line;
 use pulsar_addresses::content::Text;
 use pulsar_outgoing::content::{Batch, Built, Entry, Settings, Version};
+use pulsar_outgoing::multi_topic::Taker;
 use pulsar_outgoing::replies::Given;
 use pulsar_outgoing::storage::{BatchItem, BatchStorage, Limits};
 use pulsar_searches::making::Command;
 use pulsar_searches::question::{Question, Request};
 use pulsar_wire::error::NoMemory;
 use std::alloc::Global;
-use std::collections::{BTreeSet, VecDeque};
+use std::collections::VecDeque;
 use std::marker::Model;
 
-/// A producer of one topic, or of one partition. It knows the tickets of those that use it, and no messages but those that it stores until
-/// they are sent as a batch.
+/// A producer of one topic, or of one partition. It knows who uses it, and no messages but those that it stores until they are sent as a
+/// batch.
 pub struct TopicProducer {
     topic: Text,
     number: u64,
     link: u64,
     given: Given,
     next: u64,
-    holder: Option<u64>,
-    waiting: BTreeSet<u64>,
+    holder: Option<Taker>,
+    line: Line,
     is_closed: bool,
     storage: BatchStorage,
     cut: VecDeque<Batch>,
@@ -43,7 +45,7 @@ impl Drop for TopicProducer {
             given: _,
             next: _,
             holder: _,
-            waiting: _,
+            line: _,
             is_closed: _,
             storage: _,
             cut: _,
@@ -73,7 +75,7 @@ impl TopicProducer {
             given: built.given,
             next: first_number,
             holder: None,
-            waiting: BTreeSet::new(alloc),
+            line: Line::new(alloc),
             is_closed: false,
             storage: BatchStorage::new(alloc, limits.max_size, limits.max_byte_size),
             cut: VecDeque::new(alloc),
@@ -102,11 +104,11 @@ impl TopicProducer {
         self.is_closed
     }
 
-    /// The tickets of those that wait for their turn.
-    pub fn waiting(&self) -> &BTreeSet<u64>
-        ensures { result.now.keys ≡ self.now.waiting }
+    /// Those that wait for their turn, the next one first.
+    pub fn waiting(&self) -> &VecDeque<Taker>
+        ensures { result.now.items ≡ self.now.waiting }
     {
-        &self.waiting
+        self.line.waiting()
     }
 
     /// Its name.
@@ -131,26 +133,26 @@ impl TopicProducer {
         command(alloc, &self.topic, self.number, Some(name), settings)
     }
 
-    /// The one of this ticket wants its turn. It has it at once where nobody has it, and waits otherwise.
-    pub fn take_turn(&mut self, ticket: u64) -> Result<bool, NoMemory>
+    /// One wants its turn. It has it at once where nobody has it, and waits otherwise.
+    pub fn take_turn(&mut self, taker: Taker) -> Result<bool, NoMemory>
         ensures has { IfOk result (λ has. has ≡ is_free self.old) }
-        ensures after { OnOk result (self.new ≡ after (Takes ticket) self.old) }
+        ensures after { OnOk result (self.new ≡ after (Takes taker) self.old) }
     {
         if self.holder.is_none() {
-            self.holder = Some(ticket);
+            self.holder = Some(taker);
             Ok(true)
         } else {
-            self.waiting.insert(ticket)?;
+            self.line.join(taker)?;
             Ok(false)
         }
     }
 
     /// The turn is over. The answer says who has it now.
-    pub fn pass_turn(&mut self) -> Option<u64>
+    pub fn pass_turn(&mut self) -> Option<Taker>
         ensures next { result ≡ next_holder self.old }
         ensures after { self.new ≡ after Passes self.old }
     {
-        self.holder = self.waiting.pop_first();
+        self.holder = self.line.next();
         self.holder
     }
 

@@ -1,3 +1,4 @@
 pub mod Grown
 pub mod Producing
 pub mod Asking
+pub mod Made

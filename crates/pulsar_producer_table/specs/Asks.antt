@@ -15,8 +15,10 @@ use Rattle.pulsar_calls.specs.declared.act.TopicAsk.{TopicAsk}
 use Rattle.pulsar_calls.specs.declared.act.TopicAsk.TheVariants.{TakeTurn, PassTurn, Draw, Recall, Remake, Find, Store, Flush, TakeBatch}
 use Rattle.pulsar_calls.specs.declared.act.Who.TheVariants.{Producer}
 use Rattle.pulsar_calls.specs.Notices.{notice}
-use Rattle.pulsar_calls.specs.Who.{in_turn}
+use Rattle.pulsar_outgoing.specs.declared.multi_topic.Taker.{Taker}
+use Rattle.pulsar_outgoing.specs.declared.multi_topic.Taker.TheVariants.{Call}
 use Rattle.pulsar_producer_table.specs.Producers.{Producers, drawn, is_settled_at, is_woken, link_at, next_batch_at, recalled, turn_passed, turn_taken}
+use Rattle.pulsar_producer_table.specs.Takers.{who_at}
 use Rattle.pulsar_producer_table.specs.declared.table.Topic.{Topic}
 
 -- what is around one: its number, the turn of the one who asks, the room on its link where that is ready, and the command by which it is
@@ -66,8 +68,8 @@ abbrev pub flush_said : Option Topic → Option Outcome
 flush_said row = if is_settled_at row then grants_it news.Done else None
 
 -- the one who has the turn next, and a topic producer that has a batch to send, and none under way
-abbrev pub turn_notice : (number : ℕ) → ℕ × Option (List ℕ) → Notice
-turn_notice n next = notice (in_turn n next.0) (outcome.Granted (news.HasTurn next.1))
+abbrev pub turn_notice : (number : ℕ) → Taker × Option (List ℕ) → Notice
+turn_notice n next = notice (who_at n next.0) (outcome.Granted (news.HasTurn next.1))
 
 abbrev pub ready_notice : (number : ℕ) → Notice
 ready_notice n = notice (Producer n) (outcome.Granted news.Ready)
@@ -77,7 +79,7 @@ readied n act row = if is_woken act row then ready_notice n ∷ [] else []
 
 -- ALL OF IT, a row for each thing that is asked
 abbrev pub given : Around → TopicAsk → Option Topic → Given
-given x TakeTurn row = record { acts = topic.Takes x.turn ∷ []; says = turn_said row; serves = [] }
+given x TakeTurn row = record { acts = topic.Takes (Call x.turn) ∷ []; says = turn_said row; serves = [] }
 given x PassTurn row =
     record { acts = topic.Passes ∷ []; says = grants_it news.Done; serves = option_to_list (option_map (turn_notice x.number) (turn_passed row)) }
 given x Draw row = record { acts = drawn_by x.room; says = Some (draw_outcome x.room row); serves = [] }

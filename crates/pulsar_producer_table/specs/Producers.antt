@@ -20,6 +20,7 @@ use Rattle.pulsar_producer.specs.Topic.{Act, Closes, Halts, fresh, is_free, is_s
 use Rattle.pulsar_outgoing.specs.Storage.{is_nothing}
 use Rattle.pulsar_outgoing.specs.declared.content.Built.{Built}
 use Rattle.pulsar_outgoing.specs.declared.news.Drawn.{Drawn}
+use Rattle.pulsar_outgoing.specs.declared.multi_topic.Taker.{Taker}
 use Rattle.pulsar_producer.specs.declared.routing.Partition.{Partition}
 use Rattle.pulsar_outgoing.specs.declared.orders.Errand.{Errand}
 use Rattle.pulsar_outgoing.specs.declared.storage.Limits.{Limits}
@@ -31,7 +32,7 @@ use Rattle.pulsar_producer_table.specs.declared.table.Held.{Held}
 use Rattle.pulsar_producer_table.specs.declared.table.Topic.{Topic}
 use Rattle.pulsar_calls.specs.Content as content
 use Rattle.pulsar_calls.specs.Content.{Asked, sent_by}
-use Rattle.pulsar_calls.specs.Who.{in_turn}
+use Rattle.pulsar_producer_table.specs.Takers.{who_at}
 
 -- The producers, by the tickets of the calls that built them; their topic producers by number, and these numbers in the order in which they
 -- were made; those that were made for calls that still make others; the numbers that raw calls have named, in order; and the number from which
@@ -99,10 +100,10 @@ abbrev pub turn_taken : Option Topic → Option (Option (List ℕ))
 turn_taken None = None
 turn_taken (Some t) = turn_in t
 
--- and for the ticket that has the turn next
-abbrev pub turn_passed : Option Topic → Option (ℕ × Option (List ℕ))
+-- and for the one that has the turn next
+abbrev pub turn_passed : Option Topic → Option (Taker × Option (List ℕ))
 turn_passed None = None
-turn_passed (Some t) = option_map (λ ticket. (ticket, t.seen.given.version)) (next_holder t.seen)
+turn_passed (Some t) = option_map (λ taker. (taker, t.seen.given.version)) (next_holder t.seen)
 
 -- the number of a message, for a link with room or without
 abbrev pub drawn_in : (room : Bool) → Topic → Option Drawn
@@ -116,7 +117,7 @@ drawn room (Some t) = drawn_in room t
 -- those that wait for a turn
 abbrev pub waiting_at : (number : ℕ) → Option Topic → List Who
 waiting_at n None = []
-waiting_at n (Some t) = map (in_turn n) t.seen.waiting
+waiting_at n (Some t) = map (who_at n) t.seen.waiting
 
 abbrev pub waiting : Producers → List Who
 waiting ps = flat_map (λ n. waiting_at n (ps.topics n)) ps.numbers

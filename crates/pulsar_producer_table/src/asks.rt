@@ -10,11 +10,12 @@ ghost use Rattle.pulsar_producer_table.specs.KeptProducers.{producers_of};
 ghost use Rattle.pulsar_producer_table.specs.Producers.{done_to};
 
 use crate::table::Producers;
+use crate::takers::who_at;
 use pulsar_addresses::content::Cause;
 use pulsar_calls::act::{Notice, Outcome, TopicAsk, Who};
 use pulsar_calls::content::{Granted, News};
-use pulsar_calls::who::in_turn;
 use pulsar_outgoing::content::{Entry, Version};
+use pulsar_outgoing::multi_topic::Taker;
 use pulsar_wire::error::{ConnectionError, NoMemory};
 use std::alloc::Global;
 
@@ -217,16 +218,16 @@ fn found(link: Option<u64>) -> Given
 fn next_notice(
     alloc: Global,
     number: u64,
-    next: Option<(u64, Option<Version>)>,
+    next: Option<(Taker, Option<Version>)>,
 ) -> Result<Option<Notice>, NoMemory>
     ensures { IfOk result (λ n. n ≡ option_map (turn_notice number) next) }
 {
-    let Some((turn, version)) = next else {
+    let Some((taker, version)) = next else {
         return Ok(None);
     };
     let granted = Granted::new(alloc, News::HasTurn(version))?;
     Ok(Some(Notice {
-        who: in_turn(number, turn),
+        who: who_at(number, taker),
         outcome: Outcome::Granted(granted),
     }))
 }

@@ -3,4 +3,6 @@
 #![tactic(auto)]
 
 pub mod asks;
+pub mod multis;
 pub mod table;
+pub mod takers;

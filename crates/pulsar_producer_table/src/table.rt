@@ -13,15 +13,16 @@ ghost use Rattle.pulsar_producer_table.specs.Producers as meaning;
 ghost use Rattle.pulsar_producer_table.specs.Producers.{Producers as Seen};
 ghost use Rattle.pulsar_calls.specs.Notices.{stopped_one};
 ghost use Rattle.pulsar_producer_table.specs.Notices.{stopped_all, stopped_call};
-ghost use Rattle.pulsar_calls.specs.Who.{in_turn};
+ghost use Rattle.pulsar_producer_table.specs.Takers.{who_at};
 ghost use Rattle.pulsar_producer_table.specs.KeptProducers.{producers_of};
 
+use crate::takers::who_at;
 use pulsar_addresses::content::Text;
 use pulsar_calls::act::{Notice, Outcome, Who};
-use pulsar_calls::content::{Advice, BuiltProducer, Numbers, Remaking};
-use pulsar_calls::who::in_turn;
+use pulsar_calls::content::{Advice, BuiltProducer, Remaking};
 use pulsar_messages::Message;
-use pulsar_outgoing::content::{Batch, Built, Entry, Parts, Settings, Version};
+use pulsar_outgoing::content::{Batch, Built, Entry, Numbers, Parts, Settings, Version};
+use pulsar_outgoing::multi_topic::Taker;
 use pulsar_outgoing::news::Drawn;
 use pulsar_outgoing::orders::Errand;
 use pulsar_outgoing::storage::Limits;
@@ -31,7 +32,7 @@ use pulsar_producer::{CustomRoutingPolicy, Producer, TopicProducer};
 use pulsar_searches::making::Command;
 use pulsar_wire::error::NoMemory;
 use std::alloc::Global;
-use std::collections::{BTreeMap, BTreeSet};
+use std::collections::{BTreeMap, BTreeSet, VecDeque};
 
 /// A topic producer, and the ticket of the producer that it belongs to.
 pub struct Topic {
@@ -225,22 +226,22 @@ impl Producers {
         ticket: u64,
     ) -> Result<Option<Option<Version>>, NoMemory>
         ensures version { IfOk result (λ v. v ≡ meaning.turn_taken ((producers_of self.old).topics number)) }
-        ensures after { OnOk result (producers_of self.new ≡ meaning.changed number (topic.Takes ticket) (producers_of self.old)) }
+        ensures after { OnOk result (producers_of self.new ≡ meaning.changed number (topic.Takes (Taker.Call ticket)) (producers_of self.old)) }
     {
         let Some(topic) = self.topics.get_mut(&number) else {
             return Ok(None);
         };
-        if topic.seen.take_turn(ticket)? {
+        if topic.seen.take_turn(Taker::Call(ticket))? {
             return Ok(Some(topic.seen.version()?));
         }
         Ok(None)
     }
 
-    /// The turn at a topic producer is over: the ticket of the one who has it now, and the version of the schema.
+    /// The turn at a topic producer is over: the one who has it now, and the version of the schema.
     pub(crate) fn pass_turn(
         &mut self,
         number: u64,
-    ) -> Result<Option<(u64, Option<Version>)>, NoMemory>
+    ) -> Result<Option<(Taker, Option<Version>)>, NoMemory>
         ensures next { IfOk result (λ r. r ≡ meaning.turn_passed ((producers_of self.old).topics number)) }
         ensures after { OnOk result (producers_of self.new ≡ meaning.changed number topic.Passes (producers_of self.old)) }
     {
@@ -248,7 +249,7 @@ impl Producers {
             return Ok(None);
         };
         match topic.seen.pass_turn() {
-            Some(ticket) => Ok(Some((ticket, topic.seen.version()?))),
+            Some(taker) => Ok(Some((taker, topic.seen.version()?))),
             None => Ok(None),
         }
     }
@@ -665,12 +666,16 @@ fn stop_at(
     }
 }
 
-fn stop_all(number: u64, waiting: &BTreeSet<u64>, notices: &mut Vec<Notice>) -> Result<(), NoMemory>
-    ensures { OnOk result (notices.new.items ≡ notices.old.items ++ map stopped_one (map (in_turn number) waiting.now.keys)) }
+fn stop_all(
+    number: u64,
+    waiting: &VecDeque<Taker>,
+    notices: &mut Vec<Notice>,
+) -> Result<(), NoMemory>
+    ensures { OnOk result (notices.new.items ≡ notices.old.items ++ map stopped_one (map (who_at number) waiting.now.items)) }
 {
-    for turn in waiting {
+    for taker in waiting {
         notices.push(Notice {
-            who: in_turn(number, *turn),
+            who: who_at(number, *taker),
             outcome: Outcome::Stopped,
         })?;
     }

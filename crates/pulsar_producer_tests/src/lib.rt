@@ -6,4 +6,6 @@ mod batches;
 #[cfg(test)]
 mod messages;
 #[cfg(test)]
+mod multi;
+#[cfg(test)]
 mod routes;

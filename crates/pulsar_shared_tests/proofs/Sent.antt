@@ -23,7 +23,7 @@ use Rattle.pulsar_calls.proofs.act.Says.TheSendSync as calls-Says
 use Rattle.pulsar_calls.proofs.act.Share.TheSendSync as calls-Share
 use Rattle.pulsar_calls.proofs.act.Who.TheSendSync as calls-Who
 use Rattle.pulsar_calls.specs.contracts.content.Failures as calls-Failures
-use Rattle.pulsar_calls.proofs.content.Numbers.TheSendSync as calls-Numbers
+use Rattle.pulsar_outgoing.proofs.content.Numbers.TheSendSync as outgoing-Numbers
 use Rattle.pulsar_calls.specs.contracts.content.Said as calls-Said
 use Rattle.pulsar_calls.proofs.effect.Answer.TheSendSync as calls-Answer
 use Rattle.pulsar_calls.specs.contracts.effect.Effect as calls-Effect
@@ -35,11 +35,13 @@ use Rattle.pulsar_incoming.proofs.orders.ConsumerOrder.TheSendSync as consumer-O
 use Rattle.pulsar_consumer.specs.contracts.consumer.Consumer as consumer-Consumer
 use Rattle.pulsar_consumer.specs.contracts.engine.ConsumerEngine as consumer-ConsumerEngine
 use Rattle.pulsar_consumer.specs.contracts.frame.Frame as consumer-Frame
+use Rattle.pulsar_consumer.specs.contracts.frame_item.FrameItem as consumer-FrameItem
+use Rattle.pulsar_consumer.proofs.kept.KeptIds.TheSendSync as consumer-KeptIds
+use Rattle.pulsar_consumer.proofs.letter.Letter.TheSendSync as consumer-Letter
 use Rattle.pulsar_consumer.proofs.live.Live.TheSendSync as consumer-Live
 use Rattle.pulsar_incoming.proofs.polled.Ending.TheSendSync as consumer-Ending
 use Rattle.pulsar_incoming.proofs.settings.Settings.TheSendSync as consumer-Settings
 use Rattle.pulsar_consumer.specs.contracts.topic_consumer.TopicConsumer as consumer-TopicConsumer
-use Rattle.pulsar_incoming.specs.contracts.unread.Unread as consumer-Unread
 use Rattle.pulsar_consumer_table.proofs.numbers.Numbers.TheSendSync as consumer_table-Numbers
 use Rattle.pulsar_consumer_table.specs.contracts.row.ConsumerRow as consumer_table-ConsumerRow
 use Rattle.pulsar_consumer_table.specs.contracts.table.Consumers as consumer_table-Consumers
@@ -94,20 +96,20 @@ calls-Effect-field_send = search (calls-Answer.the_send, calls-Answer.the_field_
 pub calls-Effect-send : IsSend calls-Effect.the_row
 calls-Effect-send = as_row_send calls-Effect.the_field calls-Effect-field_send
 
-pub consumer-Unread-field_send : IsSend (consumer-Unread.the_field).row
-consumer-Unread-field_send = search (link-Unread-send, link-Unread-field_send, link-Unread-send, link-Unread-field_send, heap.crosses, maps.crosses, sendable) depth 30 fits 20000
+pub consumer-FrameItem-field_send : IsSend (consumer-FrameItem.the_field).row
+consumer-FrameItem-field_send = search (link-Unread-send, link-Unread-field_send, heap.crosses, maps.crosses, sendable) depth 30 fits 20000
 
-pub consumer-Unread-send : IsSend consumer-Unread.the_row
-consumer-Unread-send = as_row_send consumer-Unread.the_field consumer-Unread-field_send
+pub consumer-FrameItem-send : IsSend consumer-FrameItem.the_row
+consumer-FrameItem-send = as_row_send consumer-FrameItem.the_field consumer-FrameItem-field_send
 
 pub consumer-Frame-field_send : IsSend (consumer-Frame.the_field).row
-consumer-Frame-field_send = search (consumer-Unread-send, consumer-Unread-field_send, heap.crosses, maps.crosses, sendable) depth 30 fits 20000
+consumer-Frame-field_send = search (consumer-FrameItem-send, consumer-FrameItem-field_send, consumer-Letter.the_send, heap.crosses, maps.crosses, sendable) depth 30 fits 20000
 
 pub consumer-Frame-send : IsSend consumer-Frame.the_row
 consumer-Frame-send = as_row_send consumer-Frame.the_field consumer-Frame-field_send
 
 pub consumer-ConsumerEngine-field_send : IsSend (consumer-ConsumerEngine.the_field).row
-consumer-ConsumerEngine-field_send = search (consumer-Frame-send, consumer-Frame-field_send, consumer-Live.the_send, consumer-Unread-send, consumer-Unread-field_send, heap.crosses, maps.crosses, sendable) depth 30 fits 20000
+consumer-ConsumerEngine-field_send = search (consumer-Frame-send, consumer-Frame-field_send, consumer-Live.the_send, consumer-FrameItem-send, consumer-FrameItem-field_send, consumer-Letter.the_send, consumer-KeptIds.the_send, wire-MessageIdData.the_send, wire-MessageIdData.the_field_send, heap.crosses, maps.crosses, sendable) depth 30 fits 20000
 
 pub consumer-ConsumerEngine-send : IsSend consumer-ConsumerEngine.the_row
 consumer-ConsumerEngine-send = as_row_send consumer-ConsumerEngine.the_field consumer-ConsumerEngine-field_send
@@ -167,7 +169,7 @@ pub calls-Failures-send : IsSend calls-Failures.the_row
 calls-Failures-send = as_row_send calls-Failures.the_field calls-Failures-field_send
 
 pub procedures-Plan-field_send : IsSend (procedures-Plan.the_field).row
-procedures-Plan-field_send = search (procedures-At.the_send, procedures-At.the_field_send, producer-Batching-send, producer-Batching-field_send, producer-Building-send, producer-Building-field_send, consumer-Order.the_send, consumer-Order.the_field_send, consumer-Building.the_send, consumer-Building.the_field_send, producer-Errand.the_send, producer-Errand.the_field_send, plans-Refusal-send, plans-Refusal-field_send, calls-Failures-send, calls-Failures-field_send, calls-Numbers.the_send, consumer-Order.the_send, consumer-Order.the_field_send, link-Request.the_send, calls-Round.the_send, calls-Round.the_field_send, calls-Says.the_send, calls-Says.the_field_send, searches-SearchPlan.the_send, calls-Boxed.the_send, producer-Sending-send, producer-Sending-field_send, procedures-Service.the_send, procedures-Service.the_field_send, calls-Share.the_send, calls-Share.the_field_send, procedures-Wanted.the_send, procedures-Wanted.the_field_send, plans-Ways.the_send, plans-Ways.the_field_send, producer-Order.the_send, producer-Order.the_field_send, consumer-Order.the_send, consumer-Order.the_field_send, heap.crosses, maps.crosses, sendable) depth 30 fits 20000
+procedures-Plan-field_send = search (procedures-At.the_send, procedures-At.the_field_send, producer-Batching-send, producer-Batching-field_send, producer-Building-send, producer-Building-field_send, consumer-Order.the_send, consumer-Order.the_field_send, consumer-Building.the_send, consumer-Building.the_field_send, producer-Errand.the_send, producer-Errand.the_field_send, plans-Refusal-send, plans-Refusal-field_send, calls-Failures-send, calls-Failures-field_send, outgoing-Numbers.the_send, consumer-Order.the_send, consumer-Order.the_field_send, link-Request.the_send, calls-Round.the_send, calls-Round.the_field_send, calls-Says.the_send, calls-Says.the_field_send, searches-SearchPlan.the_send, calls-Boxed.the_send, producer-Sending-send, producer-Sending-field_send, procedures-Service.the_send, procedures-Service.the_field_send, calls-Share.the_send, calls-Share.the_field_send, procedures-Wanted.the_send, procedures-Wanted.the_field_send, plans-Ways.the_send, plans-Ways.the_field_send, producer-Order.the_send, producer-Order.the_field_send, consumer-Order.the_send, consumer-Order.the_field_send, heap.crosses, maps.crosses, sendable) depth 30 fits 20000
 
 pub procedures-Plan-send : IsSend procedures-Plan.the_row
 procedures-Plan-send = as_row_send procedures-Plan.the_field procedures-Plan-field_send

@@ -18,7 +18,7 @@ use pulsar_calls::content::{Joined, Joining};
 use pulsar_calls::who::{rank, ticket_of};
 use pulsar_consumer::TopicConsumer;
 use pulsar_consumer_table::due;
-use pulsar_consumer_table::row::ConsumerRow;
+use pulsar_consumer_table::row::{ConsumerRow, plain};
 use pulsar_exchange::content::Subscribed;
 use pulsar_wire::error::NoMemory;
 use std::alloc::Global;
@@ -27,7 +27,8 @@ use std::collections::VecDeque;
 impl Tables {
     /// What a verdict makes has the ticket of its call: what a consumer is told that is made.
     pub(super) fn makes(&mut self, who: Who, makes: Makes) -> Result<Option<Notice>, NoMemory>
-        ensures due { IfOk result (λ n. option_to_list n ≡ made_due (live_in self.old.links.live) who makes) }
+        ensures due { IfOk result (λ n. option_to_list n ≡ made_due (live_in self.old.links.live)
+            (consumers_in self.old.consumers.rows self.old.consumers.numbers).next_key who makes) }
         ensures sees { OnOk result (view_of self.new
             ≡ record (view_of self.old) {
               consumers = consumers_made (live_in self.old.links.live) who makes
@@ -58,7 +59,8 @@ impl Tables {
 
     /// A consumer was built. A flow of it is due.
     fn joins(&mut self, who: Who, joined: Joined) -> Result<Option<Notice>, NoMemory>
-        ensures due { IfOk result (λ n. option_to_list n ≡ due_to (ticket_of who) (member_on (live_in self.old.links.live) joined.link (setup_of joined))) }
+        ensures due { IfOk result (λ n. option_to_list n ≡ due_to (ticket_of who) (member_on (live_in self.old.links.live) joined.link
+            (setup_of (consumers_in self.old.consumers.rows self.old.consumers.numbers).next_key joined))) }
         ensures sees { OnOk result (view_of self.new
             ≡ record (view_of self.old) {
               consumers = consumers_made (live_in self.old.links.live) who (Makes.Consumer joined)
@@ -73,7 +75,9 @@ impl Tables {
             link,
         } = joined.into_inner();
         let url = self.links.url(link)?;
-        let consumer = TopicConsumer::new(self.alloc, topic, number, config, false);
+        let key = self.consumers.draw_key()?;
+        let config = plain(self.alloc, config)?;
+        let consumer = TopicConsumer::new(self.alloc, key, topic, number, config, false);
         let row = ConsumerRow::new(self.alloc, consumer, link, url)?;
         let notice = due(&row, ticket_of(who));
         self.joins_as(who, row)?;

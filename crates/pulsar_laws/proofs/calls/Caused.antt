@@ -24,6 +24,9 @@ use Rattle.pulsar_links.specs.LinkRules.{answered_by, answered_on, dropped, ende
 use Rattle.pulsar_producer_table.specs.Notices.{stopped_call}
 use Rattle.pulsar_acts.specs.View.{pause_for, pause_of}
 use Rattle.pulsar_calls.specs.Who.{in_turn}
+use Rattle.pulsar_producer_table.specs.Takers.{who_at}
+use Rattle.pulsar_laws.proofs.producers.Users.{passes_by_ticket}
+use Rattle.pulsar_outgoing.specs.declared.multi_topic.Taker.{Taker}
 use Rattle.pulsar_producer.specs.Topic as topic
 use Rattle.pulsar_producer_table.specs.declared.table.Topic.{Topic}
 use Rattle.pulsar_producer_table.specs.Producers.{drawn, is_settled_at, is_woken, link_at, next_batch_at, number_drawn, numbers_at, recalled, stored_at, stored_by, turn_passed, turn_taken, unsent, unsent_at, waiting, waiting_at}
@@ -46,7 +49,7 @@ use Rattle.pulsar_consumer_table.specs.declared.numbers.Numbering.{Numbering}
 use Rattle.pulsar_consumer_table.specs.declared.numbers.Numbering.TheVariants.{Has, InUse, Spent}
 use Rattle.pulsar_consumer_table.specs.declared.row.LinkAnswer.{LinkAnswer}
 use Rattle.pulsar_consumer_table.specs.declared.row.LinkAnswer.TheVariants.{Found, Gone, Later}
-use Rattle.pulsar_laws.proofs.consumers.Members.{in_rows, polled_number, revived_number, subscribed_number}
+use Rattle.pulsar_laws.proofs.consumers.Members.{after_number, in_rows, revived_number, subscribed_number}
 use Rattle.pulsar_calls.specs.declared.act.Word.TheVariants as word
 use Rattle.pulsar_calls.specs.declared.act.Makes.TheVariants as makes
 use Rattle.pulsar_consumer_table.specs.Consumers as consumer
@@ -297,22 +300,16 @@ module _ (o : Options) (who : Who) (u : Outcome) (older : List Entry) where
       let k = told_is w (told_at (answer_at v.now request (v.links.live l))) h in asks_so w l request (answer_at v.now request (v.links.live l)) refl k.0 k.1
   once_caused (Does w StopAll) h = stops_caused w h
   once_caused (Does w (OfTopic n TakeTurn)) h = takes_caused w n (v.producers.topics n) refl h
-  once_caused (Does w (OfTopic n PassTurn)) h = done_caused w (OfTopic n PassTurn) tt h
   once_caused (Does w (OfTopic n Draw)) h = draws_caused w n (room_of v n) refl h
   once_caused (Does w (OfTopic n Recall)) h = recalls_caused w n (recalled v.producers n) refl h
-  once_caused (Does w (OfTopic m (Remake r))) h = done_caused w (OfTopic m (Remake r)) tt h
   once_caused (Does w Number) h = numbers_caused w (number_drawn v.producers) refl h
   once_caused (Does w (OfTopic n Find)) h = finds_caused w n (v.producers.topics n) refl h
-  once_caused (Does w (Hold l n)) h = done_caused w (Hold l n) tt h
-  once_caused (Does w (Shut t)) h = done_caused w (Shut t) tt h
-  once_caused (Does w (OfTopic n (Store entry))) h = done_caused w (OfTopic n (Store entry)) tt h
   once_caused (Does w (OfTopic n Flush)) h = settled_caused w n (is_settled_at (v.producers.topics n)) refl h
   once_caused (Does w (OfTopic n TakeBatch)) h =
       let y : Outcome = outcome.Granted (news.HasBatch (next_batch_at (v.producers.topics n))) in
       let k = told_is w y h in
       named (Then (Does w (OfTopic n TakeBatch))) y k.1 (inl (OfTopic n TakeBatch, did w (OfTopic n TakeBatch) k.0, refl))
-  once_caused (Does w (Tell n)) h = done_caused w (Tell n) tt h
-  once_caused (Does w (TellAll ns)) h = done_caused w (TellAll ns) tt h
+  once_caused (Does w (OfTopic n ask)) h = done_caused w (OfTopic n ask) tt h
   once_caused (Does w (TakeNumber wanted)) h = numbering_caused w wanted (consumer.numbering v.consumers wanted) refl h
   once_caused (Does w (OfConsumer (FindConsumer t))) h = sought_caused w t (consumer.sought (v.consumers.rows t)) refl h
   once_caused (Does w (OfConsumer TakeFlow)) h = flow_caused w (consumer.flow_at (v.consumers.rows (ticket_of w))) refl h
@@ -321,19 +318,21 @@ module _ (o : Options) (who : Who) (u : Outcome) (older : List Entry) where
   once_caused (Does w (OfConsumer (FailConsumer f))) h = word_said w (OfConsumer (FailConsumer f)) word.Over (λ is. tt) h
   once_caused (Does w (Wait delay)) h = absurd h
   once_caused (Does w Rest) h = absurd h
+  once_caused (Does w action) h = done_caused w action tt h
   once_caused b h = absurd (none_told v b it refl h)
 
   -- ONE JOINS
 
-  passed_caused : (w : Who) (n : ℕ) (row : Option (ℕ × Option (List ℕ))) → turn_passed (v.producers.topics n) ≡ row →
+  passed_caused : (w : Who) (n : ℕ) (row : Option (Taker × Option (List ℕ))) → IsRun o older → turn_passed (v.producers.topics n) ≡ row →
       In it (option_to_list (option_map (turn_notice n) row)) → Cause o who u (Then (Does w (OfTopic n PassTurn))) older
-  passed_caused w n None e h = absurd h
-  passed_caused w n (Some next) e (inr h) = absurd h
-  passed_caused w n (Some next) e (inl is) =
-      let a : who ≡ in_turn n next.0 = ap (λ m. m.who) is in
+  passed_caused w n None run e h = absurd h
+  passed_caused w n (Some next) run e (inr h) = absurd h
+  passed_caused w n (Some next) run e (inl is) =
+      let k = passes_by_ticket o n next.0 next.1 older run e in
+      let a : who ≡ in_turn n k.0 = ap (λ m. m.who) is ∙ ap (who_at n) k.1 in
       let b : u ≡ outcome.Granted (news.HasTurn next.1) = ap (λ m. m.outcome) is in
       named (Then (Does w (OfTopic n PassTurn))) (outcome.Granted (news.HasTurn next.1)) b
-      (inr (inl (w, n, next.0, next.1, refl, a, refl, e)))
+      (inr (inl (w, n, k.0, next.1, refl, a, refl, e ∙ ap (λ t. Some (t, next.1)) k.1)))
 
   tells_caused : (w : Who) (n : Notice) → is_said n.outcome ≡ true → In it (n ∷ []) → Cause o who u (Then (Does w (Tell n))) older
   tells_caused w n said (inr h) = absurd h
@@ -410,7 +409,7 @@ module _ (o : Options) (who : Who) (u : Outcome) (older : List Entry) where
   polled_caused t (Some m) e h =
       let k = due_there t (consumer.member_after (reader.Polls v.now) m) h in
       is_due_caused (Then (Comes (Polls t))) k.told
-      (inl (t, m, refl, (e, k.who_is ∙ ap (λ n. Consumer n t) (polled_number v.now m.seen)), k.due))
+      (inl (t, m, refl, (e, k.who_is ∙ ap (λ n. Consumer n t) (after_number (reader.Polls v.now) m.seen)), k.due))
 
   closed_caused : (w : Who) (l : ℕ) (request : Words) → In it (over_rows (closed_at v l request) v.consumers) →
       Cause o who u (Then (Does w (Ask l request))) older
@@ -437,10 +436,10 @@ module _ (o : Options) (who : Who) (u : Outcome) (older : List Entry) where
       is_due_caused (Then (Does w (OfConsumer (Revive l)))) k.told
       (inr (inl (l, w, m, refl, (e, k.who_is ∙ ap (λ n. Consumer n (ticket_of w)) (revived_number l (url_at (v.links.live l)) m)), k.due)))
 
-  built_caused : (w : Who) (verdict : Verdict) (m : Makes) → verdict.makes ≡ m → In it (made_due v.links.live w m) →
+  built_caused : (w : Who) (verdict : Verdict) (m : Makes) → verdict.makes ≡ m → In it (made_due v.links.live v.consumers.next_key w m) →
       Cause o who u (Then (Answers w verdict)) older
   built_caused w verdict (makes.Consumer j) e h =
-      let k = due_in (ticket_of w) (member_on v.links.live j.link (setup_of j)) h in
+      let k = due_in (ticket_of w) (member_on v.links.live j.link (setup_of v.consumers.next_key j)) h in
       let url : Option Parts = url_at (v.links.live j.link) in
       is_due_caused (Then (Answers w verdict)) k.told
       (inr (inr (
@@ -448,7 +447,9 @@ module _ (o : Options) (who : Who) (u : Outcome) (older : List Entry) where
         j,
         verdict.said,
         ap (λ x. Then (Answers w (record { makes = x; said = verdict.said }))) e,
-        k.who_is ∙ ap (λ n. Consumer n (ticket_of w)) (subscribed_number j.link url (record { seen = reader.fresh (setup_of j); seekers = [] })),
+        k.who_is
+            ∙ ap (λ n. Consumer n (ticket_of w))
+            (subscribed_number j.link url (record { seen = reader.fresh (setup_of v.consumers.next_key j); seekers = [] })),
         k.due,
       )))
   built_caused w verdict makes.Nothing e h = absurd h
@@ -480,7 +481,7 @@ module _ (o : Options) (who : Who) (u : Outcome) (older : List Entry) where
       named (Then (Does w StopAll)) outcome.Stopped (ap (λ n. n.outcome) k.2) (inl (w, refl, inr (inr (inr (inr (r.0, listed))))))
 
   joins_caused : (b : Act) → IsRun o (Then b ∷ older) → In it (joins v b) → Cause o who u (Then b) older
-  joins_caused (Does w (OfTopic n PassTurn)) run h = passed_caused w n (turn_passed (v.producers.topics n)) refl h
+  joins_caused (Does w (OfTopic n PassTurn)) run h = passed_caused w n (turn_passed (v.producers.topics n)) run.0 refl h
   joins_caused (Does w (OfTopic n (Store entry))) run h =
       readied_caused n (topic.Stores (turn_of w) entry) (Then (Does w (OfTopic n (Store entry)))) (w, refl, refl) h
   joins_caused (Does w (OfTopic n Flush)) run h = readied_caused n (topic.Flushes (turn_of w)) (Then (Does w (OfTopic n Flush))) (w, refl, refl) h

@@ -2,24 +2,22 @@
 -- calls say.
 use Rattle.std.proofs.Common.{◌≡◌, ◌⊎◌, inl, inr, ◌∙◌, sym, ap, subst, ℕ, ◌≤◌, ◌==◌, arith, List, [], ◌∷◌, refl, Bool, true, false, not, Option, Some, None}
 use Rattle.std.proofs.lemmas.Bool.{cases_Bool}
-use Rattle.std.specs.Option.{option_map}
 use Rattle.pulsar_laws.proofs.ActWords.{Act, Action, Ask, Call, Consumer, Does, Draw, Find, FindConsumer, Flush, Get, Number, OfTopic, Outcome, Producer, Recall, RecallConsumer, Rest, Store, TakeNumber, TakeTurn, Tell, TellAll, Told, Wait, Who, Word, is_same, ticket_of, turn_of, OfConsumer}
 use Rattle.pulsar_laws.proofs.PlanWords.{News}
 use Rattle.pulsar_laws.proofs.RunWords.{Begins, begun_same, Cause, counted, Entry, In, InThisStep, IsRun, notice, Options, start_of, Then, view, View}
 use Rattle.pulsar_laws.proofs.LinkWords.{Exhausted, Failure, Fault, Place, Seat, Words}
 use Rattle.pulsar_wire.specs.Failures.{Disconnected}
 use Rattle.pulsar_messages.specs.Claims.{is_spent}
-use Rattle.pulsar_producer.specs.Topic as topic
+use Rattle.pulsar_outgoing.specs.declared.multi_topic.Taker.TheVariants as taker
 use Rattle.pulsar_outgoing.specs.declared.news.News.TheVariants as news
 use Rattle.pulsar_requests.specs.Soonest.{has_come}
 use Rattle.pulsar_calls.specs.declared.act.Outcome.TheVariants as outcome
 use Rattle.pulsar_calls.specs.declared.act.Procedure.TheVariants as procedure
 use Rattle.pulsar_producer_table.specs.declared.table.Topic.{Topic}
 use Rattle.pulsar_laws.proofs.Lists.{in_each}
-use Rattle.pulsar_laws.proofs.Cases.{none_some}
 use Rattle.pulsar_laws.proofs.calls.Causes.{IsToldBy}
 use Rattle.pulsar_laws.specs.Laws.{Acts, AttemptEnds, BecomesReady, DrawsNone, Finds, GetsTurn, GrantsSo, IsDropped, IsReady, IsReplied, IsUnknown, IsWoken, LineEnds, MovesUp, RequestEnds, IsServedAs, SaysSo, WordComes}
-use Rattle.pulsar_producer_table.specs.Producers.{stored_at, turn_passed}
+use Rattle.pulsar_producer_table.specs.Producers.{stored_at}
 use Rattle.pulsar_calls.specs.Who.{behind_all, in_turn}
 use Rattle.pulsar_laws.proofs.calls.Caused.{outcomes_are_caused_lem}
 use Rattle.pulsar_laws.proofs.plans.Fitting.{is_said}
@@ -30,7 +28,7 @@ use Rattle.pulsar_laws.proofs.calls.Sources.{step_some}
 use Rattle.pulsar_laws.proofs.calls.Whereabouts.{ApartBy, Asker, Away, NoFind, Somewhere, begun_there, goes_nowhere, moment_none, not_among, seekers_absent, then_there}
 use Rattle.pulsar_laws.proofs.plans.Spots.{same_self}
 use Rattle.pulsar_laws.proofs.calls.Begun.{has_begun}
-use Rattle.pulsar_laws.proofs.producers.Users.{DoesSo, LogSo, NoticeSo, stored_so, tells_so, waits_so}
+use Rattle.pulsar_laws.proofs.producers.Users.{DoesSo, LogSo, NoticeSo, passed_waits, stored_so, tells_so, waits_so}
 use Rattle.pulsar_calls.specs.declared.act.Word.TheVariants as word
 use Rattle.pulsar_consumer_table.specs.Consumers as consumer
 use Rattle.pulsar_consumer_table.specs.Consumers.{Member}
@@ -159,18 +157,6 @@ is_turn t number turn h = elim (cases_Bool (turn == behind_all)) [
   | inr e ↦ (let f : Call t ≡ Call turn = rw e at h in cc)
 ]
 
-abbrev with_version : Option (List ℕ) → ℕ → ℕ × Option (List ℕ)
-with_version version ticket = (ticket, version)
-
-passed_waits : (ticket : ℕ) (version : Option (List ℕ)) (r : Option Topic) → turn_passed r ≡ Some (ticket, version) →
-    (row : Topic) × (r ≡ Some row) × In ticket row.seen.waiting
-passed_waits ticket version None h = absurd (none_some h)
-passed_waits ticket version (Some row) h = (row, refl, by row.seen.waiting h)
-  where
-    by : (ws : List ℕ) → option_map (with_version row.seen.given.version) (topic.first_of ws) ≡ Some (with_version version ticket) → In ticket ws
-    by [] e = absurd (none_some e)
-    by (w ∷ ws) e = inl (let f : with_version row.seen.given.version w ≡ with_version version ticket = cc in sym (ap (λ x. x.0) f))
-
 -- WHAT IT IS TOLD
 
 no_grant : (n : News) (v : View) → GrantsSo n Rest v → ⊥
@@ -185,8 +171,8 @@ no_grant _ v h = h
 pub no_turn_given : (P : ℕ → Type 0) (o : Options) (t : ℕ) (e : Entry) (older : List Entry) → IsRun o older → LogSo (Other t) P older → (n : News) →
     GetsTurn o (Call t) n e older → ⊥
 no_turn_given P o t e older run others n (other, number, turn, version, is, same, d, next) =
-    let k = passed_waits turn version ((view o older).producers.topics number) next in
-    waits_so (Other t) P o number turn older k.0 run others k.1 k.2 (is_turn t number turn same)
+    let k = passed_waits (taker.Call turn) version ((view o older).producers.topics number) next in
+    waits_so (Other t) P o number (taker.Call turn) older k.0 run others k.1 k.2 (is_turn t number turn same)
 
 no_find : (l : ℕ) (a : Action) (v : View) → is_idle a ≡ true → Finds l a v → ⊥
 no_find l (OfTopic n Find) v h k = absurd cc

@@ -2,8 +2,8 @@
 use Rattle.std.proofs.Common.{◌≡◌, ◌∙◌, ap, ℕ, refl, ◌==◌, cond, Option, Some, None, Err, inl, inr}
 use Rattle.std.proofs.lemmas.Bool.{cases_Bool, eqb-true}
 use Rattle.std.specs.Option.{option_map}
-use Rattle.pulsar_laws.proofs.ActWords.{Who}
-use Rattle.pulsar_laws.proofs.RunWords.{View, view}
+use Rattle.pulsar_laws.proofs.ActWords.{Ask, Does, Who}
+use Rattle.pulsar_laws.proofs.RunWords.{View, after, view}
 use Rattle.pulsar_laws.proofs.LinkWords.{answer_at, closed_consumer, is_asked, place_of, Seat, seat_asked, Words}
 use Rattle.pulsar_wire.specs.declared.error.ConnectionError.TheVariants as error
 use Rattle.pulsar_session.proofs.Others.{slow_down_changes_nothing}
@@ -40,14 +40,7 @@ module _ (who : Who) (now l : ℕ) (request : Words) where
 pub slow_down_lem : SlowDownLeavesAll
 slow_down_lem o log who l request h i =
     let v : View = view o log in
-    record {
-      chosen = v.chosen;
-      now = v.now;
-      stand = v.stand;
-      calls = v.calls;
+    record (after (Does who (Ask l request)) v) {
       links = record { started = v.links.started; live = λ k. (asked_is v who l request k ∙ row_slow who v.now l request v.links.live k h) i };
-      addresses = v.addresses;
-      alarms = v.alarms;
       consumers = record v.consumers { rows = λ t. hears_slow who v.now l request (v.links.live l) (v.consumers.rows t) h i };
-      producers = v.producers;
     }

@@ -303,13 +303,13 @@ made_none : (o : Chosen) (who : Who) (m : Makes) (n : ℕ) → makes_nothing m �
 made_none o who Nothing n h = refl
 made_none o who m n h = absurd cc
 
-none_made : (live : ℕ → Option Seat) (m : Makes) → makes_nothing m ≡ true → member_made live m ≡ None
-none_made live Nothing h = refl
-none_made live m h = absurd cc
+none_made : (live : ℕ → Option Seat) (key : ℕ) (m : Makes) → makes_nothing m ≡ true → member_made live key m ≡ None
+none_made live key Nothing h = refl
+none_made live key m h = absurd cc
 
-none_due_made : (live : ℕ → Option Seat) (who : Who) (m : Makes) → makes_nothing m ≡ true → made_due live who m ≡ []
-none_due_made live who Nothing h = refl
-none_due_made live who m h = absurd cc
+none_due_made : (live : ℕ → Option Seat) (key : ℕ) (who : Who) (m : Makes) → makes_nothing m ≡ true → made_due live key who m ≡ []
+none_due_made live key who Nothing h = refl
+none_due_made live key who m h = absurd cc
 
 none_rung : (v : View) (m : ℕ) (a : Alarm) → rings v.now a v.alarms ≡ false → topic_acts v m (Comes (Rings a)) ≡ []
 none_rung v m (Batch n) e = ap (λ b. cond (m == n) (rung_by b) []) e ∙ none_either (m == n)
@@ -443,10 +443,10 @@ module _ (o : Options) (log : List Entry) (run : IsRun o log) (k : Over o log) w
   last_on (Answers who verdict) fits is =
       goes_over (Answers who verdict) fits refl (λ w h. h)
       (each_last v.stand (left_with (ways_of v.chosen) who verdict.makes) (none_left (ways_of v.chosen) who verdict.makes is))
-      (rw (none_due_made v.links.live who verdict.makes is) tt) tt (λ l. refl)
+      (rw (none_due_made v.links.live v.consumers.next_key who verdict.makes is) tt) tt (λ l. refl)
       (ap (λ b. alarms_built v.now b v.alarms) (none_built (not v.calls.is_built) verdict.makes is) ∙ k.alarms) k.fine
       (λ m. ap (λ r. next_batch_at (row_after topic_after r false [] (v.producers.topics m))) (made_none v.chosen who verdict.makes m is) ∙ k.bare m)
-      (λ t. subst Gone (sym (ap (λ r. row_made r who t (v.consumers.rows t)) (none_made v.links.live verdict.makes is))) (k.gone t))
+      (λ t. subst Gone (sym (ap (λ r. row_made r who t (v.consumers.rows t)) (none_made v.links.live v.consumers.next_key verdict.makes is))) (k.gone t))
       (λ l e. absurd cc)
   last_on (Starts who (procedure.Refuse r)) fits is =
       goes_over (Starts who (procedure.Refuse r)) fits refl (refused_ends who r) (inl refl, tt) tt tt (λ l. refl) k.alarms (λ w. refused_fine who w r) k.bare

@@ -181,7 +181,8 @@ module _ (o : Options) (log : List Entry) (k : IsTicketed o log) where
       (raises (view o log) (Answers who verdict))
   arises _ is_due = tt
 
-  from_makes : (t : ℕ) (x : Makes) (m : Member) → MakesSo drawn (Call t) x → member_made (view o log).links.live x ≡ Some m → Has drawn (Call t)
+  from_makes : (t : ℕ) (x : Makes) (m : Member) → MakesSo drawn (Call t) x →
+      member_made (view o log).links.live (view o log).consumers.next_key x ≡ Some m → Has drawn (Call t)
   from_makes t (makes.Consumer made) m is_due e = is_due
   from_makes t (makes.RawConsumer l made) m is_due e = is_due
   from_makes t makes.Nothing m is_due e = absurd cc

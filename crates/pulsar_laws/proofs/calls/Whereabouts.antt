@@ -279,14 +279,14 @@ module _ (me : Who) where
   NoFind _ = Unit {0}
 
   -- one that joins has none, and no deed adds this one
-  joins_seeks : (live : ℕ → Option Seat) (x : Makes) (m : Member) → member_made live x ≡ Some m → Away m.seekers
-  joins_seeks live (makes.Consumer j) m e =
-      subst (λ n. Away n.seekers) (some_is e) (on_seeks j.link (url_at (live j.link)) (reader.fresh (setup_of j)))
-  joins_seeks live (makes.RawConsumer l made) m e =
+  joins_seeks : (live : ℕ → Option Seat) (key : ℕ) (x : Makes) (m : Member) → member_made live key x ≡ Some m → Away m.seekers
+  joins_seeks live key (makes.Consumer j) m e =
+      subst (λ n. Away n.seekers) (some_is e) (on_seeks j.link (url_at (live j.link)) (reader.fresh (setup_of key j)))
+  joins_seeks live key (makes.RawConsumer l made) m e =
       subst (λ n. Away n.seekers) (some_is e) (on_seeks l (url_at (live l)) (reader.fresh (reader.of_raw made)))
-  joins_seeks live makes.Nothing m e = absurd cc
-  joins_seeks live makes.Client m e = absurd cc
-  joins_seeks live (makes.Producer b) m e = absurd cc
+  joins_seeks live key makes.Nothing m e = absurd cc
+  joins_seeks live key makes.Client m e = absurd cc
+  joins_seeks live key (makes.Producer b) m e = absurd cc
 
   deed_seeks : (v : View) (a : Act) (u : ℕ) (d : Deed) → CameFrom v u a d → NoFind a → (m : Member) → Away m.seekers → Away (member_by d m).seekers
   deed_seeks v a u (Arrives l x) c idle m h = hears_seeks l x m h
@@ -303,7 +303,7 @@ module _ (me : Who) where
   pub seekers_absent : (v : View) (a : Act) (u : ℕ) → NoFind a → Away (consumer.seekers_at (v.consumers.rows u)) →
       Away (consumer.seekers_at ((consumers_after v a).rows u))
   seekers_absent v a u idle h =
-      after_holds (λ row. Away (consumer.seekers_at row)) v u a (λ m j. joins_seeks v.links.live j.verdict.makes m j.makes)
+      after_holds (λ row. Away (consumer.seekers_at row)) v u a (λ m j. joins_seeks v.links.live v.consumers.next_key j.verdict.makes m j.makes)
       (λ d c m k. deed_seeks v a u d c idle m k) h
 
   -- ALL OF THAT

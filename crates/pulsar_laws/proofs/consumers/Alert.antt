@@ -8,7 +8,7 @@ use Rattle.pulsar_laws.proofs.PlanWords.{begins, fails, Gives, overrides, Plan, 
 use Rattle.pulsar_laws.proofs.RunWords.{agenda, Agenda, Answered, Begins, begun_same, chosen_same, consumers_after, EndsOnce, Entry, first, follows, follows_some, IsRun, left_with, member_on, notice, Options, setup_of, stays, stays_some, Then, told_some, view, View, ways_of}
 use Rattle.pulsar_laws.proofs.LinkWords.{answer_at, Exhausted, told_at, url_at, Words}
 use Rattle.pulsar_exchange.specs.declared.content.Subscribed.{Subscribed}
-use Rattle.pulsar_consumer.proofs.Histories.{raw_asks_for_nothing}
+use Rattle.pulsar_consumer.proofs.Granting.{raw_asks_for_nothing}
 use Rattle.pulsar_consumer.specs.Laws.{asked_since}
 use Rattle.pulsar_consumer.specs.Topic as reader
 use Rattle.pulsar_consumer.specs.Topic.{fresh, Live, Seen, Setup, link_of}
@@ -171,13 +171,13 @@ module _ (o : Options) (log : List Entry) (t : ℕ) where
       old e = absurd (none_some (sym none ∙ e))
 
       joined_by : (who : Who) (j : Joining) → IsRun o (Then (Answers who verdict) ∷ log) → verdict.makes ≡ makes.Consumer j →
-          row_made (Some (member_on v.links.live j.link (setup_of j))) who t (v.consumers.rows t) ≡ Some m →
+          row_made (Some (member_on v.links.live j.link (setup_of v.consumers.next_key j))) who t (v.consumers.rows t) ≡ Some m →
           Starting o (Then (Answers who verdict) ∷ log) m.seen.number t
       joined_by (Call u) j run made e = elim (cases_Bool (t == u)) [
         | inl d ↦
-            (let same : Some (member_on v.links.live j.link (setup_of j)) ≡ Some m = rw d at e in
+            (let same : Some (member_on v.links.live j.link (setup_of v.consumers.next_key j)) ≡ Some m = rw d at e in
             let number : j.number ≡ m.seen.number =
-            sym (subscribed_number j.link (url_at (v.links.live j.link)) (record { seen = fresh (setup_of j); seekers = [] }))
+            sym (subscribed_number j.link (url_at (v.links.live j.link)) (record { seen = fresh (setup_of v.consumers.next_key j); seekers = [] }))
             ∙ ap (λ (x : Member). x.seen.number) (some_is same) in
             let w = made_ways o log (Call u) verdict j run made in
             subst (λ y. Starting o (Then (Answers (Call y) verdict) ∷ log) m.seen.number t) (eqb-true t u d)
@@ -199,7 +199,7 @@ module _ (o : Options) (log : List Entry) (t : ℕ) where
       raw_by (Consumer k u) l s e = old e
       raw_by (Producer k) l s e = old e
 
-      by : (x : Makes) → verdict.makes ≡ x → row_made (member_made v.links.live x) who t (v.consumers.rows t) ≡ Some m →
+      by : (x : Makes) → verdict.makes ≡ x → row_made (member_made v.links.live v.consumers.next_key x) who t (v.consumers.rows t) ≡ Some m →
           Starting o (Then (Answers who verdict) ∷ log) m.seen.number t
       by (makes.Consumer j) made e = joined_by who j run made e
       by (makes.RawConsumer l s) made e = absurd (raw_by who l s e)

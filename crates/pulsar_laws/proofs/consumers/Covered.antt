@@ -8,7 +8,7 @@ use Rattle.pulsar_laws.proofs.RunWords.{Begins, EndsOnce, Entry, IsRun, notice, 
 use Rattle.pulsar_laws.proofs.LinkWords.{answer_at, Fault, is_body, place_of, Reply, Seat, url_at}
 use Rattle.pulsar_messages.specs.Words as words
 use Rattle.pulsar_consumer.specs.Laws.{asked_since}
-use Rattle.pulsar_consumer.specs.Topic.{Act as Done, Lives, Hears, Loses, Fails, Ends as Over, Polls as Polled, Asks, Seen, Live, Setup, first_due, link_of, lives_on, seen}
+use Rattle.pulsar_consumer.specs.Topic.{Act as Done, Lives, Hears, Loses, Fails, Ends as Over, Polls as Polled, Asks, IsAt, TakesCopy, IsCopied, FailsCopy, Stops, Forgets, Checks, Seen, Live, Setup, first_due, link_of, lives_on, seen}
 use Rattle.pulsar_incoming.specs.declared.polled.Ending.TheVariants.{TopicEnded}
 use Rattle.pulsar_calls.specs.declared.act.Arrival.TheVariants as arrivals
 use Rattle.pulsar_calls.specs.declared.act.Outcome.TheVariants as outcome
@@ -40,6 +40,13 @@ taken_more s (Loses l ∷ xs) h e = taken_more s xs h e
 taken_more s (Fails f ∷ xs) h e = taken_more s xs h e
 taken_more s (Over why ∷ xs) h e = taken_more s xs h e
 taken_more s (Polled clock ∷ xs) h e = taken_more s xs h e
+taken_more s (IsAt clock ∷ xs) h e = taken_more s xs h e
+taken_more s (TakesCopy ∷ xs) h e = taken_more s xs h e
+taken_more s (IsCopied key clock ∷ xs) h e = taken_more s xs h e
+taken_more s (FailsCopy key clock ∷ xs) h e = taken_more s xs h e
+taken_more s (Stops ∷ xs) h e = taken_more s xs h e
+taken_more s (Forgets id ∷ xs) h e = taken_more s xs h e
+taken_more s (Checks clock ∷ xs) h e = taken_more s xs h e
 taken_more s (Asks ∷ xs) h e =
     let k = taken_more s xs h e in
     let n : ℕ = unwrap_or (first_due (seen s (xs ++ h)).engine.live) 0 in
@@ -72,6 +79,13 @@ none_new (Loses l ∷ xs) ys p q = none_new xs ys p q
 none_new (Fails f ∷ xs) ys p q = none_new xs ys p q
 none_new (Over why ∷ xs) ys p q = none_new xs ys p q
 none_new (Polled clock ∷ xs) ys p q = none_new xs ys p q
+none_new (IsAt clock ∷ xs) ys p q = none_new xs ys p q
+none_new (TakesCopy ∷ xs) ys p q = none_new xs ys p q
+none_new (IsCopied key clock ∷ xs) ys p q = none_new xs ys p q
+none_new (FailsCopy key clock ∷ xs) ys p q = none_new xs ys p q
+none_new (Stops ∷ xs) ys p q = none_new xs ys p q
+none_new (Forgets id ∷ xs) ys p q = none_new xs ys p q
+none_new (Checks clock ∷ xs) ys p q = none_new xs ys p q
 none_new (Asks ∷ xs) ys p q = none_new xs ys p q
 
 other_new : (v : View) (t : ℕ) (a : Act) → is_revival a ≡ false → (m : Member) → makes_new (does_to v t m a) ≡ false
@@ -98,7 +112,7 @@ does_new v t m a fs = inl (other_new v t a refl m)
 -- ALONG A LOG
 
 abbrev pub Covered : Options → (ticket : ℕ) → List Entry → Type 0
-Covered o t log = (m : Member) (l : ℕ) (s : Setup) → (view o log).consumers.rows t ≡ Some m → link_of m.seen ≡ Some l → made_with t log ≡ Some s →
+Covered o t log = (m : Member) (l : ℕ) (s : Setup) → (view o log).consumers.rows t ≡ Some m → link_of m.seen ≡ Some l → made_with o t log ≡ Some s →
     permits_of (flows_since o t log) ≤ asked_since s (done_to o t log)
 
 pub none_covered : (fs : List Flow) (n : ℕ) → fs ≡ [] → permits_of fs ≤ n
@@ -133,21 +147,21 @@ module _ (once : EndsOnce) (o : Options) (log : List Entry) (n t l m p : ℕ) (r
       ∙ ap (λ b. (cond b (Asks ∷ []) []) ++ done_to o t x.older) (eq-eqb t t refl)
 
   -- its permits count as taken
-  pub taken_then : (s : Setup) → made_with t log ≡ Some s → asked_since s (done_to o t log) ≡ asked_since s (done_to o t x.older) + p
+  pub taken_then : (s : Setup) → made_with o t log ≡ Some s → asked_since s (done_to o t log) ≡ asked_since s (done_to o t x.older) + p
   taken_then s made =
       let c = consumers_alone_lem once o x.older t x.was_due.member before x.was_due.is_there in
-      let same : c.0 ≡ s = some_is (sym c.1 ∙ sym (ap (made_with t) x.is_behind) ∙ made) in
+      let same : c.0 ≡ s = some_is (sym c.1 ∙ sym (ap (made_with o t) x.is_behind) ∙ made) in
       let live : (seen s (done_to o t x.older)).engine.live ≡ Some x.was_due.live =
       ap (λ y. (seen y (done_to o t x.older)).engine.live) (sym same) ∙ ap (λ y. y.engine.live) (sym c.2) ∙ x.was_due.is_live in
       ap (asked_since s) done_then
       ∙ ap (λ y. asked_since s (done_to o t x.older) + unwrap_or (first_due y) 0) live
       ∙ ap (λ y. asked_since s (done_to o t x.older) + unwrap_or y 0) x.was_due.due
 
-  asked_covered : Every (Covered o t) log → (s : Setup) → made_with t log ≡ Some s → permits_of (flows_since o t log) + p ≤ asked_since s (done_to o t log)
+  asked_covered : Every (Covered o t) log → (s : Setup) → made_with o t log ≡ Some s → permits_of (flows_since o t log) + p ≤ asked_since s (done_to o t log)
   asked_covered k s made =
       let e : Every (Covered o t) (Then (Told told_so) ∷ took) = subst (Every (Covered o t)) x.is_behind k in
       let link : link_of x.was_due.member.seen ≡ Some l = ap (option_map (λ (y : Live). y.link)) x.was_due.is_live ∙ ap Some x.was_due.on in
-      let old = here (Covered o t) x.older e.1.1 x.was_due.member l s x.was_due.is_there link (sym (ap (made_with t) x.is_behind) ∙ made) in
+      let old = here (Covered o t) x.older e.1.1 x.was_due.member l s x.was_due.is_there link (sym (ap (made_with o t) x.is_behind) ∙ made) in
       let flows : permits_of (flows_since o t log) ≡ permits_of (flows_since o t x.older) = ap (λ y. permits_of (flows_since o t y)) x.is_behind in
       let taken = taken_then s made in
       omega (arith, old, flows, taken)
@@ -163,7 +177,7 @@ module _ (once : EndsOnce) (o : Options) (log : List Entry) (t : ℕ) (k : Every
 
   -- none is asked for by it
   plain_covered : (a : Act) (l : ℕ) (s : Setup) (m : Member) → IsRun o (Then a ∷ log) → LinkFrom o log a t l → v.consumers.rows t ≡ Some m →
-      made_with t log ≡ Some s → flows_after v t a fs ≡ fs → permits_of (flows_after v t a fs) ≤ asked_since s (does_to v t m a ++ done_to o t log)
+      made_with o t log ≡ Some s → flows_after v t a fs ≡ fs → permits_of (flows_after v t a fs) ≤ asked_since s (does_to v t m a ++ done_to o t log)
   plain_covered a l s m run (inl (was, e, on)) is made same =
       let old = here (Covered o t) log k was l s e on made in
       let f : permits_of (flows_after v t a fs) ≡ permits_of fs = ap permits_of same in
@@ -175,7 +189,7 @@ module _ (once : EndsOnce) (o : Options) (log : List Entry) (t : ℕ) (k : Every
       none_covered (flows_after v t a fs) _ (fresh_below once o log t (flows_run once o log t run.0) a run fresh)
 
   kept_covered : (a : Act) (l : ℕ) (s : Setup) (m : Member) → IsRun o (Then a ∷ log) → LinkFrom o log a t l → v.consumers.rows t ≡ Some m →
-      made_with t log ≡ Some s → permits_of (flows_after v t a fs) ≤ asked_since s (does_to v t m a ++ done_to o t log)
+      made_with o t log ≡ Some s → permits_of (flows_after v t a fs) ≤ asked_since s (does_to v t m a ++ done_to o t log)
   kept_covered (Does (Consumer n u) (Ask j (words.SendFlow m' p))) l s m run from is made = elim (cases_Bool (t == u)) [
     | inl d ↦
         (let a : Act = Does (Consumer n u) (Ask j (words.SendFlow m' p)) in
@@ -202,7 +216,7 @@ module _ (once : EndsOnce) (o : Options) (log : List Entry) (t : ℕ) (k : Every
   kept_covered a l s m run from is made = plain_covered a l s m run from is made refl
 
   row_covered : (a : Act) → IsRun o (Then a ∷ log) → (m : Member) (l : ℕ) (s : Setup) → (view o (Then a ∷ log)).consumers.rows t ≡ Some m →
-      made_with t (Then a ∷ log) ≡ Some s → LinkFrom o log a t l → RowFrom o log a t →
+      made_with o t (Then a ∷ log) ≡ Some s → LinkFrom o log a t l → RowFrom o log a t →
       permits_of (flows_after v t a fs) ≤ asked_since s (done_to o t (Then a ∷ log))
   row_covered a run m l s is made from (IsNone e f) = absurd (none_some (sym f ∙ is))
   row_covered a run m l s is made from (IsMade s2 l2 e f how did) =

@@ -15,7 +15,7 @@ use Rattle.pulsar_exchange.specs.declared.content.Subscribed.{Subscribed}
 use Rattle.pulsar_consumer.specs.Frames.{failed, frame_in}
 use Rattle.pulsar_consumer.specs.Topic as reader
 use Rattle.pulsar_consumer.specs.Topic.{Act as Done, Lives, Hears, Loses, Fails, Ends as Over, Polls as Polled, Asks, Live, Seen, after, asked, behind, ends as reader_ends, first_due, first_in, is_due, is_ended, lives_on, loses, resubscribes}
-use Rattle.pulsar_incoming.specs.declared.polled.Ending.TheVariants.{Closed, LinkLost, NotSubscribed, TopicEnded}
+use Rattle.pulsar_incoming.specs.declared.polled.Ending.TheVariants.{Closed, NotSubscribed, TopicEnded}
 use Rattle.pulsar_calls.specs.Content as content
 use Rattle.pulsar_calls.specs.declared.act.Arrival.TheVariants as arrivals
 use Rattle.pulsar_calls.specs.declared.act.Outcome.TheVariants as outcome
@@ -23,7 +23,7 @@ use Rattle.pulsar_calls.specs.declared.act.Makes.TheVariants as makes
 use Rattle.pulsar_calls.specs.declared.act.Word.TheVariants as word
 use Rattle.pulsar_calls.specs.declared.content.Joining.{Joining}
 use Rattle.pulsar_consumer_table.specs.Consumers as consumer
-use Rattle.pulsar_consumer_table.specs.Consumers.{Arrives, ClientStops, CloseAsked, Consumers, Deed, FlowTaken, IsPolled, IsSought, LinkEnds, Member, NotRevived, Revived, at_row, called_on, drew, ends_on, hears, hears_frame, holds, is_closed_by, member_after, names_in, next_free, numbering, opened_on, revived, word_if, word_of, word_of_frame}
+use Rattle.pulsar_consumer_table.specs.Consumers.{Arrives, ClientStops, CloseAsked, Consumers, Deed, FlowTaken, IsPolled, IsSought, LinkEnds, Member, NotRevived, Revived, at_row, called_on, drew, ends_on, hears, hears_frame, holds, is_closed_by, keyed, member_after, names_in, next_free, numbered, numbering, opened_on, revived, word_if, word_of, word_of_frame}
 use Rattle.pulsar_consumer_table.specs.declared.numbers.Numbering.{Numbering}
 use Rattle.pulsar_consumer_table.specs.declared.numbers.Numbering.TheVariants.{Has, InUse, Spent}
 use Rattle.pulsar_consumer_table.specs.Notices.{again_at, due_at, due_to, heard_at, word_notice, word_to}
@@ -35,7 +35,7 @@ use Rattle.pulsar_laws.proofs.Cases.{none_some, some_is}
 use Rattle.pulsar_laws.proofs.Lists.{in_right, into_flat}
 use Rattle.pulsar_laws.proofs.consumers.Lone.{applied, applied_append, arrival_done, did_so, joins_here, none_after, subscription_done}
 use Rattle.pulsar_laws.proofs.calls.Same.{same_self}
-use Rattle.pulsar_laws.proofs.consumers.Members.{CameFrom, either_number, lost_gone, polled_number, row_made}
+use Rattle.pulsar_laws.proofs.consumers.Members.{CameFrom, after_number, lost_gone, row_made}
 use Rattle.pulsar_laws.specs.ConsumerLaws.{does_to, subscription_does}
 use Rattle.pulsar_laws.proofs.consumers.Deeds.{deed_does}
 
@@ -62,32 +62,39 @@ in_kept t u (x ∷ xs) i = by (nat_lt u x) (u == x) i (in_kept t u xs)
     by false false (inl e) k = inl e
     by false false (inr i) k = inr (k i)
 
-names_tickets : (number : Option ℕ) (cs : Consumers) → (names_in number cs).tickets ≡ cs.tickets
-names_tickets None cs = refl
-names_tickets (Some number) cs = refl
+-- what remains where only numbers are taken and named: the tickets, and the key that is drawn next
+abbrev pub rest_of : Consumers → List ℕ × ℕ
+rest_of cs = (cs.tickets, cs.next_key)
 
-opened_tickets : (asked : Asked) (cs : Consumers) → (opened_on asked cs).tickets ≡ cs.tickets
-opened_tickets (content.Raw l words) cs = names_tickets (named_consumer words) cs
-opened_tickets _ cs = refl
+names_rest : (number : Option ℕ) (cs : Consumers) → rest_of (names_in number cs) ≡ rest_of cs
+names_rest None cs = refl
+names_rest (Some number) cs = refl
 
-called_tickets : (lacks is_open : Bool) (asked : Asked) (cs : Consumers) → (cond lacks cs (called_on is_open asked cs)).tickets ≡ cs.tickets
-called_tickets true is_open asked cs = refl
-called_tickets false true asked cs = opened_tickets asked cs
-called_tickets false false asked cs = refl
+opened_rest : (asked : Asked) (cs : Consumers) → rest_of (opened_on asked cs) ≡ rest_of cs
+opened_rest (content.Raw l words) cs = names_rest (named_consumer words) cs
+opened_rest _ cs = refl
 
-drew_tickets : (free : ℕ) (wanted : Option ℕ) (cs : Consumers) → (drew free wanted cs).tickets ≡ cs.tickets
-drew_tickets free None cs = refl
-drew_tickets free (Some n) cs = refl
+pub called_rest : (lacks is_open : Bool) (asked : Asked) (cs : Consumers) → rest_of (cond lacks cs (called_on is_open asked cs)) ≡ rest_of cs
+called_rest true is_open asked cs = refl
+called_rest false true asked cs = opened_rest asked cs
+called_rest false false asked cs = refl
 
-holds_tickets : (t : ℕ) (x : Numbering) (cs : Consumers) → (holds t x cs).tickets ≡ cs.tickets
-holds_tickets t (Has n) cs = refl
-holds_tickets t InUse cs = refl
-holds_tickets t Spent cs = refl
+drew_rest : (free : ℕ) (wanted : Option ℕ) (cs : Consumers) → rest_of (drew free wanted cs) ≡ rest_of cs
+drew_rest free None cs = refl
+drew_rest free (Some n) cs = refl
 
-left_tickets : (who : Who) (cs : Consumers) → (consumers_left who cs).tickets ≡ cs.tickets
-left_tickets (Call t) cs = refl
-left_tickets (Consumer n t) cs = refl
-left_tickets (Producer n) cs = refl
+holds_rest : (t : ℕ) (x : Numbering) (cs : Consumers) → rest_of (holds t x cs) ≡ rest_of cs
+holds_rest t (Has n) cs = refl
+holds_rest t InUse cs = refl
+holds_rest t Spent cs = refl
+
+pub numbered_rest : (t : ℕ) (wanted : Option ℕ) (cs : Consumers) → rest_of (numbered t wanted cs) ≡ rest_of cs
+numbered_rest t wanted cs = drew_rest (next_free cs) wanted (holds t (numbering cs wanted) cs) ∙ holds_rest t (numbering cs wanted) cs
+
+pub left_rest : (who : Who) (cs : Consumers) → rest_of (consumers_left who cs) ≡ rest_of cs
+left_rest (Call t) cs = refl
+left_rest (Consumer n t) cs = refl
+left_rest (Producer n) cs = refl
 
 module _ (t : ℕ) where
   abbrev Has' : Consumers → Type 0
@@ -99,7 +106,7 @@ module _ (t : ℕ) where
   listed_has (Producer n) cs h = h
 
   made_has : (who : Who) (x : Makes) (cs : Consumers) → Has' cs → Has' (consumers_listed who x cs)
-  made_has who (makes.Consumer j) cs h = listed_has who cs h
+  made_has who (makes.Consumer j) cs h = listed_has who (keyed cs) h
   made_has who (makes.RawConsumer l made) cs h = listed_has who cs h
   made_has who makes.Nothing cs h = h
   made_has who makes.Client cs h = h
@@ -107,14 +114,11 @@ module _ (t : ℕ) where
 
   after_has : (v : View) (a : Act) → Has' v.consumers → Has' (consumers_after v a)
   after_has v (Comes (Calls asked advice)) h =
-      subst (In t) (sym (called_tickets (lacks_tickets v.calls.drawn (shares asked)) (may_call v.calls) asked v.consumers)) h
+      subst (In t) (sym (ap (λ x. x.0) (called_rest (lacks_tickets v.calls.drawn (shares asked)) (may_call v.calls) asked v.consumers))) h
   after_has v (Does who (TakeNumber wanted)) h =
-      subst (In t)
-      (sym
-      (drew_tickets (next_free v.consumers) wanted (holds (ticket_of who) (numbering v.consumers wanted) v.consumers)
-      ∙ holds_tickets (ticket_of who) (numbering v.consumers wanted) v.consumers)) h
+      subst (In t) (sym (ap (λ x. x.0) (numbered_rest (ticket_of who) wanted v.consumers))) h
   after_has v (Answers who verdict) h =
-      subst (In t) (sym (left_tickets who (consumers_listed who verdict.makes v.consumers))) (made_has who verdict.makes v.consumers h)
+      subst (In t) (sym (ap (λ x. x.0) (left_rest who (consumers_listed who verdict.makes v.consumers)))) (made_has who verdict.makes v.consumers h)
   after_has v (Comes (ToLink l Reads)) h = h
   after_has v (Comes (ToLink l (Ends end))) h = h
   after_has v (Comes (Polls u)) h = h
@@ -134,8 +138,8 @@ module _ (t : ℕ) where
   joins_new (Producer k) m n cs h = inl h
 
   made_new : (live : ℕ → Option Seat) (who : Who) (x : Makes) (n : Member) (cs : Consumers) →
-      row_made (member_made live x) who t (cs.rows t) ≡ Some n → (cs.rows t ≡ Some n) ⊎ Has' (consumers_listed who x cs)
-  made_new live who (makes.Consumer j) n cs h = joins_new who (member_on live j.link (setup_of j)) n cs h
+      row_made (member_made live cs.next_key x) who t (cs.rows t) ≡ Some n → (cs.rows t ≡ Some n) ⊎ Has' (consumers_listed who x cs)
+  made_new live who (makes.Consumer j) n cs h = joins_new who (member_on live j.link (setup_of cs.next_key j)) n (keyed cs) h
   made_new live who (makes.RawConsumer l made) n cs h = joins_new who (member_on live l (reader.of_raw made)) n cs h
   made_new live who makes.Nothing n cs h = inl h
   made_new live who makes.Client n cs h = inl h
@@ -154,7 +158,7 @@ module _ (t : ℕ) where
   has_on v (Answers who verdict) k n h =
       elim (made_new v.links.live who verdict.makes n v.consumers h) [
         | inl e ↦ after_has v (Answers who verdict) (k n e)
-        | inr e ↦ subst (In t) (sym (left_tickets who (consumers_listed who verdict.makes v.consumers))) e
+        | inr e ↦ subst (In t) (sym (ap (λ x. x.0) (left_rest who (consumers_listed who verdict.makes v.consumers)))) e
       ]
   has_on v a k n h = other_has v a (λ who verdict f. absurd cc) k n h
 
@@ -166,17 +170,6 @@ module _ (t : ℕ) where
   has_ticket o (Then a ∷ log) m h = has_on (view o log) a (λ n e. has_ticket o log n e) m h
 
 -- ITS NUMBER stays
-
-after_number : (act : Done) (v : Seen) → (after act v).number ≡ v.number
-after_number (Lives l url) v = either_number (is_ended v) v _ v.number refl refl
-after_number (Hears l f) v = either_number (lives_on l v) _ v v.number refl refl
-after_number (Loses l) v =
-    either_number (lives_on l v) (loses v) v v.number
-    (either_number v.is_raw (reader_ends LinkLost v) (record v { engine = record v.engine { live = None } }) v.number refl refl) refl
-after_number (Fails f) v = either_number (is_ended v) v _ v.number refl refl
-after_number (Over why) v = refl
-after_number (Polled clock) v = polled_number clock v
-after_number Asks v = refl
 
 pub applied_number : (xs : List Done) (s : Seen) → (applied xs s).number ≡ s.number
 applied_number [] s = refl
@@ -282,7 +275,7 @@ module _ (l : ℕ) (r : Reply) (m : Member) where
       (word_if (lives_on l m.seen && is_due (member_after (Hears l (frame_in r)) m).seen) word.Due ≡ Some word.Due) ⊎ (is_due m.seen ≡ true)
   message_word true e h =
       inl (ap (λ b. word_if (b && is_due (member_after (Hears l (frame_in r)) m).seen) word.Due) e ∙ ap (λ b. word_if b word.Due) h)
-  message_word false e h = inr (sym (ap (λ b. is_due (cond b (record m.seen { engine = reader.hears (frame_in r) m.seen.engine }) m.seen)) e) ∙ h)
+  message_word false e h = inr (sym (ap (λ b. is_due (cond b (reader.heard (frame_in r) m.seen) m.seen)) e) ∙ h)
 
   frame_by : (a b c : Bool) → is_due (heard_by a b c).seen ≡ true → (worded_by a b c ≡ Some word.Due) ⊎ (is_due m.seen ≡ true)
   frame_by true b c h = message_word (lives_on l m.seen) refl h
@@ -340,7 +333,7 @@ module _ (o : Options) (log : List Entry) (t : ℕ) (m : Member) (there : (view 
         let d : is_due n.seen ≡ true = sym (ap (λ b. is_due (applied (cond b (Polled v.now ∷ []) []) m.seen)) e) ∙ h in
         let i : In (due_to_plan m.seen.number t) (map Told (due_at t (option_map (member_after (Polled v.now)) (v.consumers.rows t)))) =
         subst (λ row. In (due_to_plan m.seen.number t) (map Told (due_at t (option_map (member_after (Polled v.now)) row)))) (sym there)
-        (renamed n (due_at t (Some n)) (polled_number v.now m.seen) (due_there t n d)) in
+        (renamed n (due_at t (Some n)) (after_number (Polled v.now) m.seen) (due_there t n d)) in
         inl (subst (λ x. Arises rules o (due_to_plan m.seen.number t) (Then (Comes (Polls x))) log) (eqb-true t u e) (inr (inl i))))
   ]
 
@@ -376,13 +369,13 @@ module _ (o : Options) (log : List Entry) (t : ℕ) (m : Member) (there : (view 
 
 -- and where a consumer is made
 call_due : (v : View) (t : ℕ) (verdict : Verdict) (j : Joining) (n : Member) → verdict.makes ≡ makes.Consumer j →
-    row_made (Some (member_on v.links.live j.link (setup_of j))) (Call t) t (v.consumers.rows t) ≡ Some n → is_due n.seen ≡ true →
+    row_made (Some (member_on v.links.live j.link (setup_of v.consumers.next_key j))) (Call t) t (v.consumers.rows t) ≡ Some n → is_due n.seen ≡ true →
     In (due_to_plan n.seen.number t) (map Told (joins v (Answers (Call t) verdict)))
 call_due v t verdict j n made is h =
-    let it : Member = member_on v.links.live j.link (setup_of j) in
+    let it : Member = member_on v.links.live j.link (setup_of v.consumers.next_key j) in
     let same : it ≡ n = some_is (sym (joins_here (Call t) it (v.consumers.rows t) t (same_self (Call t))) ∙ is) in
     let one : due_to t n ≡ word_notice t n word.Due ∷ [] = ap (λ b. word_to t n (word_if b word.Due)) h in
-    subst (λ x. In (due_to_plan n.seen.number t) (map Told (made_due v.links.live (Call t) x))) (sym made)
+    subst (λ x. In (due_to_plan n.seen.number t) (map Told (made_due v.links.live v.consumers.next_key (Call t) x))) (sym made)
     (subst (λ x. In (due_to_plan n.seen.number t) (map Told (due_to t x))) (sym same)
     (subst (λ ns. In (due_to_plan n.seen.number t) (map Told ns)) (sym one) (inl refl)))
 
@@ -404,12 +397,13 @@ made_due_so v t who verdict n none is h =
     old e = absurd (none_some (sym none ∙ e))
 
     joined_by : (who : Who) (j : Joining) → verdict.makes ≡ makes.Consumer j →
-        row_made (Some (member_on v.links.live j.link (setup_of j))) who t (v.consumers.rows t) ≡ Some n →
+        row_made (Some (member_on v.links.live j.link (setup_of v.consumers.next_key j))) who t (v.consumers.rows t) ≡ Some n →
         In (due_to_plan n.seen.number t) (map Told (joins v (Answers who verdict)))
     joined_by (Call u) j made e = elim (cases_Bool (t == u)) [
       | inl same ↦
           subst (λ x. In (due_to_plan n.seen.number t) (map Told (joins v (Answers (Call x) verdict)))) (eqb-true t u same)
-          (call_due v t verdict j n made (subst (λ x. row_made (Some (member_on v.links.live j.link (setup_of j))) (Call x) t (v.consumers.rows t) ≡ Some n)
+          (call_due v t verdict j n made
+          (subst (λ x. row_made (Some (member_on v.links.live j.link (setup_of v.consumers.next_key j))) (Call x) t (v.consumers.rows t) ≡ Some n)
           (sym (eqb-true t u same)) e) h)
       | inr other ↦ old (rw other at e)
     ]
@@ -427,7 +421,7 @@ made_due_so v t who verdict n none is h =
     raw_by (Consumer k u) l made e = old e
     raw_by (Producer k) l made e = old e
 
-    by : (x : Makes) → verdict.makes ≡ x → row_made (member_made v.links.live x) who t (v.consumers.rows t) ≡ Some n →
+    by : (x : Makes) → verdict.makes ≡ x → row_made (member_made v.links.live v.consumers.next_key x) who t (v.consumers.rows t) ≡ Some n →
         In (due_to_plan n.seen.number t) (map Told (joins v (Answers who verdict)))
     by (makes.Consumer j) made e = joined_by who j made e
     by (makes.RawConsumer l made) f e = raw_by who l made e
@@ -440,4 +434,4 @@ pub built_due : (v : View) (t : ℕ) (verdict : Verdict) (j : Joining) (n : Memb
     In (due_to_plan n.seen.number t) (map Told (joins v (Answers (Call t) verdict)))
 built_due v t verdict j n made is h =
     call_due v t verdict j n made
-    (ap (λ x. row_made (member_made v.links.live x) (Call t) t (v.consumers.rows t)) (sym made) ∙ is) h
+    (ap (λ x. row_made (member_made v.links.live v.consumers.next_key x) (Call t) t (v.consumers.rows t)) (sym made) ∙ is) h

@@ -5,17 +5,18 @@ use Rattle.pulsar_laws.proofs.ActWords.{Act, Arrival}
 use Rattle.pulsar_laws.proofs.RunWords.{Begins, EndsOnce, Entry, IsRun, Options, Then, view, View}
 use Rattle.pulsar_laws.proofs.LinkWords.{Fault, is_body, Reply, url_at}
 use Rattle.url.specs.Parts.{Parts}
-use Rattle.pulsar_frame.specs.Items.{Item, is_message}
 use Rattle.pulsar_messages.specs.Claims.{is_spent}
-use Rattle.pulsar_wire.specs.Sink.{capped}
 use Rattle.pulsar_consumer.specs.Frames.{frame_in, failed}
 use Rattle.pulsar_consumer.specs.Topic as reader
-use Rattle.pulsar_consumer.specs.Topic.{Act as Done, Lives, Hears, Loses, Fails, Ends as Over, Polls as Polled, Asks, Seen, Setup, after, batch_size, counts_first, first_of, fresh, half, is_ended, link_of, lives_on, loses, seen}
+use Rattle.pulsar_consumer.specs.Topic.{Act as Done, Lives, Hears, Loses, Fails, Ends as Over, Polls as Polled, Asks, IsAt, TakesCopy, IsCopied, FailsCopy, Stops, Forgets, Checks, Seen, Setup, after, batch_size, first_of, fresh, half, is_ended, link_of, lives_on, loses, seen}
 use Rattle.pulsar_consumer.specs.Laws.{arrivals as arrivals_in}
 use Rattle.pulsar_incoming.specs.declared.polled.Ending.{Ending}
 use Rattle.pulsar_incoming.specs.declared.polled.Ending.TheVariants.{Closed, LinkLost, NotSubscribed, Stopped, TopicEnded}
-use Rattle.pulsar_consumer.proofs.Histories.{counted_same, end_is_final, permits_in_bounds}
+use Rattle.pulsar_consumer.proofs.Checking.{same_after, setup_is}
 use Rattle.pulsar_consumer.proofs.Counted.{permits_are_counted}
+use Rattle.pulsar_consumer.proofs.Granting.{permits_in_bounds}
+use Rattle.pulsar_consumer.proofs.Histories.{counted_same, end_is_final}
+use Rattle.pulsar_consumer.proofs.Plain.{plain_gives_all}
 use Rattle.pulsar_calls.specs.declared.act.Arrival.TheVariants as arrivals
 use Rattle.pulsar_consumer_table.specs.Consumers.{Arrives, ClientStops, CloseAsked, Deed, FlowTaken, IsPolled, IsSought, LinkEnds, Member, NotRevived, Revived, is_closed_by, member_by, subscribed_on}
 use Rattle.pulsar_run.specs.Things.{along}
@@ -23,9 +24,8 @@ use Rattle.pulsar_acts.specs.View.{member_acts}
 use Rattle.pulsar_laws.proofs.Cases.{none_some, some_is}
 use Rattle.pulsar_laws.proofs.calls.Ticketed.{consumer_ticket, older_ticket}
 use Rattle.pulsar_laws.specs.ConsumerLaws.{ConsumersEnd, ConsumersRemain, PermitsAreKept, arrival_does, arrival_ends, does_to, done_to, ends_at, ends_by, frame_does, frame_ends, has_ended, loss_does, made_with, subscription_does}
-use Rattle.pulsar_laws.proofs.consumers.Finished.{half_is_left}
 use Rattle.pulsar_laws.proofs.consumers.Deeds.{deed_does, deed_ends, deeds_do, deeds_end, same_does, same_ends}
-use Rattle.pulsar_laws.proofs.consumers.Lone.{IsKept, IsMade, IsNone, RowFrom, applied, applied_append, begun_rows, consumers_alone_lem, deeds_did, row_from}
+use Rattle.pulsar_laws.proofs.consumers.Lone.{IsKept, IsMade, IsNone, RowFrom, applied, applied_append, begun_rows, consumers_alone_lem, deeds_did, made_plain, row_from}
 
 or_false : (b : Bool) → b ≡ (b || false)
 or_false true = refl
@@ -45,6 +45,13 @@ closes_at (Fails f) s = true
 closes_at (Over why) s = true
 closes_at (Polled clock) s = false
 closes_at Asks s = false
+closes_at (IsAt clock) s = false
+closes_at TakesCopy s = false
+closes_at (IsCopied key clock) s = false
+closes_at (FailsCopy key clock) s = false
+closes_at Stops s = false
+closes_at (Forgets id) s = false
+closes_at (Checks clock) s = false
 
 same_end : (b : Bool) (v w : Seen) → w.ended ≡ v.ended → is_ended (cond b w v) ≡ (is_ended v || false)
 same_end true v w e = ap is_some e ∙ or_false (is_ended v)
@@ -72,16 +79,25 @@ fails_end false v w e f = f
 after_ends : (act : Done) (s : Seen) → is_ended (after act s) ≡ (is_ended s || closes_at act s)
 after_ends (Lives l url) s =
     elim (is_ended s) as
-    (λ b. is_ended (cond b s (record s { engine = record s.engine { live = Some (reader.subscribed s.engine.batch l url) } })) ≡ (is_ended s || false))
+    (λ b. is_ended (cond b s (record s { engine = reader.lives l url s.engine })) ≡ (is_ended s || false))
     [ true ↦ or_false (is_ended s) | false ↦ or_false (is_ended s) ]
-after_ends (Hears l f) s = same_end (lives_on l s) s (record s { engine = reader.hears f s.engine }) refl
+after_ends (Hears l f) s = same_end (lives_on l s) s (reader.heard f s) refl
 after_ends (Loses l) s = lost_end (lives_on l s) s
 after_ends (Fails f) s =
     fails_end (is_ended s) s (reader.ends NotSubscribed (record s { engine = reader.hears (failed f) s.engine })) refl (ended_or s.ended NotSubscribed)
 after_ends (Over why) s = ended_or s.ended why
 after_ends (Polled clock) s =
-    ap is_some (counted_same (first_of s.engine.unread) clock (record s { engine = reader.gives s.engine })).1 ∙ or_false (is_ended s)
+    ap is_some (counted_same (first_of s.engine.unread) clock (record s { engine = reader.gives (reader.clocked clock s.engine) })).1 ∙ or_false (is_ended s)
 after_ends Asks s = or_false (is_ended s)
+after_ends (IsAt clock) s = or_false (is_ended s)
+after_ends TakesCopy s = or_false (is_ended s)
+after_ends (IsCopied key clock) s =
+    same_end (s.key == key) s (record s { engine = reader.copied (reader.clocked clock s.engine) }) refl
+after_ends (FailsCopy key clock) s =
+    same_end (s.key == key) s (record s { engine = reader.copy_failed (reader.clocked clock s.engine) }) refl
+after_ends Stops s = or_false (is_ended s)
+after_ends (Forgets id) s = or_false (is_ended s)
+after_ends (Checks clock) s = or_false (is_ended s)
 
 -- one act or none
 abbrev pub EndsSo : List Done → Seen → Bool → Type 0
@@ -203,7 +219,7 @@ record Grown (o : Options) (later older : List Entry) (t : ℕ) : Type 0 where
   is_it : (view o (later ++ older)).consumers.rows t ≡ Some row
   more : List Done
   done : done_to o t (later ++ older) ≡ more ++ done_to o t older
-  made : made_with t (later ++ older) ≡ made_with t older
+  made : made_with o t (later ++ older) ≡ made_with o t older
 
 grown_by : (o : Options) (later older : List Entry) (t : ℕ) (a : Act) → Grown o later older t → RowFrom o (later ++ older) a t →
     Grown o (Then a ∷ later) older t
@@ -229,7 +245,7 @@ grows once o (Begins x ∷ later) older t m un run e =
 grows once o (Then a ∷ later) older t m un run e =
     grown_by o later older t a (grows once o later older t m un run.0 e) (row_from o (later ++ older) t once a un run)
 
-older_run : (o : Options) (later older : List Entry) → IsRun o (later ++ older) → IsRun o older
+pub older_run : (o : Options) (later older : List Entry) → IsRun o (later ++ older) → IsRun o older
 older_run o [] older run = run
 older_run o (Begins e ∷ later) older run = older_run o later older run.0
 older_run o (Then a ∷ later) older run = older_run o later older run.0
@@ -258,28 +274,11 @@ consumers_remain_lem once o later older t m run e =
 abbrev pub KeepsMade : Seen → Seen → Type 0
 KeepsMade v w = (v.is_raw ≡ w.is_raw) × (v.config ≡ w.config)
 
-either_made : (b : Bool) (v w u : Seen) → KeepsMade v u → KeepsMade w u → KeepsMade (cond b v w) u
-either_made true v w u p q = p
-either_made false v w u p q = q
-
-counted_made : (clock : ℕ) (i : Option Item) (v : Seen) → KeepsMade (counts_first clock i v) v
-counted_made clock None v = (refl, refl)
-counted_made clock (Some i) v = either_made (is_message i) (record v { received = capped (v.received + 1); last = Some clock }) v v (refl, refl) (refl, refl)
-
 pub after_made : (act : Done) (v : Seen) → KeepsMade (after act v) v
-after_made (Lives l url) v = either_made (is_ended v) v _ v (refl, refl) (refl, refl)
-after_made (Hears l f) v = either_made (lives_on l v) _ v v (refl, refl) (refl, refl)
-after_made (Loses l) v =
-    either_made (lives_on l v) (loses v) v v
-    (either_made v.is_raw (reader.ends LinkLost v) (record v { engine = record v.engine { live = None } }) v (refl, refl) (refl, refl)) (refl, refl)
-after_made (Fails f) v = either_made (is_ended v) v _ v (refl, refl) (refl, refl)
-after_made (Over why) v = (refl, refl)
-after_made (Polled clock) v = counted_made clock (first_of v.engine.unread) (record v { engine = reader.gives v.engine })
-after_made Asks v = (refl, refl)
+after_made act v = let k = same_after act v in (ap (λ x. x.is_raw) k, ap (λ x. x.config) k)
 
 pub seen_made : (s : Setup) (h : List Done) → ((seen s h).is_raw ≡ s.is_raw) × ((seen s h).config ≡ s.config)
-seen_made s [] = (refl, refl)
-seen_made s (x ∷ h) = let k = after_made x (seen s h) in let j = seen_made s h in (k.0 ∙ j.0, k.1 ∙ j.1)
+seen_made s h = let k = setup_is s h in (ap (λ x. x.is_raw) k, ap (λ x. x.config) k)
 
 less : (a b c : ℕ) → a ≤ c → a - b ≤ c
 less a b c h = omega (arith, h)
@@ -296,6 +295,6 @@ permits_are_kept_lem once o log t m l run e raw live =
       k.0,
       k.1,
       subst (λ c. l.level - l.weight ≤ batch_size c) (sym config) (less l.level l.weight (batch_size k.0.config) b.0),
-      λ done. subst (λ c. half (batch_size c) + l.weight ≤ l.level) (sym config) (half_is_left k.0 h l plain there done),
+      λ done. subst (λ c. half (batch_size c) + l.weight ≤ l.level) (sym config) (b.1 (done, (plain_gives_all k.0 h (made_plain o t log k.0 k.1)).1)),
       permits_are_counted k.0 h l plain there,
     )

@@ -18,7 +18,7 @@ use Rattle.pulsar_consumer_table.specs.declared.row.LinkAnswer.TheVariants.{Foun
 use Rattle.pulsar_acts.specs.View.{member_acts, member_born, member_made, member_of}
 use Rattle.pulsar_run.specs.Things.{along, row_after as row_of, row_by}
 use Rattle.pulsar_run.proofs.Things.{row_stays}
-use Rattle.pulsar_laws.proofs.Cases.{none_some}
+use Rattle.pulsar_laws.proofs.Cases.{none_some, some_is}
 use Rattle.pulsar_laws.proofs.calls.Ticketed.{consumer_ticket}
 use Rattle.pulsar_laws.specs.ConsumerLaws.{ConsumersAlone, arrival_does, does_to, done_since, done_to, frame_does, loss_does, made_as, made_with, making_does, subscription_does}
 use Rattle.pulsar_laws.specs.Laws.{end_of}
@@ -121,7 +121,7 @@ apart_call t u h = elim (cases_Bool (t == u)) [ inl e ↦ (let f : true ≡ fals
 
 -- an act by which no call of this ticket ends makes none
 born_none : (v : View) (t : ℕ) (a : Act) → IsOther t a → member_born v t a ≡ None
-born_none v t (Answers who verdict) other = by (member_made v.links.live verdict.makes) who (other who verdict refl)
+born_none v t (Answers who verdict) other = by (member_made v.links.live v.consumers.next_key verdict.makes) who (other who verdict refl)
   where
     by : (m : Option Member) (who : Who) → is_same (Call t) who ≡ false → member_of m who t ≡ None
     by None who h = refl
@@ -194,9 +194,9 @@ none_before once o t log who verdict unspent run e =
 pub data RowFrom (o : Options) (log : List Entry) (a : Act) (t : ℕ) : Type 0 where
   IsNone : (view o log).consumers.rows t ≡ None → (view o (Then a ∷ log)).consumers.rows t ≡ None → RowFrom o log a t
   IsMade : (s : Setup) (l : ℕ) → (view o log).consumers.rows t ≡ None →
-      (view o (Then a ∷ log)).consumers.rows t ≡ Some (member_on (view o log).links.live l s) → made_with t (Then a ∷ log) ≡ Some s →
+      (view o (Then a ∷ log)).consumers.rows t ≡ Some (member_on (view o log).links.live l s) → made_with o t (Then a ∷ log) ≡ Some s →
       done_to o t (Then a ∷ log) ≡ subscription_does l (url_at ((view o log).links.live l)) → RowFrom o log a t
-  IsKept : (m : Member) → (view o log).consumers.rows t ≡ Some m → RowAfter (view o log) a t m → made_with t (Then a ∷ log) ≡ made_with t log →
+  IsKept : (m : Member) → (view o log).consumers.rows t ≡ Some m → RowAfter (view o log) a t m → made_with o t (Then a ∷ log) ≡ made_with o t log →
       done_to o t (Then a ∷ log) ≡ does_to (view o log) t m a ++ done_to o t log → RowFrom o log a t
 
 pub joins_here : (who : Who) (m : Member) (row : Option Member) (t : ℕ) → is_same (Call t) who ≡ true → row_made (Some m) who t row ≡ Some m
@@ -214,8 +214,8 @@ module _ (o : Options) (log : List Entry) (t : ℕ) where
   made_row who verdict m f none e = made_by m f
     where
       rows_are : (m : Makes) → verdict.makes ≡ m →
-          (view o (Then (Answers who verdict) ∷ log)).consumers.rows t ≡ row_made (member_made v.links.live m) who t (v.consumers.rows t)
-      rows_are m f = ap (λ x. row_made (member_made v.links.live x) who t (v.consumers.rows t)) f
+          (view o (Then (Answers who verdict) ∷ log)).consumers.rows t ≡ row_made (member_made v.links.live v.consumers.next_key m) who t (v.consumers.rows t)
+      rows_are m f = ap (λ x. row_made (member_made v.links.live v.consumers.next_key x) who t (v.consumers.rows t)) f
 
       did : (m : Makes) → verdict.makes ≡ m → done_to o t (Then (Answers who verdict) ∷ log) ≡ making_does v.links.live m
       did m f =
@@ -223,13 +223,13 @@ module _ (o : Options) (log : List Entry) (t : ℕ) where
           ∙ ap (λ b. cond b (making_does v.links.live verdict.makes) (done_to o t log)) e
           ∙ ap (making_does v.links.live) f
 
-      how : (m : Makes) → verdict.makes ≡ m → made_with t (Then (Answers who verdict) ∷ log) ≡ made_as m
-      how m f = ap (λ b. cond b (made_as verdict.makes) (made_with t log)) e ∙ ap made_as f
+      how : (m : Makes) → verdict.makes ≡ m → made_with o t (Then (Answers who verdict) ∷ log) ≡ made_as v.consumers.next_key m
+      how m f = ap (λ b. cond b (made_as v.consumers.next_key verdict.makes) (made_with o t log)) e ∙ ap (made_as v.consumers.next_key) f
 
       made_by : (m : Makes) → verdict.makes ≡ m → RowFrom o log (Answers who verdict) t
       made_by (makes.Consumer j) f =
-          IsMade (setup_of j) j.link none
-          (rows_are (makes.Consumer j) f ∙ joins_here who (member_on v.links.live j.link (setup_of j)) (v.consumers.rows t) t e)
+          IsMade (setup_of v.consumers.next_key j) j.link none
+          (rows_are (makes.Consumer j) f ∙ joins_here who (member_on v.links.live j.link (setup_of v.consumers.next_key j)) (v.consumers.rows t) t e)
           (how (makes.Consumer j) f) (did (makes.Consumer j) f)
       made_by (makes.RawConsumer l made) f =
           IsMade (of_raw made) l none
@@ -239,8 +239,8 @@ module _ (o : Options) (log : List Entry) (t : ℕ) where
       made_by makes.Client f = IsNone none (rows_are makes.Client f ∙ none)
       made_by (makes.Producer b) f = IsNone none (rows_are (makes.Producer b) f ∙ none)
 
-  with_other : (a : Act) → IsOther t a → made_with t (Then a ∷ log) ≡ made_with t log
-  with_other (Answers who verdict) other = ap (λ b. cond b (made_as verdict.makes) (made_with t log)) (other who verdict refl)
+  with_other : (a : Act) → IsOther t a → made_with o t (Then a ∷ log) ≡ made_with o t log
+  with_other (Answers who verdict) other = ap (λ b. cond b (made_as v.consumers.next_key verdict.makes) (made_with o t log)) (other who verdict refl)
   with_other a other = refl
 
   other_row : (a : Act) → IsOther t a → (row : Option Member) → v.consumers.rows t ≡ row → RowFrom o log a t
@@ -260,10 +260,29 @@ module _ (o : Options) (log : List Entry) (t : ℕ) where
   ]
   row_from once a un run = other_row a (λ w x f. absurd cc) (v.consumers.rows t) refl
 
+-- no dead letters are asked for, and no message is asked for again
+pub made_plain : (o : Options) (t : ℕ) (log : List Entry) (s : Setup) → made_with o t log ≡ Some s → s.config.dead_letter_policy ≡ None
+made_plain o t [] s how = absurd (none_some how)
+made_plain o t (Begins e ∷ log) s how = made_plain o t log s how
+made_plain o t (Then (Answers who verdict) ∷ log) s how = by (is_same (Call t) who) (made_plain o t log s) how
+  where
+    made : (key : ℕ) (m : Makes) → made_as key m ≡ Some s → s.config.dead_letter_policy ≡ None
+    made key makes.Nothing e = absurd (none_some e)
+    made key makes.Client e = absurd (none_some e)
+    made key (makes.Consumer j) e = sym (ap (λ (x : Setup). x.config.dead_letter_policy) (some_is e))
+    made key (makes.RawConsumer l m) e = sym (ap (λ (x : Setup). x.config.dead_letter_policy) (some_is e))
+    made key (makes.Producer b) e = absurd (none_some e)
+
+    by : (b : Bool) → (made_with o t log ≡ Some s → s.config.dead_letter_policy ≡ None) →
+        cond b (made_as (view o log).consumers.next_key verdict.makes) (made_with o t log) ≡ Some s → s.config.dead_letter_policy ≡ None
+    by true before e = made (view o log).consumers.next_key verdict.makes e
+    by false before e = before e
+made_plain o t (Then a ∷ log) s how = made_plain o t log s how
+
 -- A CONSUMER IS WHAT WAS DONE TO IT
 
 abbrev pub StandsSo : Options → List Entry → (ticket : ℕ) → Member → Type 0
-StandsSo o log t m = (s : Setup) × (made_with t log ≡ Some s) × (m.seen ≡ seen s (done_to o t log))
+StandsSo o log t m = (s : Setup) × (made_with o t log ≡ Some s) × (m.seen ≡ seen s (done_to o t log))
 
 kept_so : (o : Options) (log : List Entry) (a : Act) (t : ℕ) (n : Member) → RowFrom o log a t → (view o (Then a ∷ log)).consumers.rows t ≡ Some n →
     ((u : Member) → (view o log).consumers.rows t ≡ Some u → StandsSo o log t u) → StandsSo o (Then a ∷ log) t n

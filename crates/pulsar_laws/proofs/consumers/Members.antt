@@ -1,5 +1,5 @@
 -- What acts leave of the consumers: which keep the rows as they are, and which keep one that no subscription of it is live.
-use Rattle.std.proofs.Common.{◌≡◌, ◌∙◌, sym, ap, subst, ℕ, List, [], ◌∷◌, refl, Bool, true, false, cond, ◌==◌, Option, Some, None, inl, inr, ◌+◌}
+use Rattle.std.proofs.Common.{◌≡◌, ◌∙◌, sym, ap, subst, ℕ, List, [], ◌∷◌, refl, true, false, cond, ◌==◌, Option, Some, None, inl, inr}
 use Rattle.std.proofs.lemmas.Bool.{cases_Bool, eqb-true}
 use Rattle.std.specs.List.{flat_map}
 use Rattle.std.specs.Option.{option_map, option_to_list, is_some}
@@ -7,11 +7,11 @@ use Rattle.pulsar_laws.proofs.ActWords.{Act, Answers, Arrival, Ask, Call, Comes,
 use Rattle.pulsar_laws.proofs.RunWords.{begun_same, consumers_after, Each, each_append, each_flat, each_when, In, rules, View}
 use Rattle.pulsar_laws.proofs.LinkWords.{answer_at, arrival_at, closed_consumer, closing, Fault, is_asked, is_body, Reply, url_at, Words}
 use Rattle.pulsar_consumer.specs.Topic as reader
-use Rattle.pulsar_consumer.specs.Topic.{Hears, Loses, Live, Seen, first_of, gives, is_due, is_on, lives_on, first_due, counts_first, ends as reader_ends, loses as reader_loses, Ends as Over}
-use Rattle.pulsar_frame.specs.Items.{is_message, Item}
+use Rattle.pulsar_consumer.specs.Topic.{Act as Act', Hears, Loses, Live, Seen, first_of, gives, is_due, is_on, lives_on, first_due, counts_first, ends as reader_ends, loses as reader_loses, Ends as Over}
 use Rattle.pulsar_consumer.specs.Frames.{frame_in}
 use Rattle.pulsar_incoming.specs.declared.polled.Ending.{Ending}
 use Rattle.pulsar_incoming.specs.declared.polled.Ending.TheVariants.{LinkLost, TopicEnded}
+use Rattle.pulsar_consumer.proofs.Checking.{same_after}
 use Rattle.pulsar_consumer.proofs.Histories.{counted_same}
 use Rattle.pulsar_consumer.proofs.Permits.{gives_dead}
 use Rattle.pulsar_calls.specs.declared.act.Arrival.TheVariants as arrivals
@@ -24,7 +24,6 @@ use Rattle.pulsar_acts.specs.Things.{members}
 use Rattle.pulsar_acts.specs.View.{consumer_asked, member_acts, member_born, member_made, member_of}
 use Rattle.pulsar_run.specs.Things.{Keeps, along, row_after, row_by}
 use Rattle.url.specs.Parts.{Parts}
-use Rattle.pulsar_wire.specs.Sink.{capped}
 use Rattle.pulsar_laws.proofs.Lists.{in_append}
 use Rattle.pulsar_laws.proofs.Cases.{cond_so}
 
@@ -45,12 +44,13 @@ members_keep = record {
 pub record Joins (v : View) (a : Act) (t : ℕ) (m : Member) : Type 0 where
   pub verdict : Verdict
   pub is_act : a ≡ Answers (Call t) verdict
-  pub makes : member_made v.links.live verdict.makes ≡ Some m
+  pub makes : member_made v.links.live v.consumers.next_key verdict.makes ≡ Some m
 
 pub born_joins : (v : View) (a : Act) (t : ℕ) (m : Member) → member_born v t a ≡ Some m → Joins v a t m
-born_joins v (Answers who verdict) t m h = by (member_made v.links.live verdict.makes) refl who h
+born_joins v (Answers who verdict) t m h = by (member_made v.links.live v.consumers.next_key verdict.makes) refl who h
   where
-    by : (r : Option Member) → member_made v.links.live verdict.makes ≡ r → (who : Who) → member_of r who t ≡ Some m → Joins v (Answers who verdict) t m
+    by : (r : Option Member) → member_made v.links.live v.consumers.next_key verdict.makes ≡ r → (who : Who) → member_of r who t ≡ Some m →
+        Joins v (Answers who verdict) t m
     by None e who k = absurd cc
     by (Some n) e (Call u) k = elim (cases_Bool (t == u)) [
       | inl q ↦
@@ -155,7 +155,7 @@ lost_gone v = elim v.is_raw as (λ b. (cond b (reader_ends LinkLost v) (record v
 hears_gone_at : (l : ℕ) (r : Reply) (m : Member) → IsGone m → IsGone (member_after (Hears l (frame_in r)) m)
 hears_gone_at l r m k =
     let off : lives_on l m.seen ≡ false = not_on l m.seen.engine.live k in
-    ap (λ b. (cond b (record m.seen { engine = reader.hears (frame_in r) m.seen.engine }) m.seen).engine.live) off ∙ k
+    ap (λ b. (cond b (reader.heard (frame_in r) m.seen) m.seen).engine.live) off ∙ k
 
 loses_gone_at : (l : ℕ) (m : Member) → IsGone m → IsGone (member_after (Loses l) m)
 loses_gone_at l m k = cond_so (λ z. z.engine.live ≡ None) (lives_on l m.seen) (reader_loses m.seen) m.seen (lost_gone m.seen) k
@@ -180,8 +180,8 @@ loss_gone l (Some cause) m k = loses_gone_at l m k
 
 pub poll_gone : (clock : ℕ) (m : Member) → IsGone m → IsGone (member_after (reader.Polls clock) m)
 poll_gone clock m k =
-    ap (λ e. e.live) (counted_same (first_of m.seen.engine.unread) clock (record m.seen { engine = gives m.seen.engine })).0
-    ∙ gives_dead m.seen.engine k
+    ap (λ e. e.live) (counted_same (first_of m.seen.engine.unread) clock (record m.seen { engine = gives (reader.clocked clock m.seen.engine) })).0
+    ∙ gives_dead (reader.clocked clock m.seen.engine) k
 
 -- it is told of no loss, and no flow of it is due
 pub no_loss : (P : Notice → Type 0) (l : ℕ) (cause : Option Fault) (t : ℕ) (m : Member) → IsGone m → Each P (lost_at l cause t m)
@@ -201,24 +201,12 @@ no_due P t (Some m) k =
 
 -- ITS NUMBER stays
 
-pub either_number : (b : Bool) (v w : Seen) (n : ℕ) → v.number ≡ n → w.number ≡ n → (cond b v w).number ≡ n
-either_number true v w n p q = p
-either_number false v w n p q = q
-
-counted_number : (clock : ℕ) (i : Option Item) (v : Seen) → (counts_first clock i v).number ≡ v.number
-counted_number clock None v = refl
-counted_number clock (Some i) v = either_number (is_message i) (record v { received = capped (v.received + 1); last = Some clock }) v v.number refl refl
-
-pub polled_number : (clock : ℕ) (s : Seen) → (reader.after (reader.Polls clock) s).number ≡ s.number
-polled_number clock s = counted_number clock (first_of s.engine.unread) (record s { engine = gives s.engine })
-
-lives_number : (l : ℕ) (url : Parts) (s : Seen) → (reader.after (reader.Lives l url) s).number ≡ s.number
-lives_number l url s =
-    either_number (reader.is_ended s) s (record s { engine = record s.engine { live = Some (reader.subscribed s.engine.batch l url) } }) s.number refl refl
+pub after_number : (act : Act') (s : Seen) → (reader.after act s).number ≡ s.number
+after_number act s = ap (λ x. x.number) (same_after act s)
 
 pub subscribed_number : (l : ℕ) (url : Option Parts) (m : Member) → (consumer.subscribed_on l url m).seen.number ≡ m.seen.number
 subscribed_number l None m = refl
-subscribed_number l (Some url) m = lives_number l url m.seen
+subscribed_number l (Some url) m = after_number (reader.Lives l url) m.seen
 
 pub revived_number : (l : ℕ) (url : Option Parts) (m : Member) → (consumer.revived l url m).seen.number ≡ m.seen.number
 revived_number l url m = subscribed_number l url m

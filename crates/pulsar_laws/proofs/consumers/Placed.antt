@@ -21,7 +21,7 @@ use Rattle.pulsar_session.specs.declared.states.Asked.TheVariants as placed
 use Rattle.pulsar_session.specs.Link as session
 use Rattle.pulsar_session.specs.Link.{Seen, answer_of, fits, has_room, is_ready, message_of, place_in, ticked}
 use Rattle.pulsar_consumer.specs.Topic.{Asks, Live, asked, link_of, first_in, seen}
-use Rattle.pulsar_consumer.proofs.Histories.{raw_asks_for_nothing}
+use Rattle.pulsar_consumer.proofs.Granting.{raw_asks_for_nothing}
 use Rattle.pulsar_calls.specs.declared.act.Outcome.TheVariants as outcome
 use Rattle.pulsar_calls.specs.declared.act.Procedure.TheVariants as procedure
 use Rattle.pulsar_calls.specs.declared.act.Word.TheVariants as word

@@ -3,6 +3,7 @@ use Rattle.std.proofs.Common.{◌≡◌, ℕ, ◌∙◌, sym, ap, subst, List, [
 use Rattle.std.proofs.lemmas.Bool.{cases_Bool, eqb-true}
 use Rattle.std.proofs.lemmas.Bool.Decides.{nat_tests}
 use Rattle.std.proofs.lemmas.Grind.{common_steps}
+use Rattle.std.proofs.lemmas.List.{map-append}
 use Rattle.std.specs.List.{filter, flat_map}
 use Rattle.std.specs.Option.{is_some, option_map, option_to_list}
 use Rattle.pulsar_laws.proofs.ActWords.{Act, Arrival, Ask, Comes, Does, LinkAct, Polls, Shown, ToLink}
@@ -28,16 +29,19 @@ use Rattle.pulsar_laws.proofs.calls.Plain.{ArePlain, effects_plain, is_plain, tu
 use Rattle.pulsar_laws.proofs.calls.Ticketed.{consumer_ticket}
 use Rattle.url.specs.Parts.{Parts}
 use Rattle.pulsar_consumer.specs.Frames.{frame_in}
-use Rattle.pulsar_consumer.specs.Topic.{Act as Done, Lives, Hears, Loses, Fails, Ends as Over, Polls as Polled, Asks, Seen, Setup, first_of as first_item, lives_on, polled_from, seen}
-use Rattle.pulsar_consumer.specs.Laws.{given, given_by as given_in, item_in, left}
+use Rattle.pulsar_consumer.specs.Topic.{Act as Done, Lives, Hears, Loses, Fails, Ends as Over, Polls as Polled, Asks, IsAt, TakesCopy, IsCopied, FailsCopy, Stops, Forgets, Checks, Seen, Setup, first_of as first_item, is_pending, lives_on, over, polled_from, seen}
+use Rattle.pulsar_consumer.specs.Items as arrived
+use Rattle.pulsar_consumer.specs.Items.{Item as Arrived, handed}
+use Rattle.pulsar_consumer.specs.Laws.{given, given_by as given_in, left}
 use Rattle.pulsar_incoming.specs.declared.polled.Ending.{Ending}
 use Rattle.pulsar_incoming.specs.declared.polled.Ending.TheVariants.{Closed, TopicEnded}
 use Rattle.pulsar_incoming.specs.declared.polled.Polled.{Polled as Answer}
 use Rattle.pulsar_consumer.proofs.Histories.{polls_give_arrivals, polls_give_the_next}
+use Rattle.pulsar_consumer.proofs.Plain.{plain_gives_all}
 use Rattle.pulsar_consumer_table.specs.Consumers.{Arrives, ClientStops, CloseAsked, Deed, FlowTaken, IsPolled, IsSought, LinkEnds, Member, NotRevived, Revived, is_closed_by, polled, polled_so}
 use Rattle.pulsar_laws.specs.ConsumerLaws.{PollsAreAnswered, PollsFollow, arrival_does, does_to, done_to, frame_does, given_by, items_given, loss_does, made_with, shows_next, subscription_does}
 use Rattle.pulsar_laws.proofs.consumers.Deeds.{deed_does}
-use Rattle.pulsar_laws.proofs.consumers.Lone.{IsKept, IsMade, IsNone, RowFrom, StandsSo, begun_rows, consumers_alone_lem, did_so, row_from}
+use Rattle.pulsar_laws.proofs.consumers.Lone.{IsKept, IsMade, IsNone, RowFrom, StandsSo, begun_rows, consumers_alone_lem, did_so, made_plain, row_from}
 use Rattle.pulsar_laws.proofs.consumers.Members.{CameFrom}
 use Rattle.pulsar_consumer.specs.Topic as reader
 use Rattle.pulsar_incoming.specs.declared.polled.Polled.TheVariants as poll
@@ -203,6 +207,13 @@ mute_gives (Loses l) s h = refl
 mute_gives (Fails f) s h = refl
 mute_gives (Over why) s h = refl
 mute_gives Asks s h = refl
+mute_gives (IsAt clock) s h = refl
+mute_gives TakesCopy s h = refl
+mute_gives (IsCopied key clock) s h = refl
+mute_gives (FailsCopy key clock) s h = refl
+mute_gives Stops s h = refl
+mute_gives (Forgets id) s h = refl
+mute_gives (Checks clock) s h = refl
 
 mutes_give : (s : Setup) (xs h : List Done) → Each IsMute xs → given s (xs ++ h) ≡ given s h
 mutes_give s [] h k = refl
@@ -251,11 +262,12 @@ does_mute v t m a h = did_so (λ xs s. Each IsMute xs) (λ s. tt) (λ xs ys s q 
     one ClientStops c n = (tt, tt)
 
 -- an effect of a poll gives what the poll gives
-poll_item : (t : ℕ) (topic : List ℕ) (x : Answer) → given_by t (polled_so t topic x) ≡ item_in x
-poll_item t topic (poll.Item (Given id size metadata payload)) = let e : (t == t) ≡ true = eq-eqb t t refl in rw e refl
-poll_item t topic (poll.Item (Faulty f)) = let e : (t == t) ≡ true = eq-eqb t t refl in rw e refl
-poll_item t topic poll.Empty = refl
-poll_item t topic poll.End = refl
+poll_item : (t : ℕ) (topic : List ℕ) (item : Option Arrived) (why : Option Ending) →
+    given_by t (polled_so t topic (polled_from item why)) ≡ map handed (option_to_list item)
+poll_item t topic (Some (arrived.Given id payload)) why = let e : (t == t) ≡ true = eq-eqb t t refl in rw e refl
+poll_item t topic (Some (arrived.Faulty f)) why = let e : (t == t) ≡ true = eq-eqb t t refl in rw e refl
+poll_item t topic None None = refl
+poll_item t topic None (Some why) = refl
 
 other_item : (t u : ℕ) (topic : List ℕ) (x : Answer) → (t == u) ≡ false → given_by t (polled_so u topic x) ≡ []
 other_item t u topic (poll.Item (Given id size metadata payload)) e = rw e refl
@@ -268,7 +280,7 @@ other_item t u topic poll.End e = refl
 -- what was given is what its polls gave; where there is no consumer nothing was
 abbrev Given' : Options → List Entry → (ticket : ℕ) → Option Member → Type 0
 Given' o log t None = items_given t (steps o log) ≡ []
-Given' o log t (Some m) = (s : Setup) → made_with t log ≡ Some s → items_given t (steps o log) ≡ given s (done_to o t log)
+Given' o log t (Some m) = (s : Setup) → made_with o t log ≡ Some s → items_given t (steps o log) ≡ map handed (given s (done_to o t log))
 
 -- the newest step gives what the poll gives
 poll_given : (o : Options) (t u : ℕ) (m : Member) (log older : List Entry) → log ≡ Begins (Poll u) ∷ older →
@@ -297,10 +309,11 @@ module _ (once : EndsOnce) (o : Options) (t : ℕ) (un : is_spent t ≡ false) w
 
   -- what an act gives to its polls
   kept_given : (a : Act) (log : List Entry) (m : Member) → (view o log).consumers.rows t ≡ Some m → IsRun o (Then a ∷ log) → (s : Setup) →
-      m.seen ≡ seen s (done_to o t log) → items_given t (steps o log) ≡ given s (done_to o t log) → (b : Bool) → is_poll a ≡ b →
-      items_given t (steps o (Then a ∷ log)) ≡ given s (does_to (view o log) t m a ++ done_to o t log)
+      m.seen ≡ seen s (done_to o t log) → items_given t (steps o log) ≡ map handed (given s (done_to o t log)) → (b : Bool) → is_poll a ≡ b →
+      items_given t (steps o (Then a ∷ log)) ≡ map handed (given s (does_to (view o log) t m a ++ done_to o t log))
   kept_given a log m e run s is before false h =
-      given_same_at a log h ∙ before ∙ sym (mutes_give s (does_to (view o log) t m a) (done_to o t log) (does_mute (view o log) t m a h))
+      given_same_at a log h ∙ before
+      ∙ ap (map handed) (sym (mutes_give s (does_to (view o log) t m a) (done_to o t log) (does_mute (view o log) t m a h)))
   kept_given (Comes (Polls u)) log m e run s is before true h =
       let w = given_at_poll u log run in
       elim (cases_Bool (t == u)) [
@@ -308,21 +321,23 @@ module _ (once : EndsOnce) (o : Options) (t : ℕ) (un : is_spent t ≡ false) w
             (let tu : t ≡ u = eqb-true t u same in
             let own : Some w.0 ≡ Some m = sym w.1 ∙ ap (λ x. (view o log).consumers.rows x) (sym tu) ∙ e in
             let it : w.0 ≡ m = cc in
-            let gave : given_by t (polled u w.0) ≡ item_in (reader.polled (seen s (done_to o t log))) =
+            let first : Seen → List Arrived = λ (v : Seen). option_to_list (first_item v.engine.unread) in
+            let gave : given_by t (polled u w.0) ≡ map handed (first (seen s (done_to o t log))) =
             ap (λ x. given_by t (polled x w.0)) (sym tu)
-            ∙ poll_item t w.0.seen.topic (reader.polled w.0.seen)
-            ∙ ap (λ x. item_in (reader.polled x.seen)) it
-            ∙ ap (λ x. item_in (reader.polled x)) is in
+            ∙ poll_item t w.0.seen.topic (first_item w.0.seen.engine.unread) (over (is_pending w.0.seen.engine) w.0.seen.ended)
+            ∙ ap (λ (x : Member). map handed (first x.seen)) it
+            ∙ ap (λ x. map handed (first x)) is in
             w.2
             ∙ ap (λ x. items_given t (steps o log) ++ x) gave
-            ∙ ap (λ x. x ++ item_in (reader.polled (seen s (done_to o t log)))) before
-            ∙ ap (λ b. given s ((cond b (Polled (view o log).now ∷ []) []) ++ done_to o t log)) (sym same))
+            ∙ ap (λ x. x ++ map handed (first (seen s (done_to o t log)))) before
+            ∙ sym (map-append handed (given s (done_to o t log)) (first (seen s (done_to o t log))))
+            ∙ ap (λ b. map handed (given s ((cond b (Polled (view o log).now ∷ []) []) ++ done_to o t log))) (sym same))
         | inr other ↦
             (w.2
             ∙ ap (λ x. items_given t (steps o log) ++ x) (other_item t u w.0.seen.topic (reader.polled w.0.seen) other)
             ∙ append-nil (items_given t (steps o log))
             ∙ before
-            ∙ ap (λ b. given s ((cond b (Polled (view o log).now ∷ []) []) ++ done_to o t log)) (sym other))
+            ∙ ap (λ b. map handed (given s ((cond b (Polled (view o log).now ∷ []) []) ++ done_to o t log))) (sym other))
       ]
   kept_given a log m e run s is before true h = absurd cc
 
@@ -357,13 +372,15 @@ module _ (once : EndsOnce) (o : Options) (t : ℕ) (un : is_spent t ≡ false) w
   gives_on a log (IsMade s l e f how did) run g stands =
       subst (Given' o (Then a ∷ log) t) (sym f)
       (λ r how'. none_given a log e run (subst (Given' o log t) e g) (is_poll a) refl
-      ∙ sym (ap (given r) did ∙ made_given r l (url_at ((view o log).links.live l))))
+      ∙ sym (ap (λ h. map handed (given r h)) did ∙ ap (map handed) (made_given r l (url_at ((view o log).links.live l)))))
   gives_on a log (IsKept m e r how did) run g stands =
       let k = stands m e in
-      let was : (s : Setup) → made_with t log ≡ Some s → items_given t (steps o log) ≡ given s (done_to o t log) = subst (Given' o log t) e g in
+      let was : (s : Setup) → made_with o t log ≡ Some s → items_given t (steps o log) ≡ map handed (given s (done_to o t log)) =
+      subst (Given' o log t) e g in
       subst (Given' o (Then a ∷ log) t) (sym r.is_it)
       (λ s how'. let own : k.0 ≡ s = some_is (sym k.1 ∙ sym how ∙ how') in
-      kept_given a log m e run s (k.2 ∙ ap (λ x. seen x (done_to o t log)) own) (was s (sym how ∙ how')) (is_poll a) refl ∙ ap (given s) (sym did))
+      kept_given a log m e run s (k.2 ∙ ap (λ x. seen x (done_to o t log)) own) (was s (sym how ∙ how')) (is_poll a) refl
+      ∙ ap (λ h. map handed (given s h)) (sym did))
 
   gives : (log : List Entry) → IsRun o log → Given' o log t ((view o log).consumers.rows t)
   gives [] run = refl
@@ -378,10 +395,10 @@ module _ (once : EndsOnce) (o : Options) (t : ℕ) (un : is_spent t ≡ false) w
       (λ m e. consumers_alone_lem once o log t m run.0 e)
 
 -- and its effect is that of what is left, or of its end
-shows_left : (t : ℕ) (topic : List ℕ) (items : List Item) (why : Option Ending) →
-    polled_so t topic (polled_from (first_item items) why) ≡ shows_next t topic items why
-shows_left t topic (Given id size metadata payload ∷ items) why = refl
-shows_left t topic (Faulty fault ∷ items) why = refl
+shows_left : (t : ℕ) (topic : List ℕ) (items : List Arrived) (why : Option Ending) →
+    polled_so t topic (polled_from (first_item items) why) ≡ shows_next t topic (map handed items) why
+shows_left t topic (arrived.Given id payload ∷ items) why = refl
+shows_left t topic (arrived.Faulty fault ∷ items) why = refl
 shows_left t topic [] (Some why) = refl
 shows_left t topic [] None = refl
 
@@ -389,14 +406,20 @@ pub polls_follow_lem : EndsOnce → PollsFollow
 polls_follow_lem once o log t m run e =
     let k = consumers_alone_lem once o log t m run e in
     let h : List Done = done_to o t log in
-    let g : (s : Setup) → made_with t log ≡ Some s → items_given t (steps o log) ≡ given s h =
+    let g : (s : Setup) → made_with o t log ≡ Some s → items_given t (steps o log) ≡ map handed (given s h) =
     subst (Given' o log t) e (gives once o t (consumer_ticket o log t m run e) log run) in
+    let plain = plain_gives_all k.0 h (made_plain o t log k.0 k.1) in
     let next : reader.polled m.seen ≡ polled_from (first_item (left k.0 h)) m.seen.ended =
-    ap reader.polled k.2 ∙ polls_give_the_next k.0 h ∙ ap (λ x. polled_from (first_item (left k.0 h)) x.ended) (sym k.2) in (
+    ap reader.polled k.2
+    ∙ polls_give_the_next k.0 h
+    ∙ (λ i. polled_from (first_item (left k.0 h)) (over (plain.1 i) (seen k.0 h).ended))
+    ∙ ap (λ x. polled_from (first_item (left k.0 h)) x.ended) (sym k.2) in (
       k.0,
       left k.0 h,
       k.1,
-      ap (λ x. x ++ left k.0 h) (g k.0 k.1) ∙ polls_give_arrivals k.0 h,
+      ap (λ x. x ++ map handed (left k.0 h)) (g k.0 k.1)
+          ∙ sym (map-append handed (given k.0 h) (left k.0 h))
+          ∙ ap (map handed) (polls_give_arrivals k.0 h ∙ plain.0),
       next,
       ap (polled_so t m.seen.topic) next ∙ shows_left t m.seen.topic (left k.0 h) m.seen.ended,
     )

@@ -6,12 +6,12 @@ use Rattle.pulsar_laws.proofs.ActWords.{Act, Answers, Arrival, Call, Comes, Does
 use Rattle.pulsar_laws.proofs.RunWords.{after, Begins, begun, EndsOnce, Entry, IsRun, member_on, Options, Then, view, View}
 use Rattle.pulsar_laws.proofs.LinkWords.{closing, Failure, Fault, is_body, Reply, Seat, url_at}
 use Rattle.url.specs.Parts.{Parts}
-use Rattle.pulsar_frame.specs.Items.{Item}
 use Rattle.pulsar_session.specs.Link.{is_ready}
 use Rattle.pulsar_messages.specs.Claims.{is_spent}
 use Rattle.pulsar_consumer.specs.Frames.{Frame, failed, frame_in}
+use Rattle.pulsar_consumer.specs.Items.{Item}
 use Rattle.pulsar_consumer.specs.Topic as reader
-use Rattle.pulsar_consumer.specs.Topic.{Act as Done, Lives, Hears, Loses, Fails, Ends as Over, Polls as Polled, Asks, Engine, Live, Seen, Setup, asked, begins, finish, finishes, first_of, fresh, gives, gives_from, goes_on, half, hears as hears', is_ended, is_on, link_of, lives_on, no_items, places, subscribed}
+use Rattle.pulsar_consumer.specs.Topic.{Act as Done, Lives, Hears, Loses, Fails, Ends as Over, Polls as Polled, Asks, Engine, Live, Seen, Setup, asked, begins, finish, finishes, first_of, fresh, gives, gives_from, goes_on, half, hears as hears', is_ended, is_on, link_of, lives_on, is_finished, places, subscribed}
 use Rattle.pulsar_incoming.specs.declared.polled.Ending.{Ending}
 use Rattle.pulsar_incoming.specs.declared.polled.Ending.TheVariants.{Closed, LinkLost, NotSubscribed, Stopped, TopicEnded}
 use Rattle.pulsar_consumer.proofs.Held.{next_of}
@@ -55,13 +55,13 @@ asked_link None = refl
 asked_link (Some l) = refl
 
 goes_link : (fs : List Frame) (e : Engine) → link_in (goes_on fs e).live ≡ link_in e.live
-goes_link [] e = by (no_items e.rest)
+goes_link [] e = by (is_finished e)
   where
     by : (b : Bool) → link_in (cond b (finish e) e).live ≡ link_in e.live
     by true = finish_link e.batch e.live
     by false = refl
 goes_link (f ∷ fs) e =
-    by (no_items e.rest) (goes_link fs (next_of f fs e) ∙ begin_link f.weight (option_map (finishes e.batch) e.live) ∙ finish_link e.batch e.live)
+    by (is_finished e) (goes_link fs (next_of f fs e) ∙ begin_link f.weight (option_map (finishes e.batch) e.live) ∙ finish_link e.batch e.live)
   where
     by : (b : Bool) → link_in (goes_on fs (next_of f fs e)).live ≡ link_in e.live → link_in (cond b (goes_on fs (next_of f fs e)) e).live ≡ link_in e.live
     by true all = all
@@ -92,7 +92,7 @@ seen_either false v w s p q = q
 
 tame_hears : (l : ℕ) (f : Frame) (s : Seen) → Tame (Hears l f ∷ []) s
 tame_hears l f s =
-    seen_either (lives_on l s) (record s { engine = hears' f s.engine }) s s (λ k h. sym (hears_link f s.engine) ∙ h) (λ k h. h)
+    seen_either (lives_on l s) (reader.heard f s) s s (λ k h. sym (hears_link (reader.frame_for s f) s.engine) ∙ h) (λ k h. h)
 
 lost_link : (s : Seen) → link_of (reader.loses s) ≡ None
 lost_link s = elim s.is_raw as (λ b. link_of (cond b (reader.ends LinkLost s) (record s { engine = record s.engine { live = None } })) ≡ None)
@@ -118,8 +118,8 @@ tame_fails f s =
 
 tame_polled : (clock : ℕ) (s : Seen) → Tame (Polled clock ∷ []) s
 tame_polled clock s k h =
-    sym (ap (λ e. link_in e.live) (counted_same (first_of s.engine.unread) clock (record s { engine = gives s.engine })).0
-    ∙ gives_from_link s.engine.unread s.engine)
+    sym (ap (λ e. link_in e.live) (counted_same (first_of s.engine.unread) clock (record s { engine = gives (reader.clocked clock s.engine) })).0
+    ∙ gives_from_link s.engine.unread (reader.clocked clock s.engine))
     ∙ h
 
 tame_asks : (s : Seen) → Tame (Asks ∷ []) s
@@ -170,7 +170,7 @@ lives_link l url s k h = by (is_ended s) h
     on None = refl
     on (Some b) = refl
 
-    by : (b : Bool) → link_of (cond b s (record s { engine = record s.engine { live = Some (subscribed s.engine.batch l url) } })) ≡ Some k →
+    by : (b : Bool) → link_of (cond b s (record s { engine = reader.lives l url s.engine })) ≡ Some k →
         (link_of s ≡ Some k) ⊎ (k ≡ l)
     by true g = inl g
     by false g = inr (sym (some_is g) ∙ on s.engine.batch)
@@ -299,29 +299,31 @@ link_row : (k : ℕ) (row : Option Seat) (l : ℕ) → first_link (subscription_
 link_row k None l h = absurd (none_some h)
 link_row k (Some seat) l h = some_is h
 
-made_link : (live : ℕ → Option Seat) (m : Makes) (s : Setup) (l : ℕ) → made_as m ≡ Some s → making_does live m ≡ subscription_does l (url_at (live l)) →
+made_link : (live : ℕ → Option Seat) (key : ℕ) (m : Makes) (s : Setup) (l : ℕ) → made_as key m ≡ Some s →
+    making_does live m ≡ subscription_does l (url_at (live l)) →
     s.is_raw ≡ false → is_some (live l) ≡ true → (j : Joining) × (m ≡ makes.Consumer j) × (j.link ≡ l)
-made_link live (makes.Consumer j) s l how did raw alive =
+made_link live key (makes.Consumer j) s l how did raw alive =
     (j, refl, link_row j.link (live j.link) l (ap first_link did ∙ row_link l (live l) alive))
-made_link live (makes.RawConsumer k made) s l how did raw alive =
+made_link live key (makes.RawConsumer k made) s l how did raw alive =
     let f : true ≡ s.is_raw = ap (λ (x : Setup). x.is_raw) (some_is how) in let g : true ≡ false = f ∙ raw in absurd cc
-made_link live makes.Nothing s l how did raw alive = absurd (none_some how)
-made_link live makes.Client s l how did raw alive = absurd (none_some how)
-made_link live (makes.Producer b) s l how did raw alive = absurd (none_some how)
+made_link live key makes.Nothing s l how did raw alive = absurd (none_some how)
+made_link live key makes.Client s l how did raw alive = absurd (none_some how)
+made_link live key (makes.Producer b) s l how did raw alive = absurd (none_some how)
 
 module _ (o : Options) (log : List Entry) (t : ℕ) where
   -- only the verdict of its call makes it
   made_by : (a : Act) (s : Setup) (l : ℕ) (n : Member) → IsRun o (Then a ∷ log) → (view o log).consumers.rows t ≡ None →
-      (view o (Then a ∷ log)).consumers.rows t ≡ Some n → made_with t (Then a ∷ log) ≡ Some s →
+      (view o (Then a ∷ log)).consumers.rows t ≡ Some n → made_with o t (Then a ∷ log) ≡ Some s →
       done_to o t (Then a ∷ log) ≡ subscription_does l (url_at ((view o log).links.live l)) → s.is_raw ≡ false → IsLive (view o log) l → WasReady (view o log) l
   made_by (Answers who verdict) s l n run none is how did raw alive = elim (cases_Bool (is_same (Call t) who)) [
     | inl e ↦
-        (let how2 : made_as verdict.makes ≡ Some s = sym (ap (λ b. cond b (made_as verdict.makes) (made_with t log)) e) ∙ how in
+        (let how2 : made_as (view o log).consumers.next_key verdict.makes ≡ Some s =
+        sym (ap (λ b. cond b (made_as (view o log).consumers.next_key verdict.makes) (made_with o t log)) e) ∙ how in
         let did2 : making_does (view o log).links.live verdict.makes ≡ subscription_does l (url_at ((view o log).links.live l)) =
         sym (ap (λ r. done_since (view o log) t (Answers who verdict) r (done_to o t log)) none
         ∙ ap (λ b. cond b (making_does (view o log).links.live verdict.makes) (done_to o t log)) e)
         ∙ did in
-        let x = made_link (view o log).links.live verdict.makes s l how2 did2 raw alive in
+        let x = made_link (view o log).links.live (view o log).consumers.next_key verdict.makes s l how2 did2 raw alive in
         subst (WasReady (view o log)) x.2 (makes_ready o log who verdict x.0 run x.1))
     | inr e ↦
         absurd (none_some (sym (none_after (view o log) t (Answers who verdict)

@@ -45,13 +45,15 @@ module _ (once : EndsOnce) (o : Options) where
   made_row : (older : List Entry) (n t : ℕ) (k : IsMadeBy o older n t) → Numbered o n t older
   made_row log n t k =
       let v : View = view o k.older in
-      let it : Member = member_on v.links.live k.joining.link (setup_of k.joining) in
+      let it : Member = member_on v.links.live k.joining.link (setup_of v.consumers.next_key k.joining) in
       let rows : (view o (Then (Answers (Call t) k.verdict) ∷ k.older)).consumers.rows t ≡ Some it =
-      ap (λ x. row_made (member_made v.links.live x) (Call t) t (v.consumers.rows t)) k.made
+      ap (λ x. row_made (member_made v.links.live v.consumers.next_key x) (Call t) t (v.consumers.rows t)) k.made
       ∙ joins_here (Call t) it (v.consumers.rows t) t (same_self (Call t)) in (
         it,
         ap (λ y. (view o y).consumers.rows t) k.there ∙ rows,
-        subscribed_number k.joining.link (url_at (v.links.live k.joining.link)) (record { seen = fresh (setup_of k.joining); seekers = [] }) ∙ k.number,
+        subscribed_number k.joining.link (url_at (v.links.live k.joining.link))
+            (record { seen = fresh (setup_of v.consumers.next_key k.joining); seekers = [] })
+            ∙ k.number,
       )
 
   pub numbered_run : (log : List Entry) (n t : ℕ) (p : Plan) → IsRun o log → (view o log).stand (Consumer n t) ≡ Some p → Numbered o n t log

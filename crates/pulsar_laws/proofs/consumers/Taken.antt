@@ -4,7 +4,7 @@ use Rattle.std.proofs.lemmas.List.Sums.{sum_by-cons}
 use Rattle.std.specs.Option.{is_some, option_map}
 use Rattle.pulsar_messages.specs.Words as words
 use Rattle.pulsar_consumer.specs.Laws.{asked_since}
-use Rattle.pulsar_consumer.specs.Topic.{Act as Done, Lives, Hears, Loses, Fails, Ends as Over, Polls as Polled, Asks, Seen, Live, Setup, first_due, first_in, is_ended, link_of, lives_on, seen}
+use Rattle.pulsar_consumer.specs.Topic.{Act as Done, Lives, Hears, Loses, Fails, Ends as Over, Polls as Polled, Asks, IsAt, TakesCopy, IsCopied, FailsCopy, Stops, Forgets, Checks, Seen, Live, Setup, first_due, first_in, is_ended, link_of, lives_on, seen}
 use Rattle.pulsar_calls.specs.declared.act.Arrival.TheVariants as arrivals
 use Rattle.pulsar_calls.specs.declared.act.Outcome.TheVariants as outcome
 use Rattle.pulsar_calls.specs.declared.act.Word.TheVariants as word
@@ -46,6 +46,13 @@ taken_same s (Loses l ∷ xs) h e = taken_same s xs h e
 taken_same s (Fails f ∷ xs) h e = taken_same s xs h e
 taken_same s (Over why ∷ xs) h e = taken_same s xs h e
 taken_same s (Polled clock ∷ xs) h e = taken_same s xs h e
+taken_same s (IsAt clock ∷ xs) h e = taken_same s xs h e
+taken_same s (TakesCopy ∷ xs) h e = taken_same s xs h e
+taken_same s (IsCopied key clock ∷ xs) h e = taken_same s xs h e
+taken_same s (FailsCopy key clock ∷ xs) h e = taken_same s xs h e
+taken_same s (Stops ∷ xs) h e = taken_same s xs h e
+taken_same s (Forgets id ∷ xs) h e = taken_same s xs h e
+taken_same s (Checks clock ∷ xs) h e = taken_same s xs h e
 
 either_takes : (b : Bool) (xs ys : List Done) → takes_in xs ≡ false → takes_in ys ≡ false → takes_in (cond b xs ys) ≡ false
 either_takes true xs ys p q = p
@@ -74,6 +81,13 @@ none_takes (Loses l ∷ xs) ys p q = none_takes xs ys p q
 none_takes (Fails f ∷ xs) ys p q = none_takes xs ys p q
 none_takes (Over why ∷ xs) ys p q = none_takes xs ys p q
 none_takes (Polled clock ∷ xs) ys p q = none_takes xs ys p q
+none_takes (IsAt clock ∷ xs) ys p q = none_takes xs ys p q
+none_takes (TakesCopy ∷ xs) ys p q = none_takes xs ys p q
+none_takes (IsCopied key clock ∷ xs) ys p q = none_takes xs ys p q
+none_takes (FailsCopy key clock ∷ xs) ys p q = none_takes xs ys p q
+none_takes (Stops ∷ xs) ys p q = none_takes xs ys p q
+none_takes (Forgets id ∷ xs) ys p q = none_takes xs ys p q
+none_takes (Checks clock ∷ xs) ys p q = none_takes xs ys p q
 
 -- acts by which a flow is taken, or the first of a new subscription is due
 abbrev is_taker : Act → Bool
@@ -125,7 +139,7 @@ pending_next o log t a run k =
     let x = follows_next o log t run.0 (Some a) run.1 k in subst (Follows o log t) (sym (some_is x.1)) x.2
 
 abbrev Settled : Options → (ticket : ℕ) → List Entry → Type 0
-Settled o t log = (m : Member) (l : ℕ) (s : Setup) → (view o log).consumers.rows t ≡ Some m → link_of m.seen ≡ Some l → made_with t log ≡ Some s →
+Settled o t log = (m : Member) (l : ℕ) (s : Setup) → (view o log).consumers.rows t ≡ Some m → link_of m.seen ≡ Some l → made_with o t log ≡ Some s →
     (asked_since s (done_to o t log) ≤ permits_of (flows_since o t log)) ⊎ Pending o log t
 
 module _ (once : EndsOnce) (o : Options) (log : List Entry) (n t l m p : ℕ) (run : IsRun o (Then (Does (Consumer n t) (Ask l (words.SendFlow m p))) ∷ log))
@@ -134,7 +148,7 @@ module _ (once : EndsOnce) (o : Options) (log : List Entry) (n t l m p : ℕ) (r
     x = is_placed once o log n t l m p run
 
     -- a flow that is asked for is the one that was taken
-    asked_settled : Every (Settled o t) log → (s : Setup) → made_with t log ≡ Some s → asked_since s (done_to o t log) ≤ permits_of (flows_since o t log) + p
+    asked_settled : Every (Settled o t) log → (s : Setup) → made_with o t log ≡ Some s → asked_since s (done_to o t log) ≤ permits_of (flows_since o t log) + p
     asked_settled k s made =
         let r : IsRun o (Then (Told (told_so once o log n t l m p run.0 x)) ∷ Then (Does (Consumer n t) (OfConsumer TakeFlow)) ∷ x.older) = subst
         (IsRun o) x.is_behind run.0
@@ -144,7 +158,7 @@ module _ (once : EndsOnce) (o : Options) (log : List Entry) (n t l m p : ℕ) (r
         let link : link_of x.was_due.member.seen ≡ Some l = ap (option_map (λ (y : Live). y.link)) x.was_due.is_live ∙ ap Some x.was_due.on in
         let flows : permits_of (flows_since o t log) ≡ permits_of (flows_since o t x.older) = ap (λ y. permits_of (flows_since o t y)) x.is_behind in
         let taken = taken_then once o log n t l m p run.0 x s made in
-        elim (here (Settled o t) x.older e.1.1 x.was_due.member l s x.was_due.is_there link (sym (ap (made_with t) x.is_behind) ∙ made)) [
+        elim (here (Settled o t) x.older e.1.1 x.was_due.member l s x.was_due.is_there link (sym (ap (made_with o t) x.is_behind) ∙ made)) [
           | inl old ↦ omega (arith, old, flows, taken)
           | inr pending ↦ absurd (no_flow (pending_next o x.older t (Does (Consumer n t) (OfConsumer TakeFlow)) r.0 pending))
         ]
@@ -199,7 +213,7 @@ module _ (once : EndsOnce) (o : Options) (log : List Entry) (t : ℕ) (k : Every
   Goal a s m = (asked_since s (does_to v t m a ++ done_to o t log) ≤ permits_of (flows_after v t a fs)) ⊎ Pending o (Then a ∷ log) t
 
   -- none is taken by it, and none asked for
-  quiet_settled : (a : Act) (l : ℕ) (s : Setup) (m : Member) → LinkFrom o log a t l → v.consumers.rows t ≡ Some m → made_with t log ≡ Some s →
+  quiet_settled : (a : Act) (l : ℕ) (s : Setup) (m : Member) → LinkFrom o log a t l → v.consumers.rows t ≡ Some m → made_with o t log ≡ Some s →
       ((who : Who) (j : ℕ) → a ≡ Does who (OfConsumer (Revive j)) → (t == ticket_of who && is_some (v.links.live j)) ≡ true → ⊥) →
       takes_in (does_to v t m a) ≡ false → flows_after v t a fs ≡ fs → (Pending o log t → Pending o (Then a ∷ log) t) → Goal a s m
   quiet_settled a l s m (inl (was, e, on)) is made old none same next = elim (here (Settled o t) log k was l s e on made) [
@@ -218,7 +232,7 @@ module _ (once : EndsOnce) (o : Options) (log : List Entry) (t : ℕ) (k : Every
   -- one is taken
   took_settled : (w : Who) (l : ℕ) (s : Setup) (m : Member) → IsRun o (Then (Does w (OfConsumer TakeFlow)) ∷ log) →
       LinkFrom o log (Does w (OfConsumer TakeFlow)) t l →
-      v.consumers.rows t ≡ Some m → made_with t log ≡ Some s → (t == ticket_of w) ≡ true → Goal (Does w (OfConsumer TakeFlow)) s m
+      v.consumers.rows t ≡ Some m → made_with o t log ≡ Some s → (t == ticket_of w) ≡ true → Goal (Does w (OfConsumer TakeFlow)) s m
   took_settled w l s m run from is made d =
       let x = flow_takers o log w run in
       by x.0 x.1 x.2 (eqb-true t x.1 (ap (λ y. t == ticket_of y) (sym x.2) ∙ d)) (flow_at (v.consumers.rows t)) refl
@@ -270,7 +284,7 @@ module _ (once : EndsOnce) (o : Options) (log : List Entry) (t : ℕ) (k : Every
 
   -- it is subscribed again
   revived_settled : (who : Who) (j l : ℕ) (s : Setup) (m n : Member) → IsRun o (Then (Does who (OfConsumer (Revive j))) ∷ log) → v.consumers.rows t ≡ Some m →
-      made_with t log ≡ Some s → n.seen ≡ applied (does_to v t m (Does who (OfConsumer (Revive j)))) m.seen → link_of n.seen ≡ Some l → (row : Option Seat) →
+      made_with o t log ≡ Some s → n.seen ≡ applied (does_to v t m (Does who (OfConsumer (Revive j)))) m.seen → link_of n.seen ≡ Some l → (row : Option Seat) →
       v.links.live j ≡ row → (t == ticket_of who) ≡ true → is_some row ≡ true →
       asked_since s (does_to v t m (Does who (OfConsumer (Revive j))) ++ done_to o t log) ≡ 0
   revived_settled who j l s m n run is made seen_so on None e d alive = absurd cc
@@ -287,7 +301,7 @@ module _ (once : EndsOnce) (o : Options) (log : List Entry) (t : ℕ) (k : Every
           let c = consumers_alone_lem once o log t m run.0 is in
           let same : n.seen ≡ m.seen =
           seen_so ∙ ap (λ xs. applied xs m.seen) does
-          ∙ ap (λ b. cond b m.seen (record m.seen { engine = record m.seen.engine { live = Some (reader.subscribed m.seen.engine.batch j url) } })) ended in
+          ∙ ap (λ b. cond b m.seen (record m.seen { engine = reader.lives j url m.seen.engine })) ended in
           absurd (gone m.seen.ended refl c.0 c.2 (ap link_of (sym same) ∙ on) ended)
         where
           gone : (w : Option Ending) → m.seen.ended ≡ w → (s : Setup) → m.seen ≡ seen s (done_to o t log) → link_of m.seen ≡ Some l → is_ended m.seen ≡ true → ⊥
@@ -307,7 +321,7 @@ module _ (once : EndsOnce) (o : Options) (log : List Entry) (t : ℕ) (k : Every
   revives_takes m j false row h = refl
 
   kept_settled : (a : Act) (l : ℕ) (s : Setup) (m n : Member) → IsRun o (Then a ∷ log) → LinkFrom o log a t l → v.consumers.rows t ≡ Some m →
-      made_with t log ≡ Some s → n.seen ≡ applied (does_to v t m a) m.seen → link_of n.seen ≡ Some l → Goal a s m
+      made_with o t log ≡ Some s → n.seen ≡ applied (does_to v t m a) m.seen → link_of n.seen ≡ Some l → Goal a s m
   kept_settled (Comes (ToLink j Reads)) l s m n run from is made seen_so on =
       quiet_settled (Comes (ToLink j Reads)) l s m from is made (λ w i e f. absurd cc) (other_takes v t (Comes (ToLink j Reads)) refl m) refl
       (never (Comes (ToLink j Reads)) run refl)
@@ -376,7 +390,7 @@ module _ (once : EndsOnce) (o : Options) (log : List Entry) (t : ℕ) (k : Every
       quiet_settled a l s m from is made (λ w i e f. absurd cc) (other_takes v t a refl m) refl (never a run refl)
 
   row_settled : (a : Act) → IsRun o (Then a ∷ log) → (n : Member) (l : ℕ) (s : Setup) → (view o (Then a ∷ log)).consumers.rows t ≡ Some n →
-      link_of n.seen ≡ Some l → made_with t (Then a ∷ log) ≡ Some s → LinkFrom o log a t l → RowFrom o log a t →
+      link_of n.seen ≡ Some l → made_with o t (Then a ∷ log) ≡ Some s → LinkFrom o log a t l → RowFrom o log a t →
       (asked_since s (done_to o t (Then a ∷ log)) ≤ permits_of (flows_after v t a fs)) ⊎ Pending o (Then a ∷ log) t
   row_settled a run n l s is on made from (IsNone e f) = absurd (none_some (sym f ∙ is))
   row_settled a run n l s is on made from (IsMade s2 l2 e f how did) =

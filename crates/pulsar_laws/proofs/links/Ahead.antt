@@ -35,7 +35,7 @@ use Rattle.pulsar_run.specs.Things.{row_after, row_by}
 use Rattle.pulsar_acts.specs.Effects.{effects, retries_on}
 use Rattle.pulsar_acts.specs.Reading.{made_due, tells}
 use Rattle.pulsar_acts.specs.Rules.{breaks_at, failed_on, idle_act, keeps_alive, reads_on, served_on, waiters_of}
-use Rattle.pulsar_acts.specs.View.{addresses_after, alarms_after, alarms_on, base_on, calls_after, consumers_after, consumers_left, consumers_listed, member_made, member_of, pause_for, pause_on, producers_after, room_on, stand_after, started_after}
+use Rattle.pulsar_acts.specs.View.{addresses_after, alarms_after, alarms_on, base_on, consumers_after, consumers_left, consumers_listed, member_made, member_of, pause_for, pause_on, producers_after, room_on, started_after}
 use Rattle.pulsar_consumer.specs.Topic.{of_raw}
 use Rattle.pulsar_consumer_table.specs.Consumers as consumer
 use Rattle.pulsar_consumer_table.specs.Consumers.{Revived, member_by, over_rows}
@@ -304,8 +304,8 @@ module _ (l : ℕ) (bytes : List ℕ) (v : View) where
   parts_same advice (content.SendAll t ms) = shares_same (why_no_sends v.calls v.producers t) advice t ms
   parts_same advice asked = refl
 
-  made_same : (who : Who) (m : Makes) → made_due row who m ≡ made_due v.links.live who m
-  made_same who (makes.Consumer j) = ap (λ url. due_to (ticket_of who) (consumer.member_of (setup_of j) j.link url)) (url_same j.link)
+  made_same : (who : Who) (m : Makes) → made_due row v.consumers.next_key who m ≡ made_due v.links.live v.consumers.next_key who m
+  made_same who (makes.Consumer j) = ap (λ url. due_to (ticket_of who) (consumer.member_of (setup_of v.consumers.next_key j) j.link url)) (url_same j.link)
   made_same who m = refl
 
   rings_ruled : (a : Alarm) → ruled other (Comes (Rings a)) ≡ ruled v (Comes (Rings a))
@@ -414,11 +414,7 @@ module _ (l : ℕ) (bytes later : List ℕ) (v : View) where
       consumers_after (other l bytes v) a ≡ consumers_after v a → producers_after (other l bytes v) a ≡ producers_after v a →
       after a (other l bytes v) ≡ other l later (after a v)
   after_by a live known alarms cs ps =
-      λ i. record {
-        chosen = v.chosen;
-        now = v.now;
-        stand = λ w. stand_after a w (v.stand w);
-        calls = calls_after a v.calls;
+      λ i. record (after a v) {
         links = record { started = started_after a v.links.started; live = λ k. live k i };
         addresses = known i;
         alarms = alarms i;
@@ -480,8 +476,8 @@ module _ (l : ℕ) (bytes : List ℕ) (v : View) where
       (λ seat. ap (λ c. consumer.all_changed (consumer.loses_by k c) v.consumers) (closed_same bytes end v.now seat.seen)) k
   heard_same k x h = refl
 
-  made_so : (m : Makes) → member_made there.links.live m ≡ member_made v.links.live m
-  made_so (makes.Consumer j) = ap (λ url. Some (consumer.member_of (setup_of j) j.link url)) (url_same l bytes v j.link)
+  made_so : (m : Makes) → member_made there.links.live v.consumers.next_key m ≡ member_made v.links.live v.consumers.next_key m
+  made_so (makes.Consumer j) = ap (λ url. Some (consumer.member_of (setup_of v.consumers.next_key j) j.link url)) (url_same l bytes v j.link)
   made_so (makes.RawConsumer k made) = ap (λ url. Some (consumer.member_of (of_raw made) k url)) (url_same l bytes v k)
   made_so m = refl
 

@@ -22,7 +22,7 @@ use Rattle.pulsar_consumer_table.specs.Consumers as consumer
 use Rattle.pulsar_consumer_table.specs.Consumers.{Member, at_row, over_rows}
 use Rattle.pulsar_consumer_table.specs.Notices.{heard_at}
 use Rattle.pulsar_acts.specs.Rules.{breaks_at, reads_on, served_on, waiters_of}
-use Rattle.pulsar_acts.specs.View.{alarms_on, base_on, calls_after, pause_on, stand_after}
+use Rattle.pulsar_acts.specs.View.{alarms_on, base_on, pause_on}
 use Rattle.pulsar_laws.proofs.links.Ahead.{Ruled, only, ruled}
 use Rattle.pulsar_acts.proofs.Linking.{took_is}
 
@@ -143,16 +143,11 @@ module _ (l : ℕ) where
         ∙ sym (took_is v l Reads k)
 
     pub again_after : after R told ≡ after R v
-    again_after = λ i. record {
-      chosen = v.chosen;
-      now = v.now;
-      stand = λ w. stand_after R w (v.stand w);
-      calls = calls_after R v.calls;
+    again_after = λ i. record (after R v) {
       links = record { started = v.links.started; live = λ k. rows_same k i };
       addresses = record { base = λ key. base_on (turned_same i) key (v.addresses.base key); pause = λ m. pause_on (turned_same i) m (v.addresses.pause m) };
       alarms = alarms_on v.chosen v.now (turned_same i) v.alarms;
       consumers = consumer.all_changed (consumer.hears l (arrival_same i)) v.consumers;
-      producers = v.producers;
     }
 
     -- NOTHING CAME OF IT
@@ -194,11 +189,7 @@ module _ (l : ℕ) where
           left_ping (Some p) = ap (λ c. ping_left (settled_in c) (Some p)) nothing
 
       pub none_after : after R v ≡ moved l (clocked v.now) v
-      none_after = λ i. record {
-        chosen = v.chosen;
-        now = v.now;
-        stand = λ w. v.stand w;
-        calls = v.calls;
+      none_after = λ i. record (after R v) {
         links =
             record {
               started = v.links.started;
@@ -207,7 +198,6 @@ module _ (l : ℕ) where
         addresses = record { base = λ key. base_same key i; pause = λ m. pause_same m i };
         alarms = ap (λ t. alarms_on v.chosen v.now t v.alarms) turned_none i;
         consumers = consumers_same i;
-        producers = v.producers;
       }
 
       no_words : (t : ℕ) (row : Option Member) → flat_map (heard_at l Nothing t) (option_to_list row) ≡ []

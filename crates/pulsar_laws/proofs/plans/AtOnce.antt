@@ -21,30 +21,13 @@ use Rattle.pulsar_consumer_table.specs.declared.row.LinkAnswer.TheVariants.{Foun
 use Rattle.pulsar_consumer_table.specs.declared.numbers.Numbering.{Numbering}
 use Rattle.pulsar_consumer_table.specs.declared.numbers.Numbering.TheVariants.{Has, InUse, Spent}
 use Rattle.pulsar_client.proofs.Raising.{IsRaised}
+use Rattle.pulsar_laws.specs.Laws.{GrantsSo}
 use Rattle.pulsar_laws.proofs.Cases.{cond_so}
 use Rattle.pulsar_acts.specs.View.{asked_of}
 
--- what a topic producer grants, by what is granted
-abbrev pub TopicGives : View → (number : ℕ) → News → TopicAsk → Type 0
-TopicGives v n (news.HasTurn version) TakeTurn = turn_taken (v.producers.topics n) ≡ Some version
-TopicGives v n (news.Drew d) Draw = (room : Bool) × (room_of v n ≡ Some room) × (drawn room (v.producers.topics n) ≡ Some d)
-TopicGives v n (news.Recalled c) Recall = recalled v.producers n ≡ Some c
-TopicGives v n (news.HasBatch items) TakeBatch = next_batch_at (v.producers.topics n) ≡ items
-TopicGives v n news.Done PassTurn = Unit {0}
-TopicGives v n news.Done (Remake r) = Unit {0}
-TopicGives v n news.Done (Store entry) = Unit {0}
-TopicGives v n news.Done Flush = is_settled_at (v.producers.topics n) ≡ true
-TopicGives v n y ask = ⊥
-
 -- an action grants just this
 abbrev pub GivenBy : View → Action → News → Type 0
-GivenBy v (OfTopic n ask) y = TopicGives v n y ask
-GivenBy v Number (news.Numbered n) = number_drawn v.producers ≡ Some n
-GivenBy v (Hold l n) news.Done = Unit {0}
-GivenBy v (Shut t) news.Done = Unit {0}
-GivenBy v (Tell n) news.Done = Unit {0}
-GivenBy v (TellAll ns) news.Done = Unit {0}
-GivenBy v action n = ⊥
+GivenBy v action n = GrantsSo n action v
 
 abbrev pub SaysSo : View → Action → Outcome → Type 0
 SaysSo v action (outcome.Granted n) = GivenBy v action n
@@ -126,14 +109,12 @@ module _ (v : View) (who : Who) where
 
   ask_once : (n : ℕ) (ask : TopicAsk) → AtOnce v who (OfTopic n ask) (says_to who (asked_of v who n ask).says)
   ask_once n TakeTurn = turns_once n (v.producers.topics n) refl
-  ask_once n PassTurn = says tt refl
   ask_once n Draw = draws_once n (room_of v n) refl
   ask_once n Recall = recalls_once n (recalled v.producers n) refl
-  ask_once n (Remake r) = says tt refl
   ask_once n Find = finds_once n (link_at (v.producers.topics n))
-  ask_once n (Store entry) = says tt refl
   ask_once n Flush = flushes_once n (is_settled_at (v.producers.topics n)) refl
   ask_once n TakeBatch = says refl refl
+  ask_once n _ = says tt refl
 
   pub performs_once : (action : Action) → AtOnce v who action (performs v who action)
   performs_once (Get p) =
@@ -143,17 +124,12 @@ module _ (v : View) (who : Who) where
   performs_once (Wait delay) = nothing
   performs_once (OfTopic n ask) = ask_once n ask
   performs_once Number = numbers_once (number_drawn v.producers) refl
-  performs_once (Hold l n) = says tt refl
-  performs_once (Shut t) = says tt refl
   performs_once (TakeNumber wanted) = numbering_once wanted (consumer.numbering v.consumers wanted)
   performs_once (OfConsumer (FindConsumer t)) = sought_once t (consumer.sought (v.consumers.rows t))
-  performs_once (OfConsumer TakeFlow) = says tt refl
   performs_once (OfConsumer RecallConsumer) = command_once (consumer.recalled (v.consumers.rows (ticket_of who)))
-  performs_once (OfConsumer (Revive l)) = says tt refl
-  performs_once (OfConsumer (FailConsumer f)) = says tt refl
-  performs_once (Tell n) = says tt refl
-  performs_once (TellAll ns) = says tt refl
+  performs_once (OfConsumer _) = says tt refl
   performs_once Rest = nothing
+  performs_once _ = says tt refl
 
 -- so of each act that it gives
 pub once_each : {v : View} {who : Who} {action : Action} {xs : List Act} (P : Act → Type 0) →

@@ -246,6 +246,15 @@ module _ (p : Procedure) (all : List Outcome) where
   with_failure : (f : Failure) → FailsSo p all f → TurnHolds (fails_with f)
   with_failure f k = says_failed f k
 
+  -- a plan goes on in what it keeps, or it fails with what it was told
+  abbrev IsPlain : Plan → Outcome → PlanTransition → Type 1
+  IsPlain x u (Stays q a) = (P : Type 0 → Type 0) → P (Holds x) → P (Holds q)
+  IsPlain x u (Gives v) = (P : Verdict → Type 0) → P (fails (fault_of u)) → P v
+
+  plain_holds : (x : Plan) (u : Outcome) (t : PlanTransition) → IsPlain x u t → Holds x → In u all → TurnHolds t
+  plain_holds x u (Stays q a) same k i = same (λ T. T) k
+  plain_holds x u (Gives v) same k i = same (λ y. Says y.said) (told_so u i)
+
   -- A SEARCH
 
   turns_so : (w : Ways) (u : Outcome) (f : Failure) → ways_in p ≡ Some w → In u all → Turns w (news_in u) f → FailsSo p all f
@@ -499,23 +508,12 @@ module _ (p : Procedure) (all : List Outcome) where
   server_says (ends x n) h = (let f : true ≡ false = sym h ∙ n in absurd cc)
   server_says _ h = absurd cc
 
-  departing_holds : (t n : ℕ) (u : Outcome) → p ≡ procedure.Leave t n → In u all → TurnHolds (in_departing t n u)
-  departing_holds t n (GotLink link) is i = ap number_in is
-  departing_holds t n (outcome.Word word.Again) is i = is
-  departing_holds t n (outcome.Word word.Closed) is i = with_failure (OfConsumer ConsumerClosed) (IsClosed t n is i refl)
-  departing_holds t n (outcome.Word x) is i = told_so (outcome.Word x) i
-  departing_holds t n u is i = told_so u i
-
   told_holds : (plan : Plan) (u : Outcome) → Holds plan → In u all → is_proper u ≡ true → TurnHolds (told plan u)
   told_holds Building (GotLink link) k i proper = says_done
-  told_holds Building u k i proper = told_so u i
   told_holds (Getting request s) (GotLink link) k i proper = k
-  told_holds (Getting request s) u k i proper = told_so u i
   told_holds (Asking w) Queued k i proper = cond_so TurnHolds (is_answered w.number) (Stays (Awaiting w) Rest) (Gives (verdict Nothing Done)) k says_done
   told_holds (Asking w) InLine k i proper = cond_so TurnHolds (is_answered w.number) (Stays (Asking w) Rest) (Gives (verdict Nothing Done)) k says_done
-  told_holds (Asking w) u k i proper = told_so u i
   told_holds (Awaiting w) (Replied r) k i proper = λ f h. IsAnswered r w.number w.says i k h
-  told_holds (Awaiting w) u k i proper = told_so u i
   told_holds (Searching w s) Queued k i proper = k
   told_holds (Searching w s) InLine k i proper = k
   told_holds (Searching w s) Cut k i proper = told_so Cut i
@@ -539,9 +537,7 @@ module _ (p : Procedure) (all : List Outcome) where
   told_holds (Leaving f) u k i proper = with_failure f k
   told_holds (Gathering first count left failures) (Parted ticket f) k i proper =
       gathers_hold first count (left - 1) (failed_with ticket f failures) k.0 (failed_more ticket f failures i k.1)
-  told_holds (Gathering first count left failures) u k i proper = told_so u i
   told_holds (Shutting numbers) (Granted granting.Done) k i proper = round_holds Closes numbers k
-  told_holds (Shutting numbers) u k i proper = told_so u i
   told_holds (Visiting r n left x) u k i proper =
       cond_so TurnHolds (overrides u) (Gives (fails (fault_of u))) (told_at r n left x u) (told_so u i) (visits_hold r n left x u k i)
   told_holds (Subscribing w o b) u k i proper =
@@ -549,9 +545,10 @@ module _ (p : Procedure) (all : List Outcome) where
       (subscribing_holds w o b u k.0 k.1 i)
   told_holds (Serving w n s) u k i proper = by_arcs TurnHolds (Serving w n s) u (λ q a e. server_holds q e refl) (λ v e. server_says e refl)
   told_holds Acknowledging u k i proper = says_done
-  told_holds (Departing t n) u k i proper = departing_holds t n u k i
+  told_holds (Departing t n) (GotLink link) k i proper = ap number_in k
+  told_holds (Departing t n) (outcome.Word word.Closed) k i proper = with_failure (OfConsumer ConsumerClosed) (IsClosed t n k i refl)
   told_holds Stopping Stopped k i proper = says_done
-  told_holds Stopping u k i proper = told_so u i
+  told_holds x u k i proper = plain_holds x u (told x u) (λ P h. h) k i
 
   no_action : (m : Makes) (f : Failure) (action : Action) → Fails m f ≡ Acted action → ⊥
   no_action m f action h = cc
@@ -606,7 +603,6 @@ begins_holds (procedure.Gather first count) all is = gathers_hold (procedure.Gat
 begins_holds (procedure.Go Checks numbers) all is = round_holds (procedure.Go Checks numbers) all Checks numbers tt
 begins_holds (procedure.Go Flushes numbers) all is = round_holds (procedure.Go Flushes numbers) all Flushes numbers tt
 begins_holds (procedure.Go Closes numbers) all is = absurd is
-begins_holds (procedure.Close ticket numbers) all is = refl
 begins_holds (procedure.Subscribe w o) all is =
     building_holds (procedure.Subscribe w o) all w o (consume.build_begins w o) refl
     (building_begins_so (FailsSo (procedure.Subscribe w o) all) w all o (several_so (procedure.Subscribe w o) all w o refl))
@@ -614,5 +610,5 @@ begins_holds (procedure.Subscribe w o) all is =
 begins_holds (procedure.Serve w n) all is = tt
 begins_holds (procedure.Acknowledge None request) all is = says_done (procedure.Acknowledge None request) all
 begins_holds (procedure.Acknowledge (Some l) request) all is = tt
-begins_holds (procedure.Leave t n) all is = refl
 begins_holds (procedure.Refuse r) all is = says_failed (procedure.Refuse r) all (failure_of r) (IsRefused r refl refl)
+begins_holds _ all is = refl

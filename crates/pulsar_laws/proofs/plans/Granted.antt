@@ -18,6 +18,7 @@ use Rattle.pulsar_laws.proofs.plans.AtOnce.{AtOnce, dials, does_it, is_notice, i
 pub use Rattle.pulsar_laws.proofs.plans.AtOnce.{GivenBy, GivesSo, SaysSo}
 use Rattle.pulsar_laws.proofs.Cases.{cond_so}
 use Rattle.pulsar_laws.specs.Laws.{Acted}
+use Rattle.pulsar_outgoing.specs.declared.multi_topic.Taker.{Taker}
 use Rattle.pulsar_producer.specs.Topic as topic
 use Rattle.pulsar_producer_table.specs.Producers.{is_woken, numbers_at, stored_by, turn_passed, unsent, waiting}
 use Rattle.pulsar_acts.specs.Rules.{caused, failed_by, failed_on, served_on, stopped_one, stopped_with, waiters_of, woken}
@@ -367,7 +368,7 @@ JoinSo (Does who (Tell n)) m = is_said m.outcome ≡ true
 JoinSo (Does who (TellAll ns)) m = is_settling m.outcome ≡ true
 JoinSo _ m = IsCaused m
 
-passed_so : (n : ℕ) (r : Option (ℕ × Option (List ℕ))) → Each IsPassed (option_to_list (option_map (turn_notice n) r))
+passed_so : (n : ℕ) (r : Option (Taker × Option (List ℕ))) → Each IsPassed (option_to_list (option_map (turn_notice n) r))
 passed_so n None = tt
 passed_so n (Some next) = ((refl, refl), tt)
 

@@ -53,9 +53,12 @@ MildNews (news.Recalled c) = IsMildCommand c
 MildNews _ = Unit {0}
 
 -- what it asks for
+abbrev pub asks_ack : Action → Bool
+asks_ack (Ask l request) = is_ack request
+asks_ack _ = false
+
 abbrev pub IsMild : Action → Type 0
-IsMild (Ask l request) = is_ack request ≡ false
-IsMild _ = Unit {0}
+IsMild a = asks_ack a ≡ false
 
 -- by what a search asks for
 asks_so : {S A : Type 0} {q : S} {l : ℕ} {request : Words} (P : S → Type 0) (t : SearchTransition S A) → MildTurn P t →
@@ -63,21 +66,20 @@ asks_so : {S A : Type 0} {q : S} {l : ℕ} {request : Words} (P : S → Type 0) 
 asks_so {request} P t k e = own_ack request (subst (MildTurn P) e k).1
 
 send_mild : {w : Ways} {e : Errand} {s q : Send} {y : News} {d : Deed} → SendArc w e s y q d → MildSend s → MildNews y → MildSend q × IsMild (action_of d)
-send_mild asks k h = (tt, refl)
-send_mild (recalled_looks_gets i) k h = (h, tt)
+send_mild (recalled_looks_gets i) k h = (h, refl)
 send_mild {w} (recalled_looks_asks i) k h = (h, asks_so Any (search.look_begins w) (tt, tt) i)
-send_mild (recalled_looks_waits i) k h = (h, tt)
-send_mild recalled_makes k h = (h, tt)
-send_mild (looks_on_gets i) k h = (k, tt)
+send_mild (recalled_looks_waits i) k h = (h, refl)
+send_mild recalled_makes k h = (h, refl)
+send_mild (looks_on_gets i) k h = (k, refl)
 send_mild {w} (looks_on_asks {c} {s} {o} i) k h = (k, asks_so Any (search.look_told w c.topic s o) (look_mild w c.topic s o) i)
-send_mild (looks_on_waits i) k h = (k, tt)
-send_mild looked_makes k h = (k, tt)
-send_mild looking_rests k h = (k, tt)
-send_mild (makes_on_gets i) k h = (k, tt)
+send_mild (looks_on_waits i) k h = (k, refl)
+send_mild looked_makes k h = (k, refl)
+send_mild looking_rests k h = (k, refl)
+send_mild (makes_on_gets i) k h = (k, refl)
 send_mild {w} (makes_on_asks {c} {s} {o} i) k h = (k, asks_so Any (search.made_told w c s o) (made_mild w c s o k) i)
-send_mild (makes_on_waits i) k h = (k, tt)
-send_mild making_rests k h = (k, tt)
-send_mild _ k h = (tt, tt)
+send_mild (makes_on_waits i) k h = (k, refl)
+send_mild making_rests k h = (k, refl)
+send_mild _ k h = (tt, refl)
 
 -- A BUILDING
 
@@ -89,15 +91,12 @@ MildBuild (build.Closing left f) = Unit {0}
 
 build_mild : {w : Ways} {o : ProducerOrder} {b q : Build} {y : News} {d : Deed} → BuildArc w o b y q d → MildBuild b → MildBuild q × IsMild (action_of d)
 build_mild {w} {o} (names_on_asks {n} {x} i) h = (tt, asks_so Any (search.names_told w o.topic n x) (names_mild w o.topic n x) i)
-build_mild numbered_makes h = (refl, tt)
-build_mild (numbered_closes b e) h = (tt, refl)
-build_mild (builds_on_gets i) h = (h, tt)
+build_mild numbered_makes h = (refl, refl)
+build_mild (builds_on_gets i) h = (h, refl)
 build_mild {w} (builds_on_asks {c} {s} {x} i) h = (h, asks_so Any (search.made_told w c s x) (made_mild w c s x h) i)
-build_mild (builds_on_waits i) h = (h, tt)
-build_mild built_closes h = (tt, refl)
-build_mild building_rests h = (h, tt)
-build_mild closes_on h = (tt, refl)
-build_mild _ h = (tt, tt)
+build_mild (builds_on_waits i) h = (h, refl)
+build_mild building_rests h = (h, refl)
+build_mild _ h = (tt, refl)
 
 -- A CONSUMER IS BUILT, AND SUBSCRIBED AGAIN
 
@@ -192,7 +191,7 @@ news_mild _ h = tt
 batch_mild : {w : Ways} {e : Errand} {b q : Batches} {y : News} {d : Deed} → BatchArc w e b y q d → MildBatch b → MildNews y →
     MildBatch q × IsMild (action_of d)
 batch_mild (batch_sends e) k h = send_mild e k h
-batch_mild _ k h = (tt, tt)
+batch_mild _ k h = (tt, refl)
 
 asks_mild : (r : Round) (n : ℕ) → is_ack (asks_of r n) ≡ false
 asks_mild Checks n = refl
@@ -206,34 +205,30 @@ built_so w o b y h e = subst MildConsumers e (consumer_mild w o b y h)
 
 arc_mild : {p q : Plan} {u : Outcome} {a : Action} → Arc p u q a → MildPlan p → MildNews (news_of u) → MildOutcome u → IsMildTurn q a
 arc_mild got_asks k y h = (tt, k)
-arc_mild search_rests k y h = (k, tt)
-arc_mild (searches_gets {w} {s} {u} i) k y h = ((subst (MildTurn MildSearch) i (search_mild w s (news_in u) k)).0, tt)
+arc_mild search_rests k y h = (k, refl)
+arc_mild (searches_gets {w} {s} {u} i) k y h = ((subst (MildTurn MildSearch) i (search_mild w s (news_in u) k)).0, refl)
 arc_mild (searches_asks {w} {s} {u} {request} i) k y h = let f = subst (MildTurn MildSearch) i (search_mild w s (news_in u) k) in (f.0, own_ack request f.1)
-arc_mild (searches_waits {w} {s} {u} i) k y h = ((subst (MildTurn MildSearch) i (search_mild w s (news_in u) k)).0, tt)
+arc_mild (searches_waits {w} {s} {u} i) k y h = ((subst (MildTurn MildSearch) i (search_mild w s (news_in u) k)).0, refl)
 arc_mild (builds_on d e) k y h = build_mild e k
 arc_mild (sends d e) k y h = send_mild e k y
 arc_mild (part_sends d e b) k y h = send_mild e k y
 arc_mild (batches_go d e) k y h = batch_mild e k y
 arc_mild (found_asks {r} {n}) k y h = (tt, asks_mild r n)
-arc_mild (subscribing_rests i) k y h = (k, tt)
-arc_mild (subscribes_on_gets {w} {o} {b} {y = n} i e) k y h = ((built_so w o b n k e).0, tt)
+arc_mild (subscribing_rests i) k y h = (k, refl)
+arc_mild (subscribes_on_gets {w} {o} {b} {y = n} i e) k y h = ((built_so w o b n k e).0, refl)
 arc_mild (subscribes_on_asks {w} {o} {b} {y = n} {request} i e) k y h = let f = built_so w o b n k e in (f.0, own_ack request f.1)
-arc_mild (subscribes_on_waits {w} {o} {b} {y = n} i e) k y h = ((built_so w o b n k e).0, tt)
-arc_mild (subscribed_numbers {w} {o} {b} {y = n} i e) k y h = ((built_so w o b n k e).0, tt)
-arc_mild (subscribed_rests {w} {o} {b} {y = n} i e) k y h = ((built_so w o b n k e).0, tt)
-arc_mild (serving_rests i) k y h = (k, tt)
-arc_mild ended_closes k y h = (tt, refl)
-arc_mild flow_asks k y h = (tt, refl)
-arc_mild (recalled_resumes_gets i) k y h = (h, tt)
+arc_mild (subscribes_on_waits {w} {o} {b} {y = n} i e) k y h = ((built_so w o b n k e).0, refl)
+arc_mild (subscribed_numbers {w} {o} {b} {y = n} i e) k y h = ((built_so w o b n k e).0, refl)
+arc_mild (subscribed_rests {w} {o} {b} {y = n} i e) k y h = ((built_so w o b n k e).0, refl)
+arc_mild (serving_rests i) k y h = (k, refl)
+arc_mild (recalled_resumes_gets i) k y h = (h, refl)
 arc_mild (recalled_resumes_asks {w} i) k y h = (h, asks_so Any (consume.resume_begins w) (tt, tt) i)
-arc_mild (recalled_resumes_waits i) k y h = (h, tt)
-arc_mild (resumes_on_gets i) k y h = (k, tt)
+arc_mild (recalled_resumes_waits i) k y h = (h, refl)
+arc_mild (resumes_on_gets i) k y h = (k, refl)
 arc_mild (resumes_on_asks {w} {s} {u} i) k y h =
     (k, asks_so Any (consume.resume_told w s.command s.resuming (news_in u)) (resume_mild w s.command s.resuming (news_in u) k) i)
-arc_mild (resumes_on_waits i) k y h = (k, tt)
-arc_mild over_closes k y h = (tt, refl)
-arc_mild departs_asks k y h = (tt, refl)
-arc_mild _ k y h = (tt, tt)
+arc_mild (resumes_on_waits i) k y h = (k, refl)
+arc_mild _ k y h = (tt, refl)
 
 pub told_mild : (plan : Plan) (u : Outcome) → MildPlan plan → MildOutcome u → StaysSo IsMildTurn (told plan u)
 told_mild plan u k h = stays_by IsMildTurn plan u (λ q a e. arc_mild e k (news_mild u h) h)
@@ -246,15 +241,15 @@ MildBegun (procedure.Acknowledge link request) = is_ack request ≡ false
 MildBegun _ = Unit {0}
 
 begun_mild : {p : Procedure} {q : Plan} {a : Action} → Begun p q a → MildBegun p → IsMildTurn q a
-begun_mild begins_getting h = (h, tt)
+begun_mild begins_getting h = (h, refl)
 begun_mild begins_asking h = (tt, h)
 begun_mild begins_acknowledge h = (tt, h)
-begun_mild (begins_search_gets {w} {what} i) h = ((subst (MildTurn MildSearch) i (search_begun w what h)).0, tt)
+begun_mild (begins_search_gets {w} {what} i) h = ((subst (MildTurn MildSearch) i (search_begun w what h)).0, refl)
 begun_mild (begins_search_asks {w} {what} {request} i) h = let f = subst (MildTurn MildSearch) i (search_begun w what h) in (f.0, own_ack request f.1)
-begun_mild (begins_search_waits {w} {what} i) h = ((subst (MildTurn MildSearch) i (search_begun w what h)).0, tt)
+begun_mild (begins_search_waits {w} {what} i) h = ((subst (MildTurn MildSearch) i (search_begun w what h)).0, refl)
 begun_mild (begins_produce_asks {w} {o} i) h = (tt, asks_so Any (search.names_begins w o.topic) (names_begun w o.topic) i)
 begun_mild (begins_subscribe_asks {w} {o} i) h = (tt, asks_so Any (search.names_begins w o.topic) (names_begun w o.topic) i)
-begun_mild _ h = (tt, tt)
+begun_mild _ h = (tt, refl)
 
 pub begins_mild : (p : Procedure) → MildBegun p → StaysSo IsMildTurn (begins p)
 begins_mild p h = begins_by IsMildTurn p (λ q a e. begun_mild e h)

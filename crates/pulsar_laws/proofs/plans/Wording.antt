@@ -38,11 +38,11 @@ again_words : (ws : List Who) → Each IsWord (map again ws)
 again_words [] = tt
 again_words (w ∷ ws) = (refl, again_words ws)
 
-made_word : (live : ℕ → Option Seat) (who : Who) (m : Makes) → Each IsWord (made_due live who m)
-made_word live who (makes.Consumer j) =
-    one_word (ticket_of who) (member_on live j.link (setup_of j))
-    (consumer.word_if (reader.is_due (member_on live j.link (setup_of j)).seen) word.Due)
-made_word live who _ = tt
+made_word : (live : ℕ → Option Seat) (key : ℕ) (who : Who) (m : Makes) → Each IsWord (made_due live key who m)
+made_word live key who (makes.Consumer j) =
+    one_word (ticket_of who) (member_on live j.link (setup_of key j))
+    (consumer.word_if (reader.is_due (member_on live j.link (setup_of key j)).seen) word.Due)
+made_word live key who _ = tt
 
 pub heard_words : (v : View) (l : ℕ) → Each IsWord (heard_on v l)
 heard_words v l =
@@ -74,7 +74,7 @@ joins_words v (Does who (OfConsumer (Revive l))) h =
     each_append IsWord (again_at row) (due_at (ticket_of who) (option_map (consumer.revived l url) row)) (again_words (consumer.seekers_at row))
     (due_word (ticket_of who) (option_map (consumer.revived l url) row))
 joins_words v (Does who (OfConsumer (FailConsumer f))) h = again_words (consumer.seekers_at (v.consumers.rows (ticket_of who)))
-joins_words v (Answers who verdict) h = made_word v.links.live who verdict.makes
+joins_words v (Answers who verdict) h = made_word v.links.live v.consumers.next_key who verdict.makes
 joins_words v a h = absurd cc
 
 -- THE STOP

@@ -18,7 +18,7 @@ use Rattle.pulsar_laws.proofs.plans.Standing.{moves, run_older, stands_so}
 use Rattle.pulsar_laws.proofs.producers.BatchRun.{turn_so, Batched, batched_run, calm_at, is_batch_deed, never_both, self_same}
 use Rattle.pulsar_laws.proofs.producers.Drawing.{every_run, Every, here}
 use Rattle.pulsar_laws.specs.BatchLaws.{told_since}
-use Rattle.pulsar_laws.specs.Laws.{FailsSo, IsAnswered, IsDenied, IsInProducer, IsPartial, IsRefused, IsRefusedShare, IsSettled, IsTold, IsTurned, IsUnexpected, IsUnexpectedInProducer, has_failed, IsInUse, IsOfSeveral, IsClosed}
+use Rattle.pulsar_laws.specs.Laws.{FailsSo, IsInProducer}
 use Rattle.pulsar_laws.proofs.plans.Batched.{BatchSo, IsSending}
 use Rattle.pulsar_laws.proofs.plans.Failing.{allows_breaks, allows_reply, is_proper, told_same}
 use Rattle.pulsar_laws.proofs.plans.Granted.{GivenBy, granted_by, grants_given}
@@ -51,34 +51,21 @@ proper_so (outcome.Granted (news.Told x)) h = absurd cc
 proper_so (outcome.Granted n) h = refl
 proper_so u h = refl
 
--- MORE OUTCOMES
-
--- whoever fails along some outcomes fails so along more of them
-more_so : (p : Procedure) (u : Outcome) (os : List Outcome) (f : Failure) → FailsSo p os f → FailsSo p (u ∷ os) f
-more_so p u os f (IsRefused r h e) = IsRefused r h e
-more_so p u os f (IsRefusedShare s r h e) = IsRefusedShare s r h e
-more_so p u os f (IsTold x i e) = IsTold x (inr i) e
-more_so p u os f (IsTurned x is i e) = IsTurned x is (inr i) e
-more_so p u os f (IsDenied w r d is i e k) = IsDenied w r d is (inr i) e k
-more_so p u os f (IsUnexpected r i e) = IsUnexpected r (inr i) e
-more_so p u os f (IsInProducer x is i e) = IsInProducer x is (inr i) e
-more_so p u os f (IsUnexpectedInProducer r is i e) = IsUnexpectedInProducer r is (inr i) e
-more_so p u os f (IsSettled i) = IsSettled (inr i)
-more_so p u os f (IsPartial first count failures h some e) =
-    IsPartial first count failures h (elim (has_failed u) as (λ b. (b || list_any has_failed os) ≡ true) [ true ↦ refl | false ↦ some ]) e
-more_so p u os f (IsInUse w order is i e) = IsInUse w order is (inr i) e
-more_so p u os f (IsOfSeveral w order r n k is i c two e) = IsOfSeveral w order r n k is (inr i) c two e
-more_so p u os f (IsClosed t n is i e) = IsClosed t n is (inr i) e
-more_so p u os f (IsAnswered r number s i is e) = IsAnswered r number s (inr i) is e
-
 -- why the one message of a batch fails
 abbrev pub Why : (number : ℕ) → List Entry → Ways → Errand → ProducerMessageValues → Failure → Type 0
 Why n log w e m f = FailsSo (procedure.Send w e None m) (told_since n log) f
 
+-- one fails so along these outcomes, and whatever more it is told
+abbrev FailsFrom : Procedure → List Outcome → Failure → Type 0
+FailsFrom p us f = (os : List Outcome) → ((u : Outcome) → In u us → In u os) → FailsSo p os f
+
+abbrev pub WhyFrom : (number : ℕ) → List Entry → Ways → Errand → ProducerMessageValues → Failure → Type 0
+WhyFrom n log w e m = FailsFrom (procedure.Send w e None m) (told_since n log)
+
 -- WHERE A BATCH STANDS
 
 abbrev pub KeepsSo : (number : ℕ) → List Entry → Plan → Type 0
-KeepsSo n log (Batching w e (batching.Sending ms c s)) = (m : ProducerMessageValues) → SendKeeps (Why n log w e m) s
+KeepsSo n log (Batching w e (batching.Sending ms c s)) = (m : ProducerMessageValues) → SendKeeps (WhyFrom n log w e m) s
 KeepsSo n log _ = Unit {0}
 
 abbrev pub Kept : Options → List Entry → Type 0
@@ -94,39 +81,39 @@ module _ (o : Options) (log : List Entry) (n : ℕ) (u : Outcome) (w : Ways) (e 
   since_told : told_since n later ≡ u ∷ told_since n log
   since_told = ap (λ c. cond c (u ∷ told_since n log) (told_since n log)) (self_same n)
 
-  send_more : (s : Send) → SendKeeps (Why n log w e m) s → SendKeeps (Why n later w e m) s
-  send_more (send.Ending f) k =
-      subst (λ os. FailsSo (procedure.Send w e None m) os f) (sym since_told) (more_so (procedure.Send w e None m) u (told_since n log) f k)
+  send_more : (s : Send) → SendKeeps (WhyFrom n log w e m) s → SendKeeps (WhyFrom n later w e m) s
+  send_more (send.Ending f) k = λ os in_os. k os (λ x i. in_os x (subst (In x) (sym since_told) (inr i)))
   send_more _ k = tt
 
-  ends_so : (s : Send) → IsRun o later → SendKeeps (Why n log w e m) s →
-      Ends (SendKeeps (Why n later w e m)) (Why n later w e m) (produce.send_told w e s (news_of u))
+  ends_so : (s : Send) → IsRun o later → SendKeeps (WhyFrom n log w e m) s →
+      Ends (SendKeeps (WhyFrom n later w e m)) (WhyFrom n later w e m) (produce.send_told w e s (news_of u))
   ends_so s run k =
       let p : Procedure = procedure.Send w e None m in
-      let i : In u (told_since n later) = subst (In u) (sym since_told) (inl refl) in
+      let here : In u (told_since n later) = subst (In u) (sym since_told) (inl refl) in
       let proper : is_proper u ≡ true = proper_so u (never_told o log (Producer n) u run) in
-      sending_ends (Why n later w e m) w e s (news_of u) (IsInProducer u refl i (ap in_producer (told_same u)))
-      (allows_breaks p (told_since n later) w u refl i proper)
-      (allows_reply p (told_since n later) u refl i proper) (send_more s k)
+      sending_ends (WhyFrom n later w e m) w e s (news_of u) (λ os in_os. IsInProducer u refl (in_os u here) (ap in_producer (told_same u)))
+      (λ x h f b os in_os. allows_breaks p os w u refl (in_os u here) proper x h f b)
+      (λ r h os in_os. allows_reply p os u refl (in_os u here) proper r h) (send_more s k)
 
 -- it fails so
 pub fails_so : (o : Options) (log : List Entry) (n : ℕ) (u : Outcome) (w : Ways) (e : Errand) (m : ProducerMessageValues) (s : Send) (f : Failure) →
-    IsRun o (Then (Told (notice (Producer n) u)) ∷ log) → SendKeeps (Why n log w e m) s → produce.send_told w e s (news_of u) ≡ transition.Gives (Err f) →
-    Why n (Then (Told (notice (Producer n) u)) ∷ log) w e m f
+    IsRun o (Then (Told (notice (Producer n) u)) ∷ log) → SendKeeps (WhyFrom n log w e m) s →
+    produce.send_told w e s (news_of u) ≡ transition.Gives (Err f) → Why n (Then (Told (notice (Producer n) u)) ∷ log) w e m f
 fails_so o log n u w e m s f run k h =
-    let P = Why n (Then (Told (notice (Producer n) u)) ∷ log) w e m in
-    subst (Ends (SendKeeps P) P) h (ends_so o log n u w e m s run k)
+    let after : List Entry = Then (Told (notice (Producer n) u)) ∷ log in
+    let P = WhyFrom n after w e m in
+    let from : P f = subst (Ends (SendKeeps P) P) h (ends_so o log n u w e m s run k) in from (told_since n after) (λ x i. i)
 
 module _ (o : Options) (log : List Entry) (n : ℕ) (u : Outcome) (run : IsRun o (Then (Told (notice (Producer n) u)) ∷ log)) where
   abbrev next : List Entry
   next = Then (Told (notice (Producer n) u)) ∷ log
 
   sends_on : (w : Ways) (e : Errand) (ms : List Member) (c : ℕ) (s : Send) (a : Action) (b : Batches) → KeepsSo n log (Batching w e b) →
-      IsSending w e ms c s a b u → (m : ProducerMessageValues) → SendKeeps (Why n next w e m) s
+      IsSending w e ms c s a b u → (m : ProducerMessageValues) → SendKeeps (WhyFrom n next w e m) s
   sends_on w e ms c s a batching.Resting k h m = absurd h
-  sends_on w e ms c s a batching.Taking k h m = subst (SendKeeps (Why n next w e m)) (sym h.6) tt
+  sends_on w e ms c s a batching.Taking k h m = subst (SendKeeps (WhyFrom n next w e m)) (sym h.6) tt
   sends_on w e ms c s a (batching.Sending ns d old) k h m =
-      let P = Why n next w e m in
+      let P = WhyFrom n next w e m in
       subst (Ends (SendKeeps P) P) h.2.1 (ends_so o log n u w e m old run (k m))
   sends_on w e ms c s a batching.Settling k h m = absurd h
 
@@ -145,7 +132,7 @@ module _ (o : Options) (log : List Entry) (n : ℕ) (u : Outcome) (run : IsRun o
 same_keeps : (log : List Entry) (e : Entry) (n : ℕ) (p : Plan) → (calm_at p ≡ true → told_since n (e ∷ log) ≡ told_since n log) → KeepsSo n log p →
     KeepsSo n (e ∷ log) p
 same_keeps log x n (Batching w e (batching.Sending ms c s)) same k = λ m.
-    subst (λ os. SendKeeps (FailsSo (procedure.Send w e None m) os) s) (sym (same refl)) (k m)
+    subst (λ os. SendKeeps (FailsFrom (procedure.Send w e None m) os) s) (sym (same refl)) (k m)
 same_keeps log x n (Batching w e batching.Resting) same k = tt
 same_keeps log x n (Batching w e batching.Taking) same k = tt
 same_keeps log x n (Batching w e batching.Settling) same k = tt

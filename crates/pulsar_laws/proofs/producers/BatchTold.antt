@@ -27,7 +27,7 @@ use Rattle.pulsar_laws.proofs.Cases.{cond_so}
 use Rattle.pulsar_laws.specs.BatchLaws.{AskedSince, asked_last, batch_told, cut_told, fate_by, IsFateOf, item_told, MembersAreTold, frames_queued, under_way}
 use Rattle.pulsar_laws.proofs.producers.BatchQueued.{queued_once}
 use Rattle.pulsar_laws.proofs.plans.Batched.{Comes, IsSettling, Unsent, tells_where}
-use Rattle.pulsar_laws.proofs.producers.BatchFailing.{Kept, KeepsSo, Why, fails_so, is_told_news, kept_run, never_told}
+use Rattle.pulsar_laws.proofs.producers.BatchFailing.{Kept, KeepsSo, Why, WhyFrom, fails_so, is_told_news, kept_run, never_told}
 use Rattle.pulsar_laws.proofs.producers.BatchRun.{PromptSo, StateSo, batched_run, deed_at, some_batch, was_done}
 use Rattle.pulsar_laws.proofs.producers.Drawing.{here}
 use Rattle.pulsar_laws.proofs.plans.Productions.{SendKeeps}
@@ -195,7 +195,7 @@ module _ (o : Options) (log : List Entry) (n : ℕ) (ns : List Notice) (run : Is
   fate_of : (older : List Entry) (items : List Item) (u : Outcome) (w : Ways) (e : Errand) (ms : List Member) (c : ℕ) (s : Send) (f : Fate)
       (m : ProducerMessageValues) → log ≡ Then (Told (notice (Producer n) u)) ∷ older →
       (view o older).stand (Producer n) ≡ Some (Batching w e (batching.Sending ms c s)) → e.producer ≡ n → batch_of (entries_in items) ≡ Ok m →
-      SendKeeps (Why n older w e m) s → Comes w e s u f → IsFateOf o n log items u f
+      SendKeeps (WhyFrom n older w e m) s → Comes w e s u f → IsFateOf o n log items u f
   fate_of older items u w e ms c s f m there stood own whole kept (inl h) = inr (inr (inr (inl h)))
   fate_of older items u w e ms c s f m there stood own whole kept (inr (inr h)) =
       let r : IsRun o (Then (Told (notice (Producer n) u)) ∷ older) = subst (IsRun o) there run.0 in

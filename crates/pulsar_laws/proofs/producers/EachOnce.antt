@@ -7,6 +7,7 @@ use Rattle.pulsar_laws.proofs.RunWords.{Begins, begun_same, counted, Each, Entry
 use Rattle.pulsar_frame.specs.Batch.{EntryValues}
 use Rattle.pulsar_messages.specs.Claims.{is_spent}
 use Rattle.pulsar_outgoing.specs.Storage.{Item, SingleMessage, Flush, is_nothing, is_ready, pushed}
+use Rattle.pulsar_outgoing.specs.declared.multi_topic.Taker.{Taker}
 use Rattle.pulsar_producer.specs.Topic as topic
 use Rattle.pulsar_producer.specs.Topic.{Act as Deed, Closes, Cuts, cuts, Draws, Flushes, Halts, is_settled, left_of, next_of, Passes, Remakes, Seen, Stores, stores, Takes, takes_in, TakesBatch}
 use Rattle.pulsar_calls.specs.declared.act.Procedure.TheVariants as procedure
@@ -80,13 +81,10 @@ module _ (t : ℕ) where
   one_held : (d : Deed) (v : Seen) → held (topic.after d v) ≤ held v + gives d
   one_held (Takes u) v = by v.holder
     where
-      by : (h : Option ℕ) → held (takes_in h u v) ≤ held v + 0
+      by : (h : Option Taker) → held (takes_in h u v) ≤ held v + 0
       by None = omega arith
       by (Some x) = omega arith
-  one_held Passes v = omega arith
   one_held Draws v = cond_so (λ z. held z ≤ held v + 0) (is_spent v.next) v (record v { next = v.next + 1 }) (omega arith) (omega arith)
-  one_held (Remakes l g) v = omega arith
-  one_held Closes v = omega arith
   one_held (Stores u e) v =
       let k : held (stores (SingleMessage u e) v) ≤ held v + (cond (t == u) 1 0 + 0) = push_held (SingleMessage u e) v in omega (arith, k)
   one_held (Flushes u) v = cond_so (λ z. held z ≤ held v + 0) (is_settled v) v (stores (Flush u) v) (omega arith) (push_held (Flush u) v)
@@ -94,7 +92,7 @@ module _ (t : ℕ) where
       let k : held (cuts v) ≤ held v = cut_held v in
       cond_so (λ z. held z ≤ held v + 0) (is_nothing v.storage.items) v (cuts v) (omega arith) (omega (arith, k))
   one_held TakesBatch v = let k : held (left_of v.cut v) + times_under t (next_of v.cut) ≤ held v = takes_held v v.cut refl in omega (arith, k)
-  one_held Halts v = omega arith
+  one_held _ v = omega arith
 
   abbrev gives_all : List Deed → ℕ
   gives_all [] = 0

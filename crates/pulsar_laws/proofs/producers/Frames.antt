@@ -11,6 +11,7 @@ use Rattle.pulsar_producer.specs.Commands.{command_of}
 use Rattle.pulsar_messages.specs.Message.{with_version}
 use Rattle.pulsar_producer.specs.Producer as producer
 use Rattle.pulsar_producer.specs.Topic.{Draws}
+use Rattle.pulsar_outgoing.specs.declared.multi_topic.Taker.TheVariants as taker
 use Rattle.pulsar_outgoing.specs.declared.news.News.TheVariants as news
 use Rattle.pulsar_producer.specs.declared.sending.Sending.TheVariants as send
 use Rattle.pulsar_calls.specs.declared.act.Outcome.TheVariants as outcome
@@ -315,7 +316,7 @@ module _ (o : Options) (log : List Entry) (t l n s : ℕ) (name : List ℕ) (m :
     pub was_told : WasTold log t version
     pub producer : n ≡ e.producer
     pub blocks : block ≡ e.block
-    pub has : (row : Topic) × ((view o log).producers.topics e.producer ≡ Some row) × (row.seen.holder ≡ Some t)
+    pub has : (row : Topic) × ((view o log).producers.topics e.producer ≡ Some row) × (row.seen.holder ≡ Some (taker.Call t))
     pub before : Topic
     pub after : (view o log).producers.topics e.producer ≡ Some (topic_after Draws before)
     pub left : is_spent before.seen.next ≡ false

@@ -6,6 +6,7 @@ use Rattle.pulsar_laws.proofs.ActWords.{Action, Call, Consumer, Does, OfTopic, O
 use Rattle.pulsar_laws.proofs.PlanWords.{Batches, Batching, begins, Errand, Gives, Leaving, Member, Plan, PlanTransition, Reporting, Sending as Send, Stays, told, Visiting, Ways}
 use Rattle.pulsar_laws.proofs.RunWords.{counted, Entry, In, IsRun, notice, Options, start_of, started, stays, stays_some, Then, told_some, view}
 use Rattle.pulsar_messages.specs.Claims.{is_spent}
+use Rattle.pulsar_outgoing.specs.declared.multi_topic.Taker.TheVariants as taker
 use Rattle.pulsar_producer.specs.declared.batching.Batching.TheVariants as batching
 use Rattle.pulsar_producer.specs.declared.sending.Sending.TheVariants as send
 use Rattle.pulsar_plans.specs.declared.plan.At.{At as Spot}
@@ -54,19 +55,20 @@ pub record IsPending (o : Options) (log : List Entry) (t : ℕ) : Type 0 where
   pub number : ℕ
   pub has : HasTurn (view o log) (Call t) number
   pub stands : IsAt number ((view o log).stand (Call t))
-  pub apart : (n : ℕ) (row : Topic) → (view o log).producers.topics n ≡ Some row → In t row.seen.waiting → ⊥
+  pub apart : (n : ℕ) (row : Topic) → (view o log).producers.topics n ≡ Some row → In (taker.Call t) row.seen.waiting → ⊥
   pub begun : 1 ≤ counted (start_of t) log
   pub ticket : IsTicket t
 
 -- of calls
 pub record Turns (o : Options) (log : List Entry) : Type 0 where
   pub held : (t n : ℕ) (p : Plan) → (view o log).stand (Call t) ≡ Some p → holds p ≡ Some n → HasTurn (view o log) (Call t) n
-  pub waits : (t n : ℕ) (row : Topic) → IsTicket t → (view o log).producers.topics n ≡ Some row → In t row.seen.waiting →
+  pub waits : (t n : ℕ) (row : Topic) → IsTicket t → (view o log).producers.topics n ≡ Some row → In (taker.Call t) row.seen.waiting →
       IsAt n ((view o log).stand (Call t))
   pub one : (t n m : ℕ) (row other : Topic) → IsTicket t → (view o log).producers.topics n ≡ Some row → (view o log).producers.topics m ≡ Some other →
-      In t row.seen.waiting →
-      In t other.seen.waiting → n ≡ m
-  pub begun : (t n : ℕ) (row : Topic) → IsTicket t → (view o log).producers.topics n ≡ Some row → In t row.seen.waiting → 1 ≤ counted (start_of t) log
+      In (taker.Call t) row.seen.waiting →
+      In (taker.Call t) other.seen.waiting → n ≡ m
+  pub begun : (t n : ℕ) (row : Topic) → IsTicket t → (view o log).producers.topics n ≡ Some row → In (taker.Call t) row.seen.waiting →
+      1 ≤ counted (start_of t) log
   pub few : (t : ℕ) → pending o log (Call t) ≤ 1
   pub told : (t : ℕ) → 1 ≤ pending o log (Call t) → IsPending o log t
 
@@ -107,7 +109,7 @@ starts_ticket o log t p run =
 -- one is told of no turn, and waits for none
 pub record IsClear (o : Options) (log : List Entry) (t : ℕ) : Type 0 where
   pub none_pends : pending o log (Call t) ≡ 0
-  pub apart : (n : ℕ) (row : Topic) → (view o log).producers.topics n ≡ Some row → In t row.seen.waiting → ⊥
+  pub apart : (n : ℕ) (row : Topic) → (view o log).producers.topics n ≡ Some row → In (taker.Call t) row.seen.waiting → ⊥
 
 pub at_most_none : (n : ℕ) → (1 ≤ n → ⊥) → n ≡ 0
 at_most_none n h = elim (cases_Bool (n == 0)) [

@@ -8,6 +8,7 @@ use Rattle.pulsar_frame.specs.Batch.{EntryValues}
 use Rattle.pulsar_searches.specs.declared.turn.Action.TheVariants as wish
 use Rattle.pulsar_outgoing.specs.Batch.{member_of}
 use Rattle.pulsar_outgoing.specs.Storage.{Item, SingleMessage, Flush as FlushItem}
+use Rattle.pulsar_outgoing.specs.declared.multi_topic.Taker.{Taker}
 use Rattle.pulsar_producer.specs.Topic as topic
 use Rattle.pulsar_producer.proofs.Tickets.{BringsSo, UsersSo, users_map, users_so}
 use Rattle.pulsar_outgoing.specs.declared.batch.Member.TheVariants as member
@@ -133,7 +134,7 @@ item_map : (P Q : ℕ → Type 0) → ((t : ℕ) → P t → Q t) → (x : Item)
 item_map P Q f (SingleMessage t entry) p = f t p
 item_map P Q f (FlushItem t) p = tt
 
-abbrev Anyone : ℕ → Type 0
+abbrev Anyone : Taker → Type 0
 Anyone t = Unit {0}
 
 abbrev KeptIn : (ℕ → Type 0) → topic.Seen → Type 0

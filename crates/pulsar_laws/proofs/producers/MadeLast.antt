@@ -7,8 +7,9 @@ use Rattle.pulsar_outgoing.specs.declared.replies.Given.{Given}
 use Rattle.pulsar_outgoing.specs.declared.storage.Limits.{Limits}
 use Rattle.pulsar_outgoing.specs.Storage.{Flush, is_nothing, is_ready, Item, pushed}
 use Rattle.pulsar_messages.specs.Claims.{is_spent}
+use Rattle.pulsar_outgoing.specs.declared.multi_topic.Taker.{Taker}
 use Rattle.pulsar_producer.specs.Topic as topic
-use Rattle.pulsar_producer.specs.Topic.{Act as Deed, Closes, Cuts, Draws, Flushes, Halts, Passes, Remakes, Seen, Stores, Takes, TakesBatch, is_settled, left_of, stores, takes_in}
+use Rattle.pulsar_producer.specs.Topic.{Act as Deed, Cuts, Draws, Flushes, Remakes, Seen, Stores, Takes, TakesBatch, is_settled, left_of, stores, takes_in}
 use Rattle.pulsar_calls.specs.declared.act.Makes.TheVariants as makes
 use Rattle.pulsar_producer_table.specs.Producers.{fresh_topic, last_of, topic_after, topic_in}
 use Rattle.pulsar_producer_table.specs.declared.table.Topic.{Topic}
@@ -57,7 +58,7 @@ abbrev is_remaking : Deed → Bool
 is_remaking (Remakes l g) = true
 is_remaking _ = false
 
-takes_same : (r : Option ℕ) (t : ℕ) (v : Seen) → place (takes_in r t v) ≡ place v
+takes_same : (r : Option Taker) (t : Taker) (v : Seen) → place (takes_in r t v) ≡ place v
 takes_same None t v = refl
 takes_same (Some other) t v = refl
 
@@ -70,15 +71,13 @@ stores_same x v = cond_so (λ w. place w ≡ place v) (is_ready (pushed x v.stor
 
 after_same : (d : Deed) (v : Seen) → is_remaking d ≡ false → place (topic.after d v) ≡ place v
 after_same (Takes t) v h = takes_same v.holder t v
-after_same Passes v h = refl
 after_same Draws v h = cond_so (λ w. place w ≡ place v) (is_spent v.next) _ _ refl refl
 after_same (Remakes l g) v h = absurd cc
-after_same Closes v h = refl
 after_same (Stores t e) v h = stores_same _ v
 after_same (Flushes t) v h = cond_so (λ w. place w ≡ place v) (is_settled v) v _ refl (stores_same (Flush t) v)
 after_same Cuts v h = cond_so (λ w. place w ≡ place v) (is_nothing v.storage.items) _ _ refl refl
 after_same TakesBatch v h = left_same v.cut v
-after_same Halts v h = refl
+after_same _ v h = refl
 
 abbrev Plain : Deed → Type 0
 Plain d = is_remaking d ≡ false

@@ -21,6 +21,7 @@ use Rattle.pulsar_wire.specs.declared.error.Reason.{Reason}
 use Rattle.pulsar_outgoing.specs.Batch.{batch_of, entries_in, member_of}
 use Rattle.pulsar_outgoing.specs.Storage.{Item, Flush as FlushItem, SingleMessage, is_nothing, is_ready, pushed}
 use Rattle.pulsar_outgoing.specs.declared.news.News.TheVariants as news
+use Rattle.pulsar_outgoing.specs.declared.multi_topic.Taker.{Taker}
 use Rattle.pulsar_producer.specs.Batching as batches
 use Rattle.pulsar_producer.specs.Plans as produce
 use Rattle.pulsar_producer.specs.Plans.{Builds, Sent}
@@ -409,18 +410,16 @@ left_given (b ∷ bs) v k = k
 act_given : (d : TopicAct) (v : Seen) → ActNamed d → IsText v.given.name → IsText (topic.after d v).given.name
 act_given (Takes t) v g k = takes v.holder
   where
-    takes : (x : Option ℕ) → IsText (takes_in x t v).given.name
+    takes : (x : Option Taker) → IsText (takes_in x t v).given.name
     takes None = k
     takes (Some u) = k
-act_given Passes v g k = k
 act_given Draws v g k = cond_so (λ (z : Seen). IsText z.given.name) (is_spent v.next) v (record v { next = v.next + 1 }) k k
 act_given (Remakes l x) v g k = g
-act_given Closes v g k = k
 act_given (Stores t e) v g k = stores_given (SingleMessage t e) v k
 act_given (Flushes t) v g k = cond_so (λ (z : Seen). IsText z.given.name) (is_settled v) v (stores (FlushItem t) v) k (stores_given (FlushItem t) v k)
 act_given Cuts v g k = cond_so (λ (z : Seen). IsText z.given.name) (is_nothing v.storage.items) v (cuts v) k k
 act_given TakesBatch v g k = left_given v.cut v k
-act_given Halts v g k = k
+act_given _ v g k = k
 
 all_given : (ds : List TopicAct) (v : Seen) → Each ActNamed ds → IsText v.given.name → IsText (all_after ds v).given.name
 all_given [] v g k = k

@@ -29,6 +29,7 @@ use Rattle.pulsar_messages.specs.Words.{when_full}
 use Rattle.pulsar_session.specs.declared.states.Asked.{Asked as Placed}
 use Rattle.pulsar_session.specs.Link.{Seen, answer_of, can_wait, drawn, fits, frame_for, has_room, message_of, number_for, place_in, ticked}
 use Rattle.pulsar_outgoing.specs.Storage.{Item, Flush, SingleMessage, is_nothing, is_ready, pushed}
+use Rattle.pulsar_outgoing.specs.declared.multi_topic.Taker.{Taker}
 use Rattle.pulsar_producer.specs.Topic as topic
 use Rattle.pulsar_producer.specs.Topic.{Act as Deed, Takes, Passes, Draws, Remakes, Closes, Stores, Flushes, Cuts, TakesBatch, Halts, Setup, cuts, is_settled, left_of, stores, takes_in}
 use Rattle.pulsar_laws.proofs.Cases.{cond_so, cond_when}
@@ -94,18 +95,15 @@ left_low (b ∷ bs) v h = h
 one_low : (d : Deed) (v : topic.Seen) → IsLow v → IsLow (topic.after d v)
 one_low (Takes t) v h = takes v.holder
   where
-    takes : (x : Option ℕ) → IsLow (takes_in x t v)
+    takes : (x : Option Taker) → IsLow (takes_in x t v)
     takes None = h
     takes (Some u) = h
-one_low Passes v h = h
 one_low Draws v h = draws_low v h
-one_low (Remakes l g) v h = h
-one_low Closes v h = h
 one_low (Stores t e) v h = stores_low (SingleMessage t e) v h
 one_low (Flushes t) v h = cond_so IsLow (is_settled v) v (stores (Flush t) v) h (stores_low (Flush t) v h)
 one_low Cuts v h = cond_so IsLow (is_nothing v.storage.items) v (cuts v) h h
 one_low TakesBatch v h = left_low v.cut v h
-one_low Halts v h = h
+one_low _ v h = h
 
 seen_low : (s : Setup) (ds : List Deed) → s.first_number < 2 ^ 64 → IsLow (topic.seen s ds)
 seen_low s [] h = h

@@ -22,6 +22,7 @@ use Rattle.pulsar_links.specs.Alarms.{clear, is_same_alarm}
 use Rattle.pulsar_links.specs.LinkRules.{answered_by, answered_on, dropped, ended_by, ended_on, fails_so, lost, moved_on, served_by}
 use Rattle.pulsar_links.specs.Links.{line_places, settled_in}
 use Rattle.pulsar_links.specs.Seats.{askers_left, base_turned}
+use Rattle.pulsar_outgoing.specs.declared.multi_topic.Taker.{Taker}
 use Rattle.pulsar_producer.specs.Topic as topic
 use Rattle.pulsar_producer.specs.Topic.{cuts, is_settled, stores, takes_in}
 use Rattle.pulsar_messages.specs.Claims.{is_spent}
@@ -105,21 +106,18 @@ stored_busy : (i : Item) (x : topic.Seen) → BusySeen x → BusySeen (stores i 
 stored_busy i x h =
     let y : topic.Seen = record x { storage = pushed i x.storage } in cond_so BusySeen (is_ready (pushed i x.storage)) (cuts y) y refl h
 
-taken_busy : (r : Option ℕ) (t : ℕ) (x : topic.Seen) → BusySeen x → BusySeen (takes_in r t x)
+taken_busy : (r : Option Taker) (t : Taker) (x : topic.Seen) → BusySeen x → BusySeen (takes_in r t x)
 taken_busy None t x h = h
 taken_busy (Some other) t x h = h
 
 one_busy : (d : topic.Act) (x : topic.Seen) → leaves_busy d ≡ true → BusySeen x → BusySeen (topic.after d x)
 one_busy (topic.Takes t) x l h = taken_busy x.holder t x h
-one_busy topic.Passes x l h = h
 one_busy topic.Draws x l h = cond_so BusySeen (is_spent x.next) x (record x { next = x.next + 1 }) h h
-one_busy (topic.Remakes l' g) x l h = h
-one_busy topic.Closes x l h = h
 one_busy (topic.Stores t e) x l h = stored_busy (SingleMessage t e) x h
 one_busy (topic.Flushes t) x l h = cond_so BusySeen (is_settled x) x (stores (Flush' t) x) h (stored_busy (Flush' t) x h)
 one_busy topic.Cuts x l h = cond_so BusySeen (is_nothing x.storage.items) x (cuts x) h refl
 one_busy topic.TakesBatch x l h = absurd cc
-one_busy topic.Halts x l h = h
+one_busy _ x l h = h
 
 all_busy : (ds : List topic.Act) (x : topic.Seen) → Each (λ d. leaves_busy d ≡ true) ds → BusySeen x → BusySeen (all_after ds x)
 all_busy [] x k h = h
@@ -602,7 +600,7 @@ module _ (o : Options) (n : ℕ) (log : List Entry) where
   worded : (a : Act) → is_worded a ≡ true → causes v a ≡ [] → brings n v a ≡ 0
   worded a w c = let z = words_owed n (joins v a) (joins_words v a w) in let y : all_owed n (causes v a) ≡ 0 = ap (all_owed n) c in omega (arith, z, y)
 
-  passed : (m : ℕ) (r : Option (ℕ × Option (List ℕ))) → owed n (option_to_list (option_map (turn_notice m) r)) ≡ 0
+  passed : (m : ℕ) (r : Option (Taker × Option (List ℕ))) → owed n (option_to_list (option_map (turn_notice m) r)) ≡ 0
   passed m None = refl
   passed m (Some next) = soft_owed n (turn_notice m next ∷ []) (refl, tt)
 

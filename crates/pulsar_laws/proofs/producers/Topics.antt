@@ -7,6 +7,7 @@ use Rattle.pulsar_laws.proofs.LinkWords.{rings}
 use Rattle.pulsar_producer.specs.Topic as topic
 use Rattle.pulsar_outgoing.specs.Storage.{limits_of}
 use Rattle.pulsar_producer.specs.Topic.{Act as Deed, Closes, Halts, Seen, Setup, Passes, Draws, Remakes, Stores, Cuts, TakesBatch, Takes, Flushes}
+use Rattle.pulsar_outgoing.specs.declared.multi_topic.Taker.TheVariants as taker
 use Rattle.pulsar_calls.specs.declared.content.Remaking.{Remaking}
 use Rattle.pulsar_outgoing.specs.declared.storage.Limits.{Limits}
 use Rattle.pulsar_producer_table.specs.declared.table.Topic.{Topic}
@@ -89,7 +90,7 @@ in_since it (Some t) es past i = absurd i
 -- WHAT WAS DONE TO ONE, AND BY WHICH ACT
 
 abbrev pub CameFrom : (number : ℕ) → Act → Deed → Type 0
-CameFrom n a (Takes t) = (who : Who) × (a ≡ Does who (OfTopic n TakeTurn)) × (t ≡ turn_of who)
+CameFrom n a (Takes t) = (who : Who) × (a ≡ Does who (OfTopic n TakeTurn)) × (t ≡ taker.Call (turn_of who))
 CameFrom n a Passes = (who : Who) × (a ≡ Does who (OfTopic n PassTurn))
 CameFrom n a Draws = (who : Who) × (a ≡ Does who (OfTopic n Draw))
 CameFrom n a (Remakes l g) = (who : Who) × (r : Remaking) × (a ≡ Does who (OfTopic n (Remake r))) × (l ≡ r.link) × (g ≡ r.given)

@@ -1,14 +1,17 @@
 -- Turns along a log: acts that leave them as they are, and one that is told something.
-use Rattle.std.proofs.Common.{◌≡◌, ◌⊎◌, inl, inr, ◌∙◌, sym, ap, subst, ℕ, ◌+◌, ◌≤◌, ◌==◌, arith, List, [], ◌∷◌, refl, Bool, true, false, ◌&&◌, nat_lt, cond, Option, Some, None}
+use Rattle.std.proofs.Common.{◌≡◌, ◌⊎◌, inl, inr, ◌∙◌, sym, ap, subst, ℕ, ◌+◌, ◌≤◌, ◌==◌, arith, List, [], ◌∷◌, ◌++◌, refl, true, false, ◌&&◌, cond, Option, Some, None}
 use Rattle.std.proofs.lemmas.Bool.{cases_Bool, eqb-true}
 use Rattle.std.proofs.lemmas.Bool.Decides.{nat_tests}
-use Rattle.std.specs.BTreeSet.{insert_key}
 use Rattle.std.specs.Option.{option_map}
-use Rattle.std.specs.Ordering.{match_ordering, nat_cmp}
+use Rattle.std.specs.Ordering.{match_ordering}
+use Rattle.std.specs.declared.cmp.Ordering.{Ordering}
 use Rattle.std.specs.declared.cmp.Ordering.TheVariants.{Less, Equal, Greater}
 use Rattle.pulsar_laws.proofs.ActWords.{Act, Call, is_same, Notice, Procedure, Producer, Starts, Told, Who}
 use Rattle.pulsar_laws.proofs.PlanWords.{Batching, begins, Gives, Leaving, Plan, PlanTransition, Stays, told}
 use Rattle.pulsar_laws.proofs.RunWords.{counted, Entry, In, IsRun, Options, start_of, stays, stays_some, Then, told_some, view}
+use Rattle.pulsar_outgoing.specs.declared.multi_topic.Taker.{Taker}
+use Rattle.pulsar_outgoing.specs.declared.multi_topic.Taker.TheVariants as taker
+use Rattle.pulsar_producer.specs.Turns.{beside, placed, queued}
 use Rattle.pulsar_producer.specs.Topic as topic
 use Rattle.pulsar_producer_table.specs.declared.table.Topic.{Topic}
 use Rattle.pulsar_laws.proofs.Cases.{none_some}
@@ -29,7 +32,7 @@ use Rattle.pulsar_run.specs.Things.{row_by}
 -- ONE ACT
 
 abbrev pub Waits : Options → List Entry → ℕ → ℕ → Type 0
-Waits o log t n = (row : Topic) × ((view o log).producers.topics n ≡ Some row) × In t row.seen.waiting
+Waits o log t n = (row : Topic) × ((view o log).producers.topics n ≡ Some row) × In (taker.Call t) row.seen.waiting
 
 -- those whose turns stay where they are, and who waits now
 pub record Step (o : Options) (log : List Entry) (a : Act) (Keeper : ℕ → Type 0) (New : ℕ → ℕ → Type 0) : Type 0 where
@@ -37,7 +40,8 @@ pub record Step (o : Options) (log : List Entry) (a : Act) (Keeper : ℕ → Typ
   pub keeps : (t n : ℕ) → Keeper t → HasTurn (view o log) (Call t) n → HasTurn (view o (Then a ∷ log)) (Call t) n
   pub holder : (t n : ℕ) (p : Plan) → (view o log).stand (Call t) ≡ Some p → holds p ≡ Some n → Keeper t
   pub pender : (t : ℕ) → 1 ≤ pending o log (Call t) → Keeper t
-  pub back : (t n : ℕ) (row : Topic) → IsTicket t → (view o (Then a ∷ log)).producers.topics n ≡ Some row → In t row.seen.waiting → Waits o log t n ⊎ New t n
+  pub back : (t n : ℕ) (row : Topic) → IsTicket t → (view o (Then a ∷ log)).producers.topics n ≡ Some row → In (taker.Call t) row.seen.waiting →
+      Waits o log t n ⊎ New t n
   pub new_at : (t n : ℕ) → New t n → IsAt n ((view o log).stand (Call t))
   pub new_apart : (t n m : ℕ) → New t n → Waits o log t m → ⊥
   pub new_one : (t n m : ℕ) → New t n → New t m → n ≡ m
@@ -94,7 +98,7 @@ kept_row o log a run x y w n h = (
 )
 
 pub back_row : (o : Options) (log : List Entry) (a : Act) → IsRun o (Then a ∷ log) → takes_it a ≡ false → passes_it a ≡ false → (t n : ℕ) (row : Topic) →
-    (view o (Then a ∷ log)).producers.topics n ≡ Some row → In t row.seen.waiting → Waits o log t n
+    (view o (Then a ∷ log)).producers.topics n ≡ Some row → In (taker.Call t) row.seen.waiting → Waits o log t n
 back_row o log a run x y t n row e i = from ((view o log).producers.topics n) refl
   where
     from : (r : Option Topic) → (view o log).producers.topics n ≡ r → Waits o log t n
@@ -103,10 +107,10 @@ back_row o log a run x y t n row e i = from ((view o log).producers.topics n) re
         let same : row ≡ topic_all (topic_acts (view o log) n a) old = cc in
         let w : row.seen.waiting ≡ old.seen.waiting =
         ap (λ r. r.seen.waiting) same ∙ (all_left (topic_acts (view o log) n a) old.seen (acts_left (view o log) n a x y)).1 in
-        (old, f, subst (In t) w i)
+        (old, f, subst (In (taker.Call t)) w i)
     from None f = elim (row_from (view o log) a n row e) [
       | inl was ↦ (let no : Some was.row ≡ None = sym was.was ∙ f in absurd cc)
-      | inr j ↦ (let w : row.seen.waiting ≡ [] = sym (ap (λ r. r.seen.waiting) j.is_new.is_it) in absurd (subst (In t) w i))
+      | inr j ↦ (let w : row.seen.waiting ≡ [] = sym (ap (λ r. r.seen.waiting) j.is_new.is_it) in absurd (subst (In (taker.Call t)) w i))
     ]
 
 pub left_turns : (o : Options) (log : List Entry) (a : Act) → IsRun o (Then a ∷ log) → takes_it a ≡ false → passes_it a ≡ false →
@@ -209,7 +213,8 @@ module _ (o : Options) (log : List Entry) (n : Notice) (run : IsRun o (Then (Tol
   held_told t m q None e s h d = absurd (none_some (sym (it_stands (Call t) None e s) ∙ h))
   held_told t m q (Some p) e s h d = held_stays t m p q (told p n.outcome) refl e s (sym (it_stands (Call t) (Some p) e s) ∙ h) d
 
-  waits_told : (t m : ℕ) (row : Topic) → IsTicket t → (view o log).producers.topics m ≡ Some row → In t row.seen.waiting → is_same (Call t) n.who ≡ true →
+  waits_told : (t m : ℕ) (row : Topic) → IsTicket t → (view o log).producers.topics m ≡ Some row → In (taker.Call t) row.seen.waiting →
+      is_same (Call t) n.who ≡ true →
       IsAt m (after_told (Call t))
   waits_told t m row x e i same = elim (cases_Bool (is_turn_told n.outcome)) [
     | inl f ↦ absurd ((k.calls.told t (pends_one (Call t) same f)).apart m row e i)
@@ -372,15 +377,25 @@ module _ (act : topic.Act) (ps : Producers) (n : ℕ) (row : Topic) (is : ps.top
     | inr e ↦ inr (e, sym (changed_not m e) ∙ h)
   ]
 
-pub in_insert : (t k : ℕ) (xs : List ℕ) → In t (insert_key nat_cmp xs k) → In t xs ⊎ (t ≡ k)
-in_insert t k [] (inl e) = inr e
-in_insert t k [] (inr h) = absurd h
-in_insert t k (x ∷ xs) h = by (nat_lt k x) (k == x) (in_insert t k xs) h
+in_placed : (t : Taker) (k : ℕ) (xs : List Taker) → In t (placed k xs) → In t xs ⊎ (t ≡ taker.Call k)
+in_placed t k [] (inl e) = inr e
+in_placed t k [] (inr h) = absurd h
+in_placed t k (x ∷ xs) h = by (beside k x) (in_placed t k xs) h
   where
-    by : (a b : Bool) → (In t (insert_key nat_cmp xs k) → In t xs ⊎ (t ≡ k)) →
-        In t (match_ordering (cond a Less (cond b Equal Greater)) (k ∷ x ∷ xs) (x ∷ xs) (x ∷ insert_key nat_cmp xs k)) → In t (x ∷ xs) ⊎ (t ≡ k)
-    by true b more (inl e) = inr e
-    by true b more (inr h) = inl h
-    by false true more h = inl h
-    by false false more (inl e) = inl (inl e)
-    by false false more (inr h) = elim (more h) [ inl i ↦ inl (inr i) | inr e ↦ inr e ]
+    by : (c : Ordering) → (In t (placed k xs) → In t xs ⊎ (t ≡ taker.Call k)) →
+        In t (match_ordering c (taker.Call k ∷ x ∷ xs) (x ∷ xs) (x ∷ placed k xs)) → In t (x ∷ xs) ⊎ (t ≡ taker.Call k)
+    by Less more (inl e) = inr e
+    by Less more (inr h) = inl h
+    by Equal more h = inl h
+    by Greater more (inl e) = inl (inl e)
+    by Greater more (inr h) = elim (more h) [ inl i ↦ inl (inr i) | inr e ↦ inr e ]
+
+in_last : (t x : Taker) (xs : List Taker) → In t (xs ++ x ∷ []) → In t xs ⊎ (t ≡ x)
+in_last t x [] (inl e) = inr e
+in_last t x [] (inr h) = absurd h
+in_last t x (y ∷ ys) (inl e) = inl (inl e)
+in_last t x (y ∷ ys) (inr h) = elim (in_last t x ys h) [ inl i ↦ inl (inr i) | inr e ↦ inr e ]
+
+pub in_queued : (t x : Taker) (xs : List Taker) → In t (queued x xs) → In t xs ⊎ (t ≡ x)
+in_queued t (taker.Call k) xs h = in_placed t k xs h
+in_queued t (taker.Copy consumer ticket key) xs h = in_last t (taker.Copy consumer ticket key) xs h

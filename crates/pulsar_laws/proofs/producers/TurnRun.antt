@@ -1,16 +1,17 @@
 -- Turns along a log: each kind of act keeps what is so of them.
 use Rattle.std.proofs.Common.{◌≡◌, ◌⊎◌, inl, inr, ◌∙◌, sym, ap, subst, ℕ, ◌+◌, ◌<◌, ◌≤◌, ◌==◌, arith, List, [], ◌∷◌, refl, Bool, true, false, ◌&&◌, cond, Option, Some, None}
 use Rattle.std.proofs.lemmas.Bool.{cases_Bool, eqb-true, and_parts}
-use Rattle.std.specs.BTreeSet.{insert_key}
 use Rattle.std.specs.Option.{is_none, option_map, option_to_list}
-use Rattle.std.specs.Ordering.{nat_cmp}
 use Rattle.pulsar_laws.proofs.ActWords.{Act, Call, Consumer, Does, Heard, Notice, OfTopic, Outcome, PassTurn, Producer, Share, Starts, TakeTurn, Told, Who, is_same, turn_of as taken_as}
 use Rattle.pulsar_laws.proofs.PlanWords.{Plan, Serving, told}
 use Rattle.pulsar_laws.proofs.RunWords.{at_once, Begins, begun_same, Entry, In, IsRun, notice, Options, Then, turn_notice, view}
 use Rattle.pulsar_messages.specs.Claims.{is_spent}
-use Rattle.pulsar_producer.specs.Laws.{AreAbove}
+use Rattle.pulsar_outgoing.specs.declared.multi_topic.Taker.{Taker}
+use Rattle.pulsar_outgoing.specs.declared.multi_topic.Taker.TheVariants as taker
+use Rattle.pulsar_producer.specs.Laws.{AreAbove, tickets}
 use Rattle.pulsar_producer.specs.Topic as topic
-use Rattle.pulsar_producer.specs.Topic.{Setup, Takes, Passes, first_of, next_holder, rest_of, takes_in}
+use Rattle.pulsar_producer.specs.Topic.{Setup, Takes, Passes, next_holder, takes_in}
+use Rattle.pulsar_producer.specs.Turns.{first_of, queued, rest_of}
 use Rattle.pulsar_outgoing.specs.declared.news.News.TheVariants as news
 use Rattle.pulsar_producer.specs.declared.sending.Sending.TheVariants as send
 use Rattle.pulsar_producer.proofs.Turns.{lowest_is_next}
@@ -19,18 +20,20 @@ use Rattle.pulsar_plans.specs.declared.plan.Plan.TheVariants.{Sending}
 use Rattle.pulsar_producer_table.specs.declared.table.Topic.{Topic}
 use Rattle.pulsar_producer_table.specs.Producers.{Producers, topic_after, turn_passed}
 use Rattle.pulsar_laws.proofs.Cases.{none_some}
-use Rattle.pulsar_laws.specs.ProducerLaws.{HasTurn, PassedInTurn, QueuedInTurn, ToldInTurn, acts_on, turn_of}
+use Rattle.pulsar_laws.specs.ProducerLaws.{AreBehind, HasTurn, PassedInTurn, QueuedInTurn, ToldInTurn, acts_on, turn_of}
 use Rattle.pulsar_acts.specs.Rules.{says_to}
-use Rattle.pulsar_calls.specs.Who.{behind_all, in_turn}
+use Rattle.pulsar_calls.specs.Who.{behind_all}
+use Rattle.pulsar_producer_table.specs.Takers.{who_at}
 use Rattle.pulsar_laws.proofs.producers.Drawing.{Every, here}
 use Rattle.pulsar_laws.proofs.plans.Holding.{holds, is_turn_told}
 use Rattle.pulsar_laws.proofs.producers.InTurn.{AllTurns, IsAt, IsPassing, IsPending, IsTaking, IsTicket, OwnTurns, Turns, at_most_none, clear_at, holds_none, leaving_none, not_all, own_taking, own_waits, passing, self_same, stood_begun, stood_ticket, taking, who_same}
 use Rattle.pulsar_laws.proofs.producers.Topics.{topics_alone_lem}
+use Rattle.pulsar_laws.proofs.producers.Users.{waits_by_ticket}
 use Rattle.pulsar_laws.proofs.producers.Turns.{once_none, pend_kept, pend_then, pending, sum, turn_act, turn_note}
 use Rattle.pulsar_laws.proofs.plans.Servers.{is_server, server_does, server_stands}
 use Rattle.pulsar_laws.proofs.plans.Consuming.{is_modest}
 use Rattle.pulsar_laws.proofs.calls.Same.{same_call, same_producer, same_test}
-use Rattle.pulsar_laws.proofs.producers.TurnActs.{Everyone, Nobody, Waits, count_more, equal_self, in_insert, left_turns, starts_turns, step_turns, changed_at, changed_from, changed_not, told_turns}
+use Rattle.pulsar_laws.proofs.producers.TurnActs.{Everyone, Nobody, Waits, count_more, equal_self, in_queued, left_turns, starts_turns, step_turns, changed_at, changed_from, changed_not, told_turns}
 use Rattle.pulsar_producer_table.specs.Asks.{turn_said}
 
 -- ONE TAKES ITS TURN
@@ -40,20 +43,21 @@ no_note_of w who x h = ap (λ b. cond (is_same w who && b) 1 0) h
     ∙ (elim (is_same w who) as (λ b. ◌≡◌ {A = ℕ} (cond (b && false) 1 0) 0) [ true ↦ refl | false ↦ refl ])
 
 -- of the one that takes it, be it a call or a topic producer
-record Taker (o : Options) (log : List Entry) (who : Who) (n : ℕ) : Type 0 where
+record IsTaker (o : Options) (log : List Entry) (who : Who) (n : ℕ) : Type 0 where
   calls : (u : ℕ) → is_same (Call u) who ≡ true → IsTaking o log u n × (taken_as who ≡ u)
   is_own : (u : ℕ) → IsTicket u → u ≡ taken_as who → is_same (Call u) who ≡ true
   producers : (m : ℕ) → is_same (Producer m) who ≡ true →
       (n ≡ m) × (taken_as who ≡ behind_all) × ((p : Plan) → (view o log).stand (Producer m) ≡ Some p → holds p ≡ None)
 
-taker : (o : Options) (log : List Entry) (who : Who) (n : ℕ) → Every (AllTurns o) log → IsRun o (Then (Does who (OfTopic n TakeTurn)) ∷ log) → Taker o log who n
-taker o log (Call t) n k run = record {
+is_taker : (o : Options) (log : List Entry) (who : Who) (n : ℕ) → Every (AllTurns o) log → IsRun o (Then (Does who (OfTopic n TakeTurn)) ∷ log) →
+    IsTaker o log who n
+is_taker o log (Call t) n k run = record {
   calls = λ u s. (let e : u ≡ t = eqb-true u t (and_parts (u == t) (u == t) s).0 in (subst (λ y. IsTaking o log y n) (sym e) (taking o log t n k run), sym e));
   is_own = λ u x y. subst (λ z. is_same (Call z) (Call t) ≡ true) (sym y) (self_same t);
   producers = λ m s. absurd cc;
 }
-taker o log (Consumer j t) n k run = (let f : is_modest (OfTopic n TakeTurn) ≡ true = server_does o log j t (OfTopic n TakeTurn) run in absurd cc)
-taker o log (Producer j) n k run = record {
+is_taker o log (Consumer j t) n k run = (let f : is_modest (OfTopic n TakeTurn) ≡ true = server_does o log j t (OfTopic n TakeTurn) run in absurd cc)
+is_taker o log (Producer j) n k run = record {
   calls = λ u s. absurd cc;
   is_own = λ u x y. absurd (not_all u x y);
   producers = λ m s.
@@ -66,12 +70,12 @@ taker o log (Producer j) n k run = record {
     plain p q h e f = let g : Some p ≡ Some q = sym e ∙ f in let i : p ≡ q = cc in ap holds i ∙ h
 
 module _ (o : Options) (log : List Entry) (who : Who) (n : ℕ) (run : IsRun o (Then (Does who (OfTopic n TakeTurn)) ∷ log)) (k : AllTurns o log)
-    (x : Taker o log who n) where
+    (x : IsTaker o log who n) where
   abbrev ps : Producers
   ps = (view o log).producers
 
-  abbrev t : ℕ
-  t = taken_as who
+  abbrev t : Taker
+  t = taker.Call (taken_as who)
 
   abbrev it : Act
   it = Does who (OfTopic n TakeTurn)
@@ -148,9 +152,9 @@ module _ (o : Options) (log : List Entry) (who : Who) (n : ℕ) (run : IsRun o (
       same_waiting : (topic_after (Takes t) row).seen.waiting ≡ row.seen.waiting
       same_waiting = ap (λ h. (takes_in h t row.seen).waiting) free
 
-      back_free : (u m : ℕ) (other : Topic) → (view o (Then it ∷ log)).producers.topics m ≡ Some other → In u other.seen.waiting → Waits o log u m
+      back_free : (u m : ℕ) (other : Topic) → (view o (Then it ∷ log)).producers.topics m ≡ Some other → In (taker.Call u) other.seen.waiting → Waits o log u m
       back_free u m other e i = elim (changed_from (Takes t) ps n row is m other e) [
-        | inl q ↦ (row, ap ps.topics q.0 ∙ is, subst (In u) (ap (λ r. r.seen.waiting) q.1 ∙ same_waiting) i)
+        | inl q ↦ (row, ap ps.topics q.0 ∙ is, subst (In (taker.Call u)) (ap (λ r. r.seen.waiting) q.1 ∙ same_waiting) i)
         | inr q ↦ (other, q.1, i)
       ]
 
@@ -174,7 +178,7 @@ module _ (o : Options) (log : List Entry) (who : Who) (n : ℕ) (run : IsRun o (
           let y = x.calls u s in
           record {
             number = n;
-            has = (now_has.0, now_has.1, now_has.2 ∙ ap Some y.1);
+            has = (now_has.0, now_has.1, now_has.2 ∙ ap (λ k. Some (taker.Call k)) y.1);
             stands = subst (IsAt n) (sym y.0.stood) (inl y.0.wants);
             apart = λ m other e i. (let w = back_free u m other e i in y.0.clear.apart m w.0 w.1 w.2);
             begun = count_more u it log (stood_begun o log u y.0.plan y.0.stood);
@@ -211,7 +215,7 @@ module _ (o : Options) (log : List Entry) (who : Who) (n : ℕ) (run : IsRun o (
         told = λ m one. elim (cases_Bool (is_same (Producer m) who)) [
           | inl s ↦
               (let y = x.producers m s in
-              subst (HasTurn (view o (Then it ∷ log)) (Producer m)) y.0 (now_has.0, now_has.1, now_has.2 ∙ ap Some y.1))
+              subst (HasTurn (view o (Then it ∷ log)) (Producer m)) y.0 (now_has.0, now_has.1, now_has.2 ∙ ap (λ k. Some (taker.Call k)) y.1))
           | inr s ↦
               (let e = pends_more (Producer m) in
               let z : turn_note (Producer m) given ≡ 0 = note_other (Producer m) s in
@@ -253,7 +257,7 @@ module _ (o : Options) (log : List Entry) (who : Who) (n : ℕ) (run : IsRun o (
       }
 
     -- another has it
-    module _ (other : ℕ) (busy : row.seen.holder ≡ Some other) where
+    module _ (other : Taker) (busy : row.seen.holder ≡ Some other) where
       nothing_now : says_to who (turn_said (ps.topics n)) ≡ []
       nothing_now =
           ap (λ r. says_to who (turn_said r)) is
@@ -265,18 +269,18 @@ module _ (o : Options) (log : List Entry) (who : Who) (n : ℕ) (run : IsRun o (
       same_holder : (topic_after (Takes t) row).seen.holder ≡ row.seen.holder
       same_holder = ap (λ h. (takes_in h t row.seen).holder) busy
 
-      more_waiting : (topic_after (Takes t) row).seen.waiting ≡ insert_key nat_cmp row.seen.waiting t
+      more_waiting : (topic_after (Takes t) row).seen.waiting ≡ queued t row.seen.waiting
       more_waiting = ap (λ h. (takes_in h t row.seen).waiting) busy
 
       abbrev Joined : ℕ → ℕ → Type 0
       Joined u m = (is_same (Call u) who ≡ true) × (m ≡ n)
 
-      back_busy : (u m : ℕ) (r : Topic) → IsTicket u → (view o (Then it ∷ log)).producers.topics m ≡ Some r → In u r.seen.waiting →
+      back_busy : (u m : ℕ) (r : Topic) → IsTicket u → (view o (Then it ∷ log)).producers.topics m ≡ Some r → In (taker.Call u) r.seen.waiting →
           Waits o log u m ⊎ Joined u m
       back_busy u m r y e i = elim (changed_from (Takes t) ps n row is m r e) [
-        | inl q ↦ elim (in_insert u t row.seen.waiting (subst (In u) (ap (λ z. z.seen.waiting) q.1 ∙ more_waiting) i)) [
+        | inl q ↦ elim (in_queued (taker.Call u) t row.seen.waiting (subst (In (taker.Call u)) (ap (λ z. z.seen.waiting) q.1 ∙ more_waiting) i)) [
           | inl j ↦ inl (row, ap ps.topics q.0 ∙ is, j)
-          | inr j ↦ inr (x.is_own u y j, q.0)
+          | inr j ↦ inr (x.is_own u y cc, q.0)
         ]
         | inr q ↦ inl (r, q.1, i)
       ]
@@ -327,7 +331,7 @@ module _ (o : Options) (log : List Entry) (who : Who) (n : ℕ) (run : IsRun o (
         own = own_busy;
       }
 
-    row_turns : (h : Option ℕ) → row.seen.holder ≡ h → AllTurns o (Then it ∷ log)
+    row_turns : (h : Option Taker) → row.seen.holder ≡ h → AllTurns o (Then it ∷ log)
     row_turns None e = free_turns e
     row_turns (Some other) e = busy_turns other e
 
@@ -337,23 +341,24 @@ module _ (o : Options) (log : List Entry) (who : Who) (n : ℕ) (run : IsRun o (
 
 -- ONE PASSES ITS TURN ON
 
-above_not : (x : ℕ) (xs : List ℕ) → AreAbove x xs → In x xs → ⊥
+above_not : (x : ℕ) (xs : List Taker) → AreAbove x (tickets xs) → In (taker.Call x) xs → ⊥
 above_not x [] h i = i
-above_not x (y ∷ xs) h (inl e) = let lt : x < y = h.0 in let q : x ≡ y = e in absurd
+above_not x (taker.Call y ∷ xs) h (inl e) = let lt : x < y = h.0 in let q : x ≡ y = cc in absurd
     (let f : 1 ≤ 0 = omega (arith, lt, q) in (let g : ⊥ = omega (arith, f) in g))
-above_not x (y ∷ xs) h (inr i) = above_not x xs h.1 i
+above_not x (taker.Call y ∷ xs) h (inr i) = above_not x xs h.1 i
+above_not x (taker.Copy consumer ticket key ∷ xs) h (inl e) = absurd cc
+above_not x (taker.Copy consumer ticket key ∷ xs) h (inr i) = above_not x xs h i
 
 -- the first of those that wait is the lowest
-pub lowest : (o : Options) (log : List Entry) (n : ℕ) (row : Topic) (x : ℕ) (xs : List ℕ) → IsRun o log → (view o log).producers.topics n ≡ Some row →
-    row.seen.waiting ≡ x ∷ xs →
-    AreAbove x xs
+lowest : (o : Options) (log : List Entry) (n : ℕ) (row : Topic) (x : ℕ) (xs : List Taker) → IsRun o log → (view o log).producers.topics n ≡ Some row →
+    row.seen.waiting ≡ taker.Call x ∷ xs → AreAbove x (tickets xs)
 lowest o log n row x xs run is w =
     let a = topics_alone_lem o log n row run is in
     let s : Setup = record { built = a.0; first_number = o.chosen.first_number; limits = a.1 } in
     let h = acts_on o n log in
-    let wait : (topic.seen s h).waiting ≡ x ∷ xs = sym (ap (λ v. v.waiting) a.3) ∙ w in
-    let next : next_holder (topic.seen s h) ≡ Some x = ap first_of wait in
-    subst (AreAbove x) (ap rest_of wait) (lowest_is_next s h x next).0
+    let wait : (topic.seen s h).waiting ≡ taker.Call x ∷ xs = sym (ap (λ v. v.waiting) a.3) ∙ w in
+    let next : next_holder (topic.seen s h) ≡ Some (taker.Call x) = ap first_of wait in
+    subst (λ ts. AreAbove x (tickets ts)) (ap rest_of wait) (lowest_is_next s h x next).0
 
 module _ (o : Options) (log : List Entry) (who : Who) (n : ℕ) (run : IsRun o (Then (Does who (OfTopic n PassTurn)) ∷ log)) (k : AllTurns o log)
     (y : IsPassing o log who n) where
@@ -369,7 +374,7 @@ module _ (o : Options) (log : List Entry) (who : Who) (n : ℕ) (run : IsRun o (
   is_row : was.topics n ≡ Some row
   is_row = y.has.1
 
-  told_next : (r : Option (ℕ × Option (List ℕ))) → turn_passed (was.topics n) ≡ r → (w : Who) →
+  told_next : (r : Option (Taker × Option (List ℕ))) → turn_passed (was.topics n) ≡ r → (w : Who) →
       pending o log w + 0 + sum (turn_note w) (option_to_list (option_map (turn_notice n) r)) ≡ 0 + pending o (Then pass ∷ log) w
   told_next r e w =
       let p = pend_then o log w pass run in
@@ -387,7 +392,7 @@ module _ (o : Options) (log : List Entry) (who : Who) (n : ℕ) (run : IsRun o (
   holds_it w m e h =
       let f : Some h.0 ≡ Some row = sym h.1 ∙ ap was.topics (eqb-true m n e) ∙ is_row in
       let same : h.0 ≡ row = cc in
-      let g : Some (taken_as w) ≡ Some (taken_as who) = sym h.2 ∙ ap (λ r. r.seen.holder) same ∙ y.has.2 in
+      let g : Some (taker.Call (taken_as w)) ≡ Some (taker.Call (taken_as who)) = sym h.2 ∙ ap (λ r. r.seen.holder) same ∙ y.has.2 in
       cc
 
   -- for others nothing is lost
@@ -411,13 +416,13 @@ module _ (o : Options) (log : List Entry) (who : Who) (n : ℕ) (run : IsRun o (
       let f : 1 ≤ pending o log who = subst (λ w. 1 ≤ pending o log w) it one in
       absurd (let g : ⊥ = omega (arith, z, f) in g)
 
-  in_rest : (u : ℕ) (ts : List ℕ) → In u (rest_of ts) → In u ts
+  in_rest : (u : Taker) (ts : List Taker) → In u (rest_of ts) → In u ts
   in_rest u [] h = h
   in_rest u (x ∷ xs) h = inr h
 
-  back_pass : (u m : ℕ) (r : Topic) → (view o (Then pass ∷ log)).producers.topics m ≡ Some r → In u r.seen.waiting → Waits o log u m
+  back_pass : (u m : ℕ) (r : Topic) → (view o (Then pass ∷ log)).producers.topics m ≡ Some r → In (taker.Call u) r.seen.waiting → Waits o log u m
   back_pass u m r e i = elim (changed_from Passes was n row is_row m r e) [
-    | inl q ↦ (row, ap was.topics q.0 ∙ is_row, in_rest u row.seen.waiting (subst (In u) (ap (λ z. z.seen.waiting) q.1) i))
+    | inl q ↦ (row, ap was.topics q.0 ∙ is_row, in_rest (taker.Call u) row.seen.waiting (subst (In (taker.Call u)) (ap (λ z. z.seen.waiting) q.1) i))
     | inr q ↦ (r, q.1, i)
   ]
 
@@ -472,8 +477,8 @@ module _ (o : Options) (log : List Entry) (who : Who) (n : ℕ) (run : IsRun o (
         own_keeps m (pends_apart m f) (k.own.told m f));
   }
 
-  passed_as : (ts : List ℕ) → row.seen.waiting ≡ ts → turn_passed (was.topics n) ≡ option_map (λ ticket. (ticket, row.seen.given.version)) (first_of ts)
-  passed_as ts e = ap turn_passed is_row ∙ ap (λ z. option_map (λ ticket. (ticket, row.seen.given.version)) (first_of z)) e
+  passed_as : (ts : List Taker) → row.seen.waiting ≡ ts → turn_passed (was.topics n) ≡ option_map (λ next. (next, row.seen.given.version)) (first_of ts)
+  passed_as ts e = ap turn_passed is_row ∙ ap (λ z. option_map (λ next. (next, row.seen.given.version)) (first_of z)) e
 
   -- nobody waits
   none_waits : row.seen.waiting ≡ [] → AllTurns o (Then pass ∷ log)
@@ -484,18 +489,38 @@ module _ (o : Options) (log : List Entry) (who : Who) (n : ℕ) (run : IsRun o (
     own = own_same (λ m. (let p = told_next None (passed_as [] e) (Producer m) in omega (arith, p)));
   }
 
-  -- the first of those that wait has it now
-  module _ (x : ℕ) (xs : List ℕ) (e : row.seen.waiting ≡ x ∷ xs) where
+  -- a copy has it now: neither a call nor a topic producer is told of that
+  module _ (consumer ticket key : ℕ) (xs : List Taker) (e : row.seen.waiting ≡ taker.Copy consumer ticket key ∷ xs) where
+    abbrev copy_note : Notice
+    copy_note = turn_notice n (taker.Copy consumer ticket key, row.seen.given.version)
+
+    pends_copy : (w : Who) → pending o log w + turn_note w copy_note ≡ pending o (Then pass ∷ log) w
+    pends_copy w =
+        let p = told_next (Some (taker.Copy consumer ticket key, row.seen.given.version)) (passed_as (taker.Copy consumer ticket key ∷ xs) e) w in omega (arith, p)
+
+    copy_call : (u : ℕ) → pending o log (Call u) ≡ pending o (Then pass ∷ log) (Call u)
+    copy_call u = let p = pends_copy (Call u) in let z : turn_note (Call u) copy_note ≡ 0 = refl in omega (arith, p, z)
+
+    copy_turns : AllTurns o (Then pass ∷ log)
+    copy_turns = record {
+      calls = pass_step (λ u. (let p = copy_call u in let f : pending o log (Call u) ≤ 1 = k.calls.few u in omega (arith, p, f)))
+          (λ u one. inl (let p = copy_call u in omega (arith, p, one)));
+      own = own_same (λ m.
+          (let p = pends_copy (Producer m) in let z : turn_note (Producer m) copy_note ≡ 0 = refl in omega (arith, p, z)));
+    }
+
+  -- the first of those that wait has it now, by its ticket
+  module _ (x : ℕ) (xs : List Taker) (e : row.seen.waiting ≡ taker.Call x ∷ xs) where
     abbrev note : Notice
-    note = turn_notice n (x, row.seen.given.version)
+    note = turn_notice n (taker.Call x, row.seen.given.version)
 
     pends_next : (w : Who) → pending o log w + turn_note w note ≡ pending o (Then pass ∷ log) w
-    pends_next w = let p = told_next (Some (x, row.seen.given.version)) (passed_as (x ∷ xs) e) w in omega (arith, p)
+    pends_next w = let p = told_next (Some (taker.Call x, row.seen.given.version)) (passed_as (taker.Call x ∷ xs) e) w in omega (arith, p)
 
-    first_waits : In x row.seen.waiting
-    first_waits = subst (In x) (sym e) (inl refl)
+    first_waits : In (taker.Call x) row.seen.waiting
+    first_waits = subst (In (taker.Call x)) (sym e) (inl refl)
 
-    next_held : (topic : Topic) × ((view o (Then pass ∷ log)).producers.topics n ≡ Some topic) × (topic.seen.holder ≡ Some x)
+    next_held : (topic : Topic) × ((view o (Then pass ∷ log)).producers.topics n ≡ Some topic) × (topic.seen.holder ≡ Some (taker.Call x))
     next_held = (topic_after Passes row, changed_at Passes was n row is_row, ap first_of e)
 
     note_of : (w : Who) (b : Bool) → is_spent x ≡ b → turn_note w note ≡ cond (is_same w (cond b (Producer n) (Call x)) && true) 1 0
@@ -512,11 +537,11 @@ module _ (o : Options) (log : List Entry) (who : Who) (n : ℕ) (run : IsRun o (
       note_not : (w : Who) → is_same w (Call x) ≡ false → turn_note w note ≡ 0
       note_not w s = note_of w false ticket ∙ ap (λ b. cond (b && true) 1 0) s
 
-      no_more_waits : (m : ℕ) (r : Topic) → (view o (Then pass ∷ log)).producers.topics m ≡ Some r → In x r.seen.waiting → ⊥
+      no_more_waits : (m : ℕ) (r : Topic) → (view o (Then pass ∷ log)).producers.topics m ≡ Some r → In (taker.Call x) r.seen.waiting → ⊥
       no_more_waits m r f i = elim (changed_from Passes was n row is_row m r f) [
         | inl q ↦
-            (let j : In x (rest_of row.seen.waiting) = subst (In x) (ap (λ z. z.seen.waiting) q.1) i in
-            above_not x xs (lowest o log n row x xs run.0 is_row e) (subst (λ ts. In x (rest_of ts)) e j))
+            (let j : In (taker.Call x) (rest_of row.seen.waiting) = subst (In (taker.Call x)) (ap (λ z. z.seen.waiting) q.1) i in
+            above_not x xs (lowest o log n row x xs run.0 is_row e) (subst (λ ts. In (taker.Call x) (rest_of ts)) e j))
         | inr q ↦
             (let same : m ≡ n = k.calls.one x m n r row ticket q.1 is_row i first_waits in
             let d : (m == n) ≡ true = subst (λ z. (m == z) ≡ true) same (equal_self m) in
@@ -608,7 +633,7 @@ module _ (o : Options) (log : List Entry) (who : Who) (n : ℕ) (run : IsRun o (
           told = λ m one. elim (cases_Bool (is_same (Producer m) (Producer n))) [
             | inl s ↦
                 subst (HasTurn (view o (Then pass ∷ log)) (Producer m)) (sym (same_producer m n s))
-                (next_held.0, next_held.1, next_held.2 ∙ ap Some (eqb-true x behind_all last))
+                (next_held.0, next_held.1, next_held.2 ∙ ap (λ k. Some (taker.Call k)) (eqb-true x behind_all last))
             | inr s ↦
                 (let q = pends_next (Producer m) in
                 let z : turn_note (Producer m) note ≡ 0 = last_other m s in
@@ -621,9 +646,10 @@ module _ (o : Options) (log : List Entry) (who : Who) (n : ℕ) (run : IsRun o (
     next_turns : AllTurns o (Then pass ∷ log)
     next_turns = elim (cases_Bool (is_spent x)) [ inl s ↦ last_turns s | inr s ↦ call_turns s ]
 
-  pass_turns : (ts : List ℕ) → row.seen.waiting ≡ ts → AllTurns o (Then pass ∷ log)
+  pass_turns : (ts : List Taker) → row.seen.waiting ≡ ts → AllTurns o (Then pass ∷ log)
   pass_turns [] e = none_waits e
-  pass_turns (x ∷ xs) e = next_turns x xs e
+  pass_turns (taker.Call x ∷ xs) e = next_turns x xs e
+  pass_turns (taker.Copy consumer ticket key ∷ xs) e = copy_turns consumer ticket key xs e
 
 -- ALONG A LOG
 
@@ -654,7 +680,7 @@ then_turns : (o : Options) (log : List Entry) (a : Act) → IsRun o (Then a ∷ 
 then_turns o log (Told n) run k = told_turns o log n run (here (AllTurns o) log k)
 then_turns o log (Starts who p) run k = starts_turns o log who p run (here (AllTurns o) log k)
 then_turns o log (Does who (OfTopic n TakeTurn)) run k =
-    take_turns o log who n run (here (AllTurns o) log k) (taker o log who n k run) ((view o log).producers.topics n) refl
+    take_turns o log who n run (here (AllTurns o) log k) (is_taker o log who n k run) ((view o log).producers.topics n) refl
 then_turns o log (Does who (OfTopic n PassTurn)) run k =
     let y = passing o log who n k run in pass_turns o log who n run (here (AllTurns o) log k) y y.has.0.seen.waiting refl
 then_turns o log (Does who a) run k = left_turns o log (Does who a) run refl refl (λ w. refl) (here (AllTurns o) log k)
@@ -681,6 +707,11 @@ turns_run o (Then a ∷ log) run = let k = turns_run o log run.0 in (then_turns 
 
 -- THE LAWS
 
+behind : (o : Options) (log : List Entry) (n : ℕ) (row : Topic) (next : Taker) (left : List Taker) → IsRun o log →
+    (view o log).producers.topics n ≡ Some row → row.seen.waiting ≡ next ∷ left → (ticket : ℕ) × (next ≡ taker.Call ticket) → AreBehind next left
+behind o log n row (taker.Call t) left run is e k = lowest o log n row t left run is e
+behind o log n row (taker.Copy consumer ticket key) left run is e k = absurd (let no : taker.Copy consumer ticket key ≡ taker.Call k.0 = k.1 in cc)
+
 pub passed_in_turn_lem : PassedInTurn
 passed_in_turn_lem o log who n run =
     let y = passing o log who n (turns_run o log run.0) run in
@@ -689,8 +720,8 @@ passed_in_turn_lem o log who n run =
       y.has.1,
       y.has.2,
       λ next left e. (
-        lowest o log n row next left run.0 y.has.1 e,
-        subst (λ r. In (notice (in_turn n next) (outcome.Granted (news.HasTurn row.seen.given.version))) (option_to_list (option_map (turn_notice n) r)))
+        behind o log n row next left run.0 y.has.1 e (waits_by_ticket o n next log row run.0 y.has.1 (subst (In next) (sym e) (inl refl))),
+        subst (λ r. In (notice (who_at n next) (outcome.Granted (news.HasTurn row.seen.given.version))) (option_to_list (option_map (turn_notice n) r)))
             (sym (passed_as o log who n run (here (AllTurns o) log (turns_run o log run.0)) y (next ∷ left) e)) (inl refl),
       ),
     )

@@ -1,10 +1,12 @@
 -- Tickets at a topic producer: whoever waits there, or is told what becomes of a batch, took a turn there, stored a message or flushed it.
-use Rattle.std.proofs.Common.{◌≡◌, inl, inr, sym, subst, ℕ, ◌+◌, List, [], ◌∷◌, refl, map, Bool, true, false, Option, Some, None}
+use Rattle.std.proofs.Common.{◌≡◌, inl, inr, sym, ap, subst, ℕ, ◌+◌, List, [], ◌∷◌, refl, map, Bool, true, false, Option, Some, None}
 use Rattle.pulsar_laws.proofs.ActWords.{Act, Action, Call, Consumer, Does, Flush, Notice, OfTopic, Outcome, Procedure, Producer, Store, TakeBatch, TakeTurn, TellAll, Told, Who, turn_of}
 use Rattle.pulsar_laws.proofs.PlanWords.{action_of, Batches, Batching, BuildingProducer as Build, Deed, Errand, Fate, Member, News, news_of, ProducerOrder, Plan, Sending as Send, told_to, Ways}
 use Rattle.pulsar_laws.proofs.RunWords.{Begins, Each, Entry, In, IsRun, notice, Options, rules, Then, View, view}
 use Rattle.pulsar_outgoing.specs.Batch.{cut_report, member_of, reports_from}
 use Rattle.pulsar_outgoing.specs.Storage.{Item, SingleMessage, Flush as FlushItem, ticket_of}
+use Rattle.pulsar_outgoing.specs.declared.multi_topic.Taker.{Taker}
+use Rattle.pulsar_outgoing.specs.declared.multi_topic.Taker.TheVariants as taker
 use Rattle.pulsar_producer.specs.Topic as topic
 use Rattle.pulsar_producer.specs.Topic.{Act as TopicAct, Seen}
 use Rattle.pulsar_producer.proofs.Tickets.{BringsSo, UsersSo, users_so}
@@ -22,7 +24,10 @@ use Rattle.pulsar_laws.proofs.Lists.{each_along, in_each}
 use Rattle.pulsar_plans.proofs.Arcs.{BatchArc, batch_sends, batch_settles, begun_arc, taken_settles, taken_starts, told_arc, Arc, Begun, batch_cuts, batches_go, begins_build, builds_on, part_sends, sends}
 use Rattle.pulsar_laws.proofs.plans.Standing.{run_older, stands_so}
 use Rattle.pulsar_laws.specs.ProducerLaws.{topic_acts}
-use Rattle.pulsar_producer_table.specs.Producers.{next_batch_at, topic_after}
+use Rattle.pulsar_producer_table.specs.Producers.{next_batch_at, topic_after, turn_passed}
+use Rattle.pulsar_laws.proofs.Cases.{none_some}
+use Rattle.std.specs.Option.{option_map}
+use Rattle.pulsar_producer.specs.Turns.{first_of}
 use Rattle.pulsar_laws.proofs.plans.Granted.{GivenBy, IsGrantedBy, IsLedSo, does_from, granted_by, grants_given}
 use Rattle.pulsar_producer.proofs.Arcs.{BuildArc, SendArc, draws, naming_rests}
 use Rattle.pulsar_laws.proofs.producers.Drawing.{born_joins, topics_keep}
@@ -45,16 +50,21 @@ build_alone _ = refl
 
 -- TICKETS THAT ARE SO: those of all that was done at a topic producer. Those of turns are so, and those of what is stored.
 
+-- a turn is taken by a ticket, and for no copy
+abbrev pub TakerSo : (ℕ → Type 0) → Taker → Type 0
+TakerSo T (taker.Call t) = T t
+TakerSo T (taker.Copy consumer ticket key) = ⊥
+
 module _ (T P : ℕ → Type 0) where
   abbrev ItemSo : Item → Type 0
   ItemSo x = P (ticket_of x)
 
   -- what is done to one, and what is seen of it
   abbrev ActSo : TopicAct → Type 0
-  ActSo act = BringsSo T ItemSo act
+  ActSo act = BringsSo (TakerSo T) ItemSo act
 
   abbrev pub SeenSo : Seen → Type 0
-  SeenSo v = UsersSo T ItemSo v
+  SeenSo v = UsersSo (TakerSo T) ItemSo v
 
   -- A PLAN OF BATCHES
 
@@ -154,7 +164,7 @@ module _ (T P : ℕ → Type 0) where
   acts_by v n a k = acts_each ActSo v n a so
     where
       so : (d : TopicAct) → CameFrom n a d → ActSo d
-      so (topic.Takes t) c = subst T (sym c.2) (subst DoesSo c.1 k)
+      so (topic.Takes t) c = subst (TakerSo T) (sym c.2) (subst DoesSo c.1 k)
       so (topic.Stores t e) c = subst P (sym c.2) (subst DoesSo c.1 k)
       so (topic.Flushes t) c = subst P (sym c.2) (subst DoesSo c.1 k)
       so d c = tt
@@ -172,7 +182,7 @@ module _ (T P : ℕ → Type 0) where
       done : (a : Act) (past : List Entry) (m : ℕ) (t : Topic) → IsRun o (Then a ∷ past) → (view o past).producers.topics m ≡ Some t →
           (LogSo past → SeenSo t.seen) → LogSo (Then a ∷ past) → SeenSo (along topic_after (topic_acts (view o past) m a) t).seen
       done a past m t r h so l =
-          each_along topic_after ActSo (λ (x : Topic). SeenSo x.seen) (λ act x. users_so T ItemSo act x.seen) (topic_acts (view o past) m a) t
+          each_along topic_after ActSo (λ (x : Topic). SeenSo x.seen) (λ act x. users_so (TakerSo T) ItemSo act x.seen) (topic_acts (view o past) m a) t
           (acts_by (view o past) m a l.0) (so l.1)
 
   next_so : (cut : List (List Item)) → Each (Each ItemSo) cut → NewsSo (news.HasBatch (topic.next_of cut))
@@ -226,9 +236,9 @@ module _ (T P : ℕ → Type 0) where
           (arc_so (told_arc l.leads) was (news_so o l.older w l.outcome r.0 r.1.1)).1
 
   -- who waits there, and who has stored something
-  pub waits_so : (o : Options) (n t : ℕ) (log : List Entry) (row : Topic) → IsRun o log → LogSo log → (view o log).producers.topics n ≡ Some row →
-      In t row.seen.waiting → T t
-  waits_so o n t log row run k is i = in_each T t row.seen.waiting i (row_so o n log row run k is).0
+  pub waits_so : (o : Options) (n : ℕ) (t : Taker) (log : List Entry) (row : Topic) → IsRun o log → LogSo log →
+      (view o log).producers.topics n ≡ Some row → In t row.seen.waiting → TakerSo T t
+  waits_so o n t log row run k is i = in_each (TakerSo T) t row.seen.waiting i (row_so o n log row run k is).0
 
   items_tickets : (xs : List Item) → Each ItemSo xs → Each P (map ticket_of xs)
   items_tickets [] k = tt
@@ -238,3 +248,45 @@ module _ (T P : ℕ → Type 0) where
       In t (topic.stored_tickets row.seen) → P t
   stored_so o n t log row run k is i =
       in_each P t (map ticket_of row.seen.storage.items) i (items_tickets row.seen.storage.items (row_so o n log row run k is).1)
+
+-- WHO WAITS HAS A TICKET
+
+abbrev Any : ℕ → Type 0
+Any t = Unit {0}
+
+any_does : (a : Act) → DoesSo Any Any a
+any_does (Does who (OfTopic n TakeTurn)) = tt
+any_does (Does who (OfTopic n (Store e))) = tt
+any_does (Does who (OfTopic n Flush)) = tt
+any_does _ = tt
+
+any_log : (log : List Entry) → LogSo Any Any log
+any_log [] = tt
+any_log (Begins e ∷ log) = any_log log
+any_log (Then a ∷ log) = (any_does a, any_log log)
+
+pub has_ticket : (t : Taker) → TakerSo Any t → (ticket : ℕ) × (t ≡ taker.Call ticket)
+has_ticket (taker.Call ticket) so = (ticket, refl)
+has_ticket (taker.Copy consumer ticket key) so = absurd so
+
+pub waits_by_ticket : (o : Options) (n : ℕ) (t : Taker) (log : List Entry) (row : Topic) → IsRun o log → (view o log).producers.topics n ≡ Some row →
+    In t row.seen.waiting → (ticket : ℕ) × (t ≡ taker.Call ticket)
+waits_by_ticket o n t log row run is i = has_ticket t (waits_so Any Any o n t log row run (any_log log) is i)
+
+-- and so has the one to whom a turn is passed on
+abbrev with_version : Option (List ℕ) → Taker → Taker × Option (List ℕ)
+with_version version t = (t, version)
+
+pub passed_waits : (t : Taker) (version : Option (List ℕ)) (r : Option Topic) → turn_passed r ≡ Some (t, version) →
+    (row : Topic) × (r ≡ Some row) × In t row.seen.waiting
+passed_waits t version None h = absurd (none_some h)
+passed_waits t version (Some row) h = (row, refl, by row.seen.waiting h)
+  where
+    by : (ws : List Taker) → option_map (with_version row.seen.given.version) (first_of ws) ≡ Some (with_version version t) → In t ws
+    by [] e = absurd (none_some e)
+    by (w ∷ ws) e = inl (let f : with_version row.seen.given.version w ≡ with_version version t = cc in sym (ap (λ x. x.0) f))
+
+pub passes_by_ticket : (o : Options) (n : ℕ) (t : Taker) (version : Option (List ℕ)) (log : List Entry) → IsRun o log →
+    turn_passed ((view o log).producers.topics n) ≡ Some (t, version) → (ticket : ℕ) × (t ≡ taker.Call ticket)
+passes_by_ticket o n t version log run h =
+    let k = passed_waits t version ((view o log).producers.topics n) h in waits_by_ticket o n t log k.0 run k.1 k.2

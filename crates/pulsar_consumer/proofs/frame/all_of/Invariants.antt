@@ -1,5 +1,5 @@
 use Rattle.std.proofs.Common.{◌≡◌, ◌++◌, map}
-use Rattle.pulsar_frame.specs.Items.{given}
+use Rattle.pulsar_consumer.specs.Items.{given}
 use Rattle.pulsar_consumer.proofs.frame.all_of.Given as goal
 
 abbrev pub invariant-loop-id : goal.invariant-loop-id

@@ -1,4 +1,4 @@
-use Rattle.std.proofs.Common.{◌≡◌, ◌∙◌, [], Option, Some, refl}
+use Rattle.std.proofs.Common.{◌≡◌, ◌∙◌, [], Option, Some, None, refl}
 use Rattle.pulsar_wire.specs.Views.{body_values}
 use Rattle.pulsar_wire.specs.declared.commands.base.Body.{Body}
 use Rattle.pulsar_wire.specs.declared.commands.base.Body.TheVariants.{Message}
@@ -9,7 +9,7 @@ use Rattle.pulsar_consumer.specs.Frames.{Frame, frame_with}
 use Rattle.pulsar_consumer.proofs.frame.frame_with.Goals as goal
 
 abbrev nothing : Frame
-nothing = record { weight = 0; items = [] }
+nothing = record { weight = 0; items = []; letters = []; redeliveries = None }
 
 -- another body brings nothing
 other : (p : Option PayloadValues) (b : Body) → ((x : CommandMessage) → b ≡ Message x → ⊥) → nothing ≡ frame_with p (Some (body_values b))

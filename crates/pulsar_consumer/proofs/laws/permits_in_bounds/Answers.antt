@@ -1,5 +1,5 @@
 use Rattle.pulsar_consumer.proofs.Counted.{permits_are_counted}
-use Rattle.pulsar_consumer.proofs.Histories.{permits_in_bounds, raw_asks_for_nothing}
+use Rattle.pulsar_consumer.proofs.Granting.{permits_in_bounds, raw_asks_for_nothing}
 use Rattle.pulsar_consumer.proofs.laws.permits_in_bounds.Goals as goal
 
 pub returns-clause-bounds : goal.returns-clause-bounds

@@ -1,5 +1,4 @@
-use Rattle.pulsar_consumer.proofs.Begun.{frames_begin_in_turn}
-use Rattle.pulsar_consumer.proofs.Histories.{queue_is_kept}
+use Rattle.pulsar_consumer.proofs.Histories.{frames_begin_in_turn, queue_is_kept}
 use Rattle.pulsar_consumer.proofs.laws.queue_is_kept.Goals as goal
 
 pub returns-clause-placed : goal.returns-clause-placed

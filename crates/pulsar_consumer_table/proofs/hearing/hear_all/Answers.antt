@@ -3,7 +3,7 @@ use Rattle.std.specs.List.{flat_map}
 use Rattle.std.specs.List.Sorted.{IsStrictlySortedBy}
 use Rattle.std.specs.Ordering.{nat_cmp}
 use Rattle.pulsar_consumer_table.specs.Consumers.{Member, at_row, hears_frame, word_of_frame}
-use Rattle.pulsar_consumer_table.specs.KeptConsumers.{one_changed, rows_in, some_changed}
+use Rattle.pulsar_consumer_table.specs.KeptConsumers.{rows_in, some_changed}
 use Rattle.pulsar_calls.specs.Places.{is_listed}
 use Rattle.pulsar_consumer_table.specs.Notices.{word_to}
 use Rattle.pulsar_consumer_table.proofs.Several.{more_changed, more_given, sorted_front, unlisted}

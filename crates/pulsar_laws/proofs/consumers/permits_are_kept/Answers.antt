@@ -6,6 +6,11 @@ use Rattle.pulsar_laws.proofs.consumers.Placed.{flows_are_placed_lem}
 use Rattle.pulsar_laws.proofs.consumers.Queueing.{flows_are_queued_lem}
 use Rattle.pulsar_laws.proofs.consumers.Taken.{flows_are_counted_lem}
 use Rattle.pulsar_laws.proofs.consumers.permits_are_kept.Goals as goal
+use Rattle.pulsar_laws.specs.ConsumerLaws.{HalfIsHalf}
+use Rattle.std.proofs.Common.{arith}
+
+half_is_half : HalfIsHalf
+half_is_half batch = (omega arith, omega arith)
 
 pub returns-clause-bounds : goal.returns-clause-bounds
 returns-clause-bounds c = λ o log t m l run is raw live. permits_are_kept_lem ends_once_lem o log t m l run is raw live
@@ -30,3 +35,6 @@ returns-clause-none_due c = λ o log t m l run ends is live. no_flow_is_due_lem 
 
 pub returns-clause-granted : goal.returns-clause-granted
 returns-clause-granted c = λ o log t m l run ends is raw live. permits_are_granted_lem ends_once_lem o log t m l run ends is raw live
+
+pub returns-clause-half : goal.returns-clause-half
+returns-clause-half c = λ batch. half_is_half batch

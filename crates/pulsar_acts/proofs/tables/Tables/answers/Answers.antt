@@ -18,7 +18,7 @@ returns-clause-left c =
     let g = agenda_of c.args.tasks.now in
     let who = c.args.who in
     let makes = c.args.verdict.makes in
-    let due = c.in_ok-due.ensures.due ∙ ap (λ (x : View). made_due x.links.live who makes) c.in_ok-builds.ensures.sees in
+    let due = c.in_ok-due.ensures.due ∙ ap (λ (x : View). made_due x.links.live x.consumers.next_key who makes) c.in_ok-builds.ensures.sees in
     on_ok_weaker c.tell_end.result
     (λ told. c.in_ok-join_some.ensures
     ∙ ap (λ (x : Agenda). record x { here = put_all below (option_to_list c.in_ok-due.due) x.here }) c.in_ok-put_all.ensures

@@ -49,4 +49,4 @@ returns-clause-after c =
     let found = living_found n l cs.listing (rows_in cs.rows) (cs.listed c.if-self.false) ts (c.deref.ensures.value ∙ c.in_ok-tickets.ensures.tickets) in
     consumers_are _ _
     (found_change cs.rows (lives_with n l) ts found (closes (Some n) l true) (member_after (Ends Closed)) (rows_in c.close_all.new.rows) (closed_by n l) c.in_ok-notices.ensures.rows)
-    c.in_ok-notices.ensures.tickets refl refl refl
+    c.in_ok-notices.ensures.tickets refl refl refl refl

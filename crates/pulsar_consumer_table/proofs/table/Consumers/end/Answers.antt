@@ -51,4 +51,4 @@ returns-clause-after c =
     let found = found_living l cs.heard (rows_in cs.rows) (cs.lives c.if-self.false) ts (c.deref.ensures.value ∙ c.in_ok-tickets.ensures.tickets) in
     consumers_are _ _
     (found_change cs.rows (lives_at l) ts found (member_after (Loses l)) (member_after (Loses l)) (rows_in c.lose_all.new.rows) (lost_by l) c.in_ok-notices.ensures.rows)
-    c.in_ok-notices.ensures.tickets refl refl refl
+    c.in_ok-notices.ensures.tickets refl refl refl refl

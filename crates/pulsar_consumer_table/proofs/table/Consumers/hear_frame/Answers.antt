@@ -49,4 +49,4 @@ returns-clause-after c =
     let found = living_found n l cs.listing (rows_in cs.rows) (cs.listed c.if-self.false) ts (c.deref.ensures.value ∙ c.in_ok-tickets.ensures.tickets) in
     consumers_are _ _
     (found_change cs.rows (lives_with n l) ts found (hears l (Gives n r)) (hears_frame l r) (rows_in c.hear_all.new.rows) (heard_by n l r) c.in_ok-notices.ensures.rows)
-    c.in_ok-notices.ensures.tickets refl refl refl
+    c.in_ok-notices.ensures.tickets refl refl refl refl

@@ -31,4 +31,4 @@ returns c =
     let cs = c.args.self.now in
     let new = c.insert.new.self in
     consumers_are _ _ (λ t. put c.args.ticket t c.args.row (get nat_cmp cs.rows t) (get nat_cmp new t) (c.in_ok-insert.ensures.updates.0 t))
-    (ap keys_of c.in_ok-insert.ensures.entries ∙ keys_insert cs.rows.entries c.args.ticket c.args.row) refl refl refl
+    (ap keys_of c.in_ok-insert.ensures.entries ∙ keys_insert cs.rows.entries c.args.ticket c.args.row) refl refl refl refl

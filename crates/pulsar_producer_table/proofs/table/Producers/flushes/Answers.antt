@@ -1,4 +1,4 @@
-use Rattle.std.proofs.Common.{◌≡◌, ◌∙◌, ap, sym}
+use Rattle.std.proofs.Common.{◌∙◌, ap, sym}
 use Rattle.std.proofs.lemmas.Result.{MatchResult-weaker}
 use Rattle.pulsar_producer_table.specs.KeptProducers.{producers_of}
 use Rattle.std.proofs.Common.{None, cond, ◌∷◌, []}

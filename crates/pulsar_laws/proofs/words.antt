@@ -1,0 +1,3 @@
+pub mod Dialed
+pub mod Faults
+pub mod Shown

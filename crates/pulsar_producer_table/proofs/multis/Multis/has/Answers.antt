@@ -1,0 +1,9 @@
+use Rattle.std.proofs.Common.{◌∙◌, ap, sym}
+use Rattle.std.specs.Option.{is_some}
+use Rattle.pulsar_producer_table.specs.KeptMultis.{multis_of}
+use Rattle.pulsar_producer_table.specs.Multis.{at}
+use Rattle.pulsar_producer_table.proofs.Made.{made_is}
+use Rattle.pulsar_producer_table.proofs.multis.Multis.has.Goals as goal
+
+pub returns-in-Made : goal.returns-in-Made
+returns-in-Made c = c.contains_key.ensures ∙ ap is_some (made_is c.in-Made.ticket _) ∙ sym (ap (λ m. is_some (at m (multis_of c.args.self.now))) c.in-Made.is)

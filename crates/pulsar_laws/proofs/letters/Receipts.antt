@@ -18,10 +18,6 @@ module _ (o : Options) (n t key : ℕ) where
   abbrev Few : List Entry → Type 0
   Few log = counted (ack_by who) log ≤ counted (receipt_by who) log
 
-  -- what was told of a receipt, and what its consumer was told
-  abbrev Received : Words → (link : ℕ) → (w : Who) → Entry → List Entry → List Entry
-  Received r l w e older = Then (Told (notice w (outcome.Word (word.Asks l r)))) ∷ Then (Does w (OfConsumer CopySent)) ∷ e ∷ older
-
   asks_few : (log : List Entry) (w : Who) (l : ℕ) (r : Words) → IsRun o (Then (Does w (Ask l r)) ∷ log) → Every Few log →
       (x y : Bool) → is_same who w ≡ x → is_ack r ≡ y → Few (Then (Does w (Ask l r)) ∷ log)
   asks_few log w l r run k true true e f = elim (acks_are_licensed_lem o log w l r run f) [
@@ -34,8 +30,8 @@ module _ (o : Options) (n t key : ℕ) where
           let it : Entry = Then (Told (notice w (outcome.Replied reply))) in
           let was : Few (it ∷ older) = here Few (it ∷ older) (subst (Every Few) there k).1.1 in
           let a : counted (ack_by who) log ≡ counted (ack_by who) (it ∷ older) = ap (counted (ack_by who)) there ∙ omega (arith) in
-          let c : counted (receipt_by who) log ≡ counted (receipt_by who) (it ∷ older) + 1 =
-          ap (counted (receipt_by who)) there ∙ ap (λ z. counted (receipt_by who) (it ∷ older) + cond z 1 0) e in
+          let sent : receipt_by who (Does w (OfConsumer CopySent)) ≡ 1 = ap (λ z. cond z 1 0) e in
+          let c : counted (receipt_by who) log ≡ counted (receipt_by who) (it ∷ older) + 1 = ap (counted (receipt_by who)) there ∙ omega (arith, sent) in
           let i : ack_by who (Does w (Ask l r)) ≡ 1 = ap (λ z. cond (z && is_ack r) 1 0) e ∙ ap (λ z. cond z 1 0) f in
           omega (arith, was, a, c, i)
   asks_few log w l r run k true false e f =

@@ -4,6 +4,8 @@ pub mod Lone
 pub mod Polls
 pub mod Ended
 pub mod Acks
+pub mod Copies
+pub mod Licensed
 pub mod Flows
 pub mod Reached
 pub mod Riding
@@ -21,3 +23,4 @@ pub mod Rows
 pub mod Losses
 pub mod Halted
 pub mod Alert
+pub mod Asking

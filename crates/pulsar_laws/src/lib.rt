@@ -4,6 +4,7 @@
 pub mod alarms;
 pub mod batches;
 pub mod consumers;
+pub mod letters;
 pub mod multis;
 pub mod producers;
 pub mod runs;

@@ -1,16 +1,10 @@
 -- An alarm whose moment has come comes in the tick at which it has, and does what it is for.
-use Rattle.std.proofs.Common.{◌≡◌, ◌∙◌, sym, ap, subst, ℕ, suc, ◌+◌, ◌≤◌, List, [], ◌∷◌, refl, arith, length, map, Bool, true, false, ◌&&◌, ◌||◌, not, cond, nat_le, nat_lt, ◌==◌, Some, None, inl, inr}
+use Rattle.std.proofs.Common.{◌≡◌, ◌∙◌, sym, ap, subst, ℕ, suc, ◌+◌, ◌≤◌, List, [], ◌∷◌, ◌++◌, refl, arith, length, map, Bool, true, false, ◌&&◌, ◌||◌, not, cond, nat_le, nat_lt, ◌==◌, Some, None, inl, inr}
 use Rattle.std.proofs.lemmas.Bool.{cases_Bool, eq-eqb}
 use Rattle.std.proofs.lemmas.Bool.Decides.{nat_tests}
-use Rattle.std.specs.List.{filter}
-use Rattle.std.specs.Option.{is_none}
-use Rattle.std.specs.Option.{option_map}
-use Rattle.pulsar_calls.specs.declared.act.Alarm.TheVariants.{Redelivery}
-use Rattle.pulsar_calls.specs.declared.act.Notice.{Notice}
-use Rattle.pulsar_calls.specs.declared.act.Word.TheVariants as word
-use Rattle.pulsar_consumer_table.specs.Consumers.{who_of}
-use Rattle.pulsar_consumer_table.specs.Notices.{asks_word, redelivered_at, word_to}
-use Rattle.pulsar_laws.proofs.ActWords.{Act, Alarm, Batch, CheckIdle, Comes, Dials, Ends, Idles, KeepAlive, numbers_from, opens, Pings, Retry, Rings, Told, ToLink, Wake, Who}
+use Rattle.std.specs.List.{filter, flat_map}
+use Rattle.std.specs.Option.{is_none, option_map, option_to_list}
+use Rattle.pulsar_laws.proofs.ActWords.{Act, Alarm, Batch, CheckIdle, Comes, Dials, Ends, Idles, KeepAlive, Notice, numbers_from, opens, Pings, Redelivery, Retry, Rings, Told, ToLink, Wake, Who}
 use Rattle.pulsar_laws.proofs.RunWords.{Arises, Begins, Entry, In, InOne, is_live, notice, Options, parts, readied, ready_notice, rules, Then, View, view}
 use Rattle.pulsar_laws.proofs.LinkWords.{over_links, rings}
 use Rattle.pulsar_requests.specs.Soonest.{has_come}
@@ -21,9 +15,12 @@ use Rattle.pulsar_producer.specs.Topic as topic
 use Rattle.pulsar_producer.specs.Topic.{cuts}
 use Rattle.pulsar_producer_table.specs.Producers.{is_held, topic_after}
 use Rattle.pulsar_producer_table.specs.declared.table.Topic.{Topic}
-use Rattle.pulsar_consumer_table.specs.Consumers.{is_heard}
+use Rattle.pulsar_consumer_table.specs.Consumers.{Member, is_heard, redelivers, who_of}
+use Rattle.pulsar_consumer_table.specs.Notices.{asks_word, redelivered_to, word_to}
+use Rattle.pulsar_messages.specs.Words.{Words}
 use Rattle.pulsar_calls.specs.Content.{Ticked}
 use Rattle.pulsar_calls.specs.declared.act.Outcome.TheVariants as outcome
+use Rattle.pulsar_calls.specs.declared.act.Word.TheVariants as word
 use Rattle.pulsar_links.specs.Alarms.{is_same_alarm, moment_of, ringing}
 use Rattle.pulsar_links.specs.LinkRules.{due_part, on_link}
 use Rattle.pulsar_links.specs.Seats.{later}
@@ -177,11 +174,12 @@ module _ (o : Options) (newer older : List Entry) where
       (subst (λ row. In x (keeps_alive l row)) (sym h) (subst (λ b. In x (cond b (x ∷ []) [])) (sym (ap is_none none)) (inl refl)))
 
   asks_again : (n t : ℕ) → Done (Redelivery n t) → rings v.now (Redelivery n t) v.alarms ≡ true → ActsSo o (Redelivery n t) newer older
-  asks_again n t done r m l request there due =
-      let it : Notice = notice (who_of t m) (outcome.Word (word.Asks l request)) in
-      let told : redelivered_at v.now t (v.consumers.rows t) ≡ it ∷ [] =
-      ap (redelivered_at v.now t) there ∙ ap (λ x. word_to t m (option_map asks_word x) ++ []) due in
-      told_done (Redelivery n t) done (Told it) r (subst (λ ns. InOne (Told it) (map (map Told) (opens ns))) (sym told) (inl (inl refl)))
+  asks_again n t done r m l request h asks =
+      let said : Notice = notice (who_of t m) (outcome.Word (word.Asks l request)) in
+      let told : woken v (Redelivery n t) ≡ said ∷ [] =
+      ap (λ row. flat_map (redelivered_to v.now t) (option_to_list row)) h
+      ∙ ap (λ x. word_to t m (option_map asks_word x) ++ []) asks in
+      told_done (Redelivery n t) done (Told said) r (subst (λ ns. InOne (Told said) (map (map Told) (opens ns))) (sym told) (inl (inl refl)))
 
   idles : Done CheckIdle → rings v.now CheckIdle v.alarms ≡ true → ActsSo o CheckIdle newer older
   idles done r l seat h unused =

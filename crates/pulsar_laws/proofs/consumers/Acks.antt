@@ -229,7 +229,7 @@ call_licensed v advised asked =
     mild_licensed v asked (procedure_for v.chosen v.calls v.consumers v.producers advised asked)
     (call_begun v.chosen v.calls v.consumers v.producers advised asked refl)
 
-start_licensed : (v : View) (advised : List (Option ℕ)) (asked : Asked) (u : ℕ) (p : Procedure) (l : ℕ) (r : Words) (plan : Plan) →
+pub start_licensed : (v : View) (advised : List (Option ℕ)) (asked : Asked) (u : ℕ) (p : Procedure) (l : ℕ) (r : Words) (plan : Plan) →
     begins p ≡ Stays plan (Ask l r) → is_ack r ≡ true → In (Starts (Call u) p) (starts v advised asked) → (u ≡ v.calls.drawn) × Licenses v asked l r
 start_licensed v advised asked u p l r plan h b (inl e) =
     let num : u ≡ v.calls.drawn = cc in
@@ -328,7 +328,7 @@ NoRecall (Some (word.Recalled c)) = ⊥
 NoRecall (Some (word.Asks l request)) = ⊥
 NoRecall _ = Unit {0}
 
-if_none : (b : Bool) (w : Word) → NoRecall (Some w) → NoRecall (word_if b w)
+pub if_none : (b : Bool) (w : Word) → NoRecall (Some w) → NoRecall (word_if b w)
 if_none true w h = h
 if_none false w h = tt
 
@@ -338,11 +338,11 @@ frame_none now l r m =
     (cond_so NoRecall (is_body 27 r.content.body) _ _ (if_none _ (word.TopicEnded l) tt)
     (cond_so NoRecall (is_body 16 r.content.body) _ _ (if_none _ word.Lost tt) tt))
 
-heard_none : (now l : ℕ) (a : Arrival) (m : Member) → NoRecall (word_of now l a m)
+pub heard_none : (now l : ℕ) (a : Arrival) (m : Member) → NoRecall (word_of now l a m)
 heard_none now l (arrival.Gives number reply) m = cond_so NoRecall (m.seen.number == number) _ _ (frame_none now l reply m) tt
 heard_none now l _ m = tt
 
-loss_none : (l : ℕ) (cause : Option Fault) (m : Member) → NoRecall (word_of_loss l cause m)
+pub loss_none : (l : ℕ) (cause : Option Fault) (m : Member) → NoRecall (word_of_loss l cause m)
 loss_none l None m = tt
 loss_none l (Some cause) m = if_none _ word.Lost tt
 
@@ -368,7 +368,7 @@ AckedSo o who l r e older =
 told_ask : (w : Option Word) (l : ℕ) (r : Words) → NoRecall w → w ≡ Some (word.Asks l r) → ⊥
 told_ask w l r h e = subst NoRecall e h
 
-asked_so : (o : Options) (who : Who) (l : ℕ) (r : Words) (e : Entry) (older : List Entry) → Cause o who (outcome.Word (word.Asks l r)) e older →
+pub asked_so : (o : Options) (who : Who) (l : ℕ) (r : Words) (e : Entry) (older : List Entry) → Cause o who (outcome.Word (word.Asks l r)) e older →
     AckedSo o who l r e older ⊎ ChecksSo o who l r e older
 asked_so o who l r e older (inl (OfConsumer CopySent, is, said)) = inl (is, said)
 asked_so o who l r e older (inl (action, is, said)) = absurd said
@@ -391,7 +391,7 @@ asks_for f None x l r h = absurd (none_some h)
 asks_for f (Some k) None l r h = absurd (none_some h)
 asks_for f (Some k) (Some a) l r h = (a, ap (λ y. y.1) (some_is h))
 
-ack_is : (key : ℕ) (row : Option Member) (l : ℕ) (r : Words) → consumer.ack_for key row ≡ Some (l, r) → is_ack r ≡ true
+pub ack_is : (key : ℕ) (row : Option Member) (l : ℕ) (r : Words) → consumer.ack_for key row ≡ Some (l, r) → is_ack r ≡ true
 ack_is key None l r h = absurd (none_some h)
 ack_is key (Some m) l r h =
     let x = asks_for (λ id. words.SendAck m.seen.number (id ∷ []) false) (link_of m.seen) (acked key m.seen) l r h in ap is_ack (sym x.1)
@@ -400,7 +400,7 @@ abbrev pub is_again : Words → Bool
 is_again (words.SendRedeliver n ids) = true
 is_again _ = false
 
-again_is : (now : ℕ) (m : Member) (l : ℕ) (r : Words) → consumer.redelivers now (Some m) ≡ Some (l, r) → is_again r ≡ true
+pub again_is : (now : ℕ) (m : Member) (l : ℕ) (r : Words) → consumer.redelivers now (Some m) ≡ Some (l, r) → is_again r ≡ true
 again_is now m l r h = by (link_of m.seen) (asked_again now m.seen) h
   where
     by : (link : Option ℕ) (ids : List Id) → consumer.asks_on link (consumer.names_all m.seen.number ids) ≡ Some (l, r) → is_again r ≡ true
@@ -471,7 +471,7 @@ mild_run o who =
 -- THE LAWS
 
 -- what it is led to ask is what it is told to ask for
-led_said : (o : Options) (log : List Entry) (who : Who) (l : ℕ) (r : Words) → IsRun o log → is_ack r ≡ true → IsLedSo o log who (Ask l r) →
+pub led_said : (o : Options) (log : List Entry) (who : Who) (l : ℕ) (r : Words) → IsRun o log → is_ack r ≡ true → IsLedSo o log who (Ask l r) →
     (older : List Entry) × (log ≡ Then (Told (notice who (outcome.Word (word.Asks l r)))) ∷ older)
 led_said o log who l r run b k =
     let n : IsRun o (Then (Told (notice who k.outcome)) ∷ k.older) = subst (IsRun o) k.is_there run in
@@ -487,80 +487,8 @@ led_said o log who l r run b k =
         (k.older, k.is_there ∙ ap (λ u. Then (Told (notice who u)) ∷ k.older) (is ∙ same))
 
 -- such a start is that of a call
-call_only : (o : Options) (older : List Entry) (who : Who) (p : Procedure) (l : ℕ) (r : Words) (plan : Plan) → IsRun o (Then (Starts who p) ∷ older) →
+pub call_only : (o : Options) (older : List Entry) (who : Who) (p : Procedure) (l : ℕ) (r : Words) (plan : Plan) → IsRun o (Then (Starts who p) ∷ older) →
     begins p ≡ Stays plan (Ask l r) → is_ack r ≡ true → (t : ℕ) × (who ≡ Call t)
 call_only o older (Call t) p l r plan run e b = (t, refl)
 call_only o older (Consumer n t key) p l r plan run e b = absurd (never_acks p l r plan (start_so o older (Consumer n t key) p run) e b)
 call_only o older (Producer n) p l r plan run e b = absurd (never_acks p l r plan (start_so o older (Producer n) p run) e b)
-pub acks_are_licensed_lem : AcksAreLicensed
-acks_are_licensed_lem o log who l r run b = elim (does_from o log who (Ask l r) run) [
-  | inl k ↦ begun k
-  | inr k ↦ absurd (led_none o log who l r run.0 b k)
-]
-  where
-    begun : BeginsSo o log who (Ask l r) →
-        (t : ℕ) × (p : Procedure) × (older : List Entry) × (who ≡ Call t) × (log ≡ Then (Starts who p) ∷ older) × InThisStep (LicensedBy o t l r) older
-    begun k =
-        let n : IsRun o (Then (Starts who k.procedure) ∷ k.older) = subst (IsRun o) k.is_there run.0 in
-        let c = call_only o k.older who k.procedure l r k.plan n k.leads b in
-        let m : IsRun o (Then (Starts (Call c.0) k.procedure) ∷ k.older) = subst (λ (w : Who). IsRun o (Then (Starts w k.procedure) ∷ k.older)) c.1 n in (
-          c.0,
-          k.procedure,
-          k.older,
-          c.1,
-          k.is_there,
-          step_more (IsMadeAt o c.0 k.procedure) (LicensedBy o c.0 l r) (by c.0 k.procedure k.plan k.leads) k.older
-              (calls_are_made_lem o k.older c.0 k.procedure m).1,
-        )
-      where
-        by : (t : ℕ) (p : Procedure) (plan : Plan) → begins p ≡ Stays plan (Ask l r) → (e : Entry) (older : List Entry) → IsMadeAt o t p e older →
-            LicensedBy o t l r e older
-        by t p plan leads e older (asked, is, left, i) =
-            let x = start_licensed (view o older) _ asked t p l r plan leads b i in (asked, is, x.0, x.1)
-
--- at most as many as its starts, and that is one
-abbrev AcksFew : ℕ → List Entry → Type 0
-AcksFew t log = counted (ack_of t) log ≤ counted (start_of t) log
-
-no_ack : (t : ℕ) (who : Who) (p : Procedure) (older : List Entry) → counted (ack_of t) (Then (Starts who p) ∷ older) ≡ counted (ack_of t) older
-no_ack t who p older = omega (arith)
-
-asks_few : (o : Options) (log : List Entry) (t : ℕ) (who : Who) (l : ℕ) (r : Words) → IsRun o (Then (Does who (Ask l r)) ∷ log) → Every (AcksFew t) log →
-    (x y : Bool) → is_same (Call t) who ≡ x → is_ack r ≡ y → AcksFew t (Then (Does who (Ask l r)) ∷ log)
-asks_few o log t who l r run k true true e f =
-    let s = acks_are_licensed_lem o log who l r run f in
-    let was : AcksFew t s.2 = behind s.1 s.2 (subst (Every (AcksFew t)) s.4 k) in
-    let a : counted (ack_of t) log ≡ counted (ack_of t) s.2 = ap (counted (ack_of t)) s.4 ∙ no_ack t who s.1 s.2 in
-    let c : counted (start_of t) log ≡ counted (start_of t) s.2 + 1 =
-    ap (counted (start_of t)) s.4 ∙ ap (λ z. counted (start_of t) s.2 + cond z 1 0) e in
-    let i : ack_of t (Does who (Ask l r)) ≡ 1 = ap (λ z. cond (z && is_ack r) 1 0) e ∙ ap (λ z. cond z 1 0) f in
-    omega (arith, was, a, c, i)
-  where
-    behind : (p : Procedure) (older : List Entry) → Every (AcksFew t) (Then (Starts who p) ∷ older) → AcksFew t older
-    behind p older k = here (AcksFew t) older k.1
-asks_few o log t who l r run k true false e f =
-    let was : AcksFew t log = here (AcksFew t) log k in
-    let i : ack_of t (Does who (Ask l r)) ≡ 0 = ap (λ z. cond (z && is_ack r) 1 0) e ∙ ap (λ z. cond z 1 0) f in
-    omega (arith, was, i)
-asks_few o log t who l r run k false y e f =
-    let was : AcksFew t log = here (AcksFew t) log k in
-    let i : ack_of t (Does who (Ask l r)) ≡ 0 = ap (λ z. cond (z && is_ack r) 1 0) e in
-    omega (arith, was, i)
-
-few_run : (o : Options) (log : List Entry) (t : ℕ) → IsRun o log → Every (AcksFew t) log
-few_run o [] t run = omega (arith)
-few_run o (Begins e ∷ log) t run = let k = few_run o log t run.0 in (here (AcksFew t) log k, k)
-few_run o (Then (Does who (Ask l r)) ∷ log) t run =
-    let k = few_run o log t run.0 in (asks_few o log t who l r run k (is_same (Call t) who) (is_ack r) refl refl, k)
-few_run o (Then (Does who action) ∷ log) t run =
-    let k = few_run o log t run.0 in let was : AcksFew t log = here (AcksFew t) log k in (omega (arith, was), k)
-few_run o (Then (Starts who p) ∷ log) t run =
-    let k = few_run o log t run.0 in let was : AcksFew t log = here (AcksFew t) log k in (omega (arith, was), k)
-few_run o (Then a ∷ log) t run =
-    let k = few_run o log t run.0 in let was : AcksFew t log = here (AcksFew t) log k in (omega (arith, was), k)
-
-pub acks_once_lem : EndsOnce → AcksOnce
-acks_once_lem once o log t run =
-    let a : AcksFew t log = here (AcksFew t) log (few_run o log t run) in
-    let b : counted (start_of t) log ≤ 1 = (once o log t run).0 in
-    omega (arith, a, b)

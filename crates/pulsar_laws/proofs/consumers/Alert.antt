@@ -34,6 +34,7 @@ use Rattle.pulsar_laws.proofs.plans.Standing.{moves, run_older, stands_so}
 use Rattle.pulsar_laws.proofs.plans.Subscribed.{asks_on, is_reviving, TurnSo, begins_plain, told_on}
 use Rattle.pulsar_laws.proofs.plans.Waiting.{stands_by, ways_at}
 use Rattle.pulsar_laws.proofs.producers.InTurn.{stand_told}
+use Rattle.pulsar_laws.proofs.consumers.Asking.{asks_run, told_asked}
 use Rattle.pulsar_laws.proofs.consumers.Due.{applied_number}
 use Rattle.pulsar_laws.proofs.consumers.Ended.{permits_are_kept_lem, seen_made}
 use Rattle.pulsar_laws.proofs.consumers.Flows.{first_at, start_serves}
@@ -59,6 +60,7 @@ is_alert (Serving w n service.Resting) = true
 is_alert (Serving w n service.Taking) = true
 is_alert (Serving w n service.Asking) = true
 is_alert (Serving w n (service.Reviving l)) = true
+is_alert (Serving w n service.Redelivering) = true
 is_alert _ = false
 
 abbrev stays_alert : PlanTransition → Bool
@@ -77,6 +79,7 @@ rests_on w n word.Lost = inr refl
 rests_on w n word.Over = inr refl
 rests_on w n (word.TopicEnded l) = inr refl
 rests_on w n word.Due = inl refl
+rests_on w n (word.Asks l r) = inl refl
 rests_on w n _ = inl refl
 
 takes_on : (w : Ways) (n : ℕ) (x : Word) → stays_alert (told_service w n service.Taking (outcome.Word x)) ≡ true
@@ -101,6 +104,7 @@ alert_on (Serving w n service.Asking) (outcome.Word x) h = inl refl
 alert_on (Serving w n service.Asking) _ h = inl refl
 alert_on (Serving w n (service.Reviving l)) (outcome.Word x) h = revives_on w n l x
 alert_on (Serving w n (service.Reviving l)) _ h = inl refl
+alert_on (Serving w n service.Redelivering) _ h = inl refl
 alert_on p u h = absurd cc
 
 revived_alert : (p : Plan) → is_reviving p ≡ true → is_alert p ≡ true
@@ -146,9 +150,9 @@ Alert o t log = (m : Member) (k : ℕ) → (view o log).consumers.rows t ≡ Som
 
 -- IT IS MADE: its plan starts next
 
-raw_of : (l : ℕ) (url : Option Parts) (s : Setup) → (subscribed_on l url (record { seen = fresh s; seekers = [] })).seen.is_raw ≡ s.is_raw
-raw_of l None s = refl
-raw_of l (Some u) s = refl
+raw_of : (now l : ℕ) (url : Option Parts) (s : Setup) → (subscribed_on now l url (record { seen = fresh s; seekers = [] })).seen.is_raw ≡ s.is_raw
+raw_of now l None s = refl
+raw_of now l (Some u) s = refl
 
 module _ (o : Options) (log : List Entry) (t : ℕ) where
   abbrev v : View
@@ -159,7 +163,8 @@ module _ (o : Options) (log : List Entry) (t : ℕ) where
   starts_next j verdict w made ways = (
     procedure.Serve w j.number,
     first_at o log (Answers (Call t) verdict) (Starts (Consumer j.number t 0) (procedure.Serve w j.number))
-        ((λ i. left_with (ways_of (chosen_same o log i)) (Call t) (made i)) ∙ ap (λ x. left_with x (Call t) (makes.Consumer j)) ways),
+        ((λ i. left_with (ways_of (chosen_same o log i)) v.consumers.next_key (Call t) (made i))
+        ∙ ap (λ x. left_with x v.consumers.next_key (Call t) (makes.Consumer j)) ways),
   )
 
   made_starts : (who : Who) (verdict : Verdict) (m : Member) → IsRun o (Then (Answers who verdict) ∷ log) → v.consumers.rows t ≡ None →
@@ -171,13 +176,13 @@ module _ (o : Options) (log : List Entry) (t : ℕ) where
       old e = absurd (none_some (sym none ∙ e))
 
       joined_by : (who : Who) (j : Joining) → IsRun o (Then (Answers who verdict) ∷ log) → verdict.makes ≡ makes.Consumer j →
-          row_made (Some (member_on v.links.live j.link (setup_of v.consumers.next_key j))) who t (v.consumers.rows t) ≡ Some m →
+          row_made (Some (member_on v.links.live v.now j.link (setup_of v.consumers.next_key j))) who t (v.consumers.rows t) ≡ Some m →
           Starting o (Then (Answers who verdict) ∷ log) m.seen.number t
       joined_by (Call u) j run made e = elim (cases_Bool (t == u)) [
         | inl d ↦
-            (let same : Some (member_on v.links.live j.link (setup_of v.consumers.next_key j)) ≡ Some m = rw d at e in
+            (let same : Some (member_on v.links.live v.now j.link (setup_of v.consumers.next_key j)) ≡ Some m = rw d at e in
             let number : j.number ≡ m.seen.number =
-            sym (subscribed_number j.link (url_at (v.links.live j.link)) (record { seen = fresh (setup_of v.consumers.next_key j); seekers = [] }))
+            sym (subscribed_number v.now j.link (url_at (v.links.live j.link)) (record { seen = fresh (setup_of v.consumers.next_key j); seekers = [] }))
             ∙ ap (λ (x : Member). x.seen.number) (some_is same) in
             let w = made_ways o log (Call u) verdict j run made in
             subst (λ y. Starting o (Then (Answers (Call y) verdict) ∷ log) m.seen.number t) (eqb-true t u d)
@@ -187,19 +192,19 @@ module _ (o : Options) (log : List Entry) (t : ℕ) where
       joined_by (Consumer k u key) j run made e = old e
       joined_by (Producer k) j run made e = old e
 
-      raw_is : (l : ℕ) (s : Subscribed) → member_on v.links.live l (reader.of_raw s) ≡ m → ⊥
+      raw_is : (l : ℕ) (s : Subscribed) → member_on v.links.live v.now l (reader.of_raw s) ≡ m → ⊥
       raw_is l s e =
-          let f : true ≡ false = sym (raw_of l (url_at (v.links.live l)) (reader.of_raw s)) ∙ ap (λ (x : Member). x.seen.is_raw) e ∙ plain in cc
+          let f : true ≡ false = sym (raw_of v.now l (url_at (v.links.live l)) (reader.of_raw s)) ∙ ap (λ (x : Member). x.seen.is_raw) e ∙ plain in cc
 
-      raw_by : (who : Who) (l : ℕ) (s : Subscribed) → row_made (Some (member_on v.links.live l (reader.of_raw s))) who t (v.consumers.rows t) ≡ Some m → ⊥
+      raw_by : (who : Who) (l : ℕ) (s : Subscribed) → row_made (Some (member_on v.links.live v.now l (reader.of_raw s))) who t (v.consumers.rows t) ≡ Some m → ⊥
       raw_by (Call u) l s e = elim (cases_Bool (t == u)) [
-        | inl d ↦ (let same : Some (member_on v.links.live l (reader.of_raw s)) ≡ Some m = rw d at e in raw_is l s (some_is same))
+        | inl d ↦ (let same : Some (member_on v.links.live v.now l (reader.of_raw s)) ≡ Some m = rw d at e in raw_is l s (some_is same))
         | inr d ↦ old (rw d at e)
       ]
       raw_by (Consumer k u key) l s e = old e
       raw_by (Producer k) l s e = old e
 
-      by : (x : Makes) → verdict.makes ≡ x → row_made (member_made v.links.live v.consumers.next_key x) who t (v.consumers.rows t) ≡ Some m →
+      by : (x : Makes) → verdict.makes ≡ x → row_made (member_made v.links.live v.now v.consumers.next_key x) who t (v.consumers.rows t) ≡ Some m →
           Starting o (Then (Answers who verdict) ∷ log) m.seen.number t
       by (makes.Consumer j) made e = joined_by who j run made e
       by (makes.RawConsumer l s) made e = absurd (raw_by who l s e)
@@ -282,7 +287,7 @@ module _ (once : EndsOnce) (o : Options) (log : List Entry) (t : ℕ) (was : Ale
   again w j m run d is =
       let x = revivers o log w j run in
       let u : t ≡ x.1 = eqb-true t x.1 (ap (λ y. t == ticket_of y) (sym x.2) ∙ d) in
-      let s : w ≡ Consumer x.0 t = x.2 ∙ ap (Consumer x.0) (sym u) in
+      let s : w ≡ Consumer x.0 t 0 = x.2 ∙ ap (λ y. Consumer x.0 y 0) (sym u) in
       subst (λ y. IsAlert o (Then (Does y (OfConsumer (Revive j))) ∷ log) m.seen.number t) (sym s) (by x.0 (subst (λ y. IsRun o (Then (Does y (OfConsumer
       (Revive j))) ∷ log)) s run))
     where
@@ -335,78 +340,9 @@ alert_run once o (Begins e ∷ log) t run = λ m k is plain on. begun m (alert_r
         inr (p, ap (λ f. f (Consumer m.seen.number t 0)) (begun_same (λ v. v.stand) e (view o log) refl) ∙ stood, alert)
 alert_run once o (Then a ∷ log) t run = alert_next once o log t (alert_run once o log t run.0) a run
 
--- IT ASKS FOR A FLOW only for a moment
-
-abbrev is_asking : Plan → Bool
-is_asking (Serving w n service.Asking) = true
-is_asking _ = false
-
-arc_asking : {p q : Plan} {u : Outcome} {a : Action} → Arc p u q a → is_asking q ≡ true → ((l : ℕ) × (r : Words) × (a ≡ Ask l r)) ⊎ (p ≡ q)
-arc_asking flow_asks h = inl (_, _, refl)
-arc_asking (serving_rests i) h = inr refl
-arc_asking _ h = absurd cc
-
-asking_goes : (p q : Plan) (a : Action) (u : Outcome) → is_asking p ≡ true → told p u ≡ Stays q a → is_asking q ≡ true → ⊥
-asking_goes (Serving w n service.Asking) q a u h e k = by (overrides u) e
-  where
-    by : (b : Bool) → cond b is_over (takes_flow w n) ≡ Stays q a → ⊥
-    by true f = cc
-    by false f = (let g : Serving w n service.Taking ≡ q = cc in let x : false ≡ true = ap is_asking g ∙ k in cc)
-asking_goes p q a u h e k = absurd cc
-
 module _ (o : Options) (n t : ℕ) where
   abbrev server : Who
   server = Consumer n t 0
-
-  abbrev Asked : List Entry → ℕ → Words → Type 0
-  Asked log l r = (first (agenda o log) ≡ Some (Does server (Ask l r))) ⊎ ((older : List Entry) × (log ≡ Then (Does server (Ask l r)) ∷ older))
-
-  abbrev answer : List Entry → ℕ → Words → Act
-  answer older l r = Told (notice server (told_at (answer_at (view o older).now r ((view o older).links.live l))))
-
-  told_asked : (older : List Entry) (l : ℕ) (r : Words) → first (agenda o (Then (Does server (Ask l r)) ∷ older)) ≡ Some (answer older l r)
-  told_asked older l r = first_at o older (Does server (Ask l r)) (answer older l r) refl
-
-  abbrev AskedAt : List Entry → Plan → Type 0
-  AskedAt log p = is_asking p ≡ true → (l : ℕ) × (r : Words) × Asked log l r
-
-  more : (e : Entry) (log : List Entry) (q : Plan) → moves server e ≡ false → IsRun o (e ∷ log) → (view o log).stand server ≡ Some q → AskedAt log q →
-      AskedAt (e ∷ log) q
-  more e log q m run s k h = let x = k h in (x.0, x.1, by e m run x.0 x.1 x.2)
-    where
-      by : (e : Entry) → moves server e ≡ false → IsRun o (e ∷ log) → (l : ℕ) (r : Words) → Asked log l r → Asked (e ∷ log) l r
-      by (Begins x) m run l r (inl f) = absurd (none_some (sym run.1 ∙ f))
-      by (Begins x) m run l r (inr (older, is)) = absurd (none_some (sym run.1 ∙ ap (λ y. first (agenda o y)) is ∙ told_asked older l r))
-      by (Then a) m run l r (inl f) = inr (log, ap (λ x. Then x ∷ log) (some_is (sym run.1 ∙ f)))
-      by (Then a) m run l r (inr (older, is)) =
-          let f : a ≡ answer older l r = some_is (sym run.1 ∙ ap (λ y. first (agenda o y)) is ∙ told_asked older l r) in
-          let g : moves server (Then a) ≡ true = ap (λ x. moves server (Then x)) f ∙ same_self server in
-          let x : true ≡ false = sym g ∙ m in
-          absurd cc
-
-  begins_not : (log : List Entry) (p : Procedure) (q : Plan) (a : Action) → IsRun o (Then (Starts server p) ∷ log) → begins p ≡ Stays q a →
-      AskedAt (Then (Starts server p) ∷ log) q
-  begins_not log p q a run e h =
-      let k = start_serves o log n t p run in
-      let f : Stays (Serving k.0 n service.Resting) Rest ≡ Stays q a = ap begins (sym k.1) ∙ e in
-      let g : Serving k.0 n service.Resting ≡ q = cc in
-      let x : false ≡ true = ap is_asking g ∙ h in
-      absurd cc
-
-  goes : (log : List Entry) (b : Plan) (u : Outcome) (q : Plan) (a : Action) → IsRun o (Then (Told (notice server u)) ∷ log) →
-      (view o log).stand server ≡ Some b → AskedAt log b → told b u ≡ Stays q a → AskedAt (Then (Told (notice server u)) ∷ log) q
-  goes log b u q a run s k e h = elim (arc_asking (told_arc e) h) [
-    | inl (l, r, is) ↦ (
-      l,
-      r,
-      inl (first_at o log (Told (notice server u)) (Does server (Ask l r))
-          (ap (λ row. follows_some server (told_some row u)) s ∙ ap (λ x. follows server x) e ∙ ap (λ x. follows server (Stays q x)) is)),
-    )
-    | inr same ↦ absurd (asking_goes b q a u (ap is_asking same ∙ h) e h)
-  ]
-
-  asks_run : (log : List Entry) (p : Plan) → IsRun o log → (view o log).stand server ≡ Some p → AskedAt log p
-  asks_run log p run s = stands_so o server (IsRun o) (run_older o) AskedAt more begins_not goes log p run s
 
   -- SO AT THE END OF A STEP it rests
   pub alert_rests : (log : List Entry) (p : Plan) → IsRun o log → first (agenda o log) ≡ None → (view o log).stand server ≡ Some p → is_alert p ≡ true →
@@ -417,16 +353,17 @@ module _ (o : Options) (n t : ℕ) where
     | inr k ↦ absurd (none_some (sym ends ∙ ap (λ x. first (agenda o x)) k.1 ∙ told_flow o k.0 n t))
   ]
   alert_rests log (Serving w m service.Asking) run ends stood h =
-      let k = asks_run log (Serving w m service.Asking) run stood refl in
+      let k = asks_run o n t log (Serving w m service.Asking) run stood refl in
       elim k.2 [
         | inl f ↦ absurd (none_some (sym ends ∙ f))
-        | inr x ↦ absurd (none_some (sym ends ∙ ap (λ y. first (agenda o y)) x.1 ∙ told_asked x.0 k.0 k.1))
+        | inr x ↦ absurd (none_some (sym ends ∙ ap (λ y. first (agenda o y)) x.1 ∙ told_asked o n t x.0 k.0 k.1))
       ]
   alert_rests log (Serving w m (service.Reviving l)) run ends stood h =
       elim (revived_run o n t log (Serving w m (service.Reviving l)) run stood l refl) [
         | inl f ↦ absurd (none_some (sym ends ∙ f))
         | inr k ↦ absurd (none_some (sym ends ∙ ap (λ y. first (agenda o y)) k.1 ∙ told_revived o n t k.0 l))
       ]
+  alert_rests log (Serving w m service.Redelivering) run ends stood h = refl
   alert_rests log p run ends stood h = absurd cc
 
 -- THE LAW

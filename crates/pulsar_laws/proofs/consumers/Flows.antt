@@ -29,26 +29,29 @@ use Rattle.pulsar_laws.proofs.plans.MildSearches.{Any, IsMildCommand, MildTurn, 
 
 -- WHAT SUCH A PLAN ASKS FOR
 
-abbrev ServesSo : ℕ → Plan → Type 0
+abbrev pub ServesSo : ℕ → Plan → Type 0
 ServesSo n (Serving w m s) = (m ≡ n) × MildService s
 ServesSo n _ = ⊥
 
--- for no flow but that which it is told; and it takes one only where it waits for it then
-abbrev AsksSo : ℕ → Outcome → Plan → Action → Type 0
+-- for no flow but that which it is told, nor for messages again; and it takes one only where it waits for it then
+abbrev pub AsksSo : ℕ → Outcome → Plan → Action → Type 0
 AsksSo n u q (Ask l (words.SendFlow m p)) = (m ≡ n) × (u ≡ outcome.Word (word.Flow l p))
+AsksSo n u q (Ask l (words.SendRedeliver m ids)) = u ≡ outcome.Word (word.Asks l (words.SendRedeliver m ids))
 AsksSo n u q (OfConsumer TakeFlow) = (w : Ways) × (q ≡ Serving w n service.Taking)
 AsksSo n u q _ = Unit {0}
 
-abbrev GoesSo : ℕ → Outcome → Plan → Action → Type 0
+abbrev pub GoesSo : ℕ → Outcome → Plan → Action → Type 0
 GoesSo n u plan action = ServesSo n plan × AsksSo n u plan action
 
 own_asks : (n : ℕ) (u : Outcome) (q : Plan) (l : ℕ) (r : Words) → is_own r ≡ false → AsksSo n u q (Ask l r)
 own_asks n u q l (words.SendFlow m p) h = absurd cc
+own_asks n u q l (words.SendRedeliver m ids) h = absurd cc
 own_asks n u q l _ h = tt
 
-no_flow_asked : (n : ℕ) (u : Outcome) (q : Plan) (l : ℕ) (r : Words) → is_flow r ≡ false → AsksSo n u q (Ask l r)
-no_flow_asked n u q l (words.SendFlow m p) h = absurd cc
-no_flow_asked n u q l _ h = tt
+no_flow_asked : (n : ℕ) (q : Plan) (l : ℕ) (r : Words) → is_flow r ≡ false → AsksSo n (outcome.Word (word.Asks l r)) q (Ask l r)
+no_flow_asked n q l (words.SendFlow m p) h = absurd cc
+no_flow_asked n q l (words.SendRedeliver m ids) h = refl
+no_flow_asked n q l _ h = tt
 
 abbrev MildRecall : Outcome → Type 0
 MildRecall (outcome.Word (word.Recalled c)) = IsMildCommand c
@@ -79,7 +82,7 @@ arc_serves n resumed_revives k h = ((k.0, tt), tt)
 arc_serves n resumed_fails k h = ((k.0, tt), tt)
 arc_serves n lives_rests k h = ((k.0, tt), tt)
 arc_serves n over_closes k h = ((k.0, tt), tt)
-arc_serves n (due_redelivers {w} {n = m} {l} {request}) k h = ((k.0, tt), no_flow_asked n _ (Serving w m service.Redelivering) l request h)
+arc_serves n (due_redelivers {w} {n = m} {l} {request}) k h = ((k.0, tt), no_flow_asked n (Serving w m service.Redelivering) l request h)
 arc_serves n redelivered_rests k h = ((k.0, tt), tt)
 arc_serves n _ k h = absurd k
 
@@ -202,8 +205,8 @@ waits_then o older n t run =
           ∙ ap Some y.1.1.1,
     )
 
--- what an act alone gives rise to at once is next
-pub first_at : (o : Options) (log : List Entry) (a b : Act) → at_once (view o log) a ≡ b ∷ [] → first (agenda o (Then a ∷ log)) ≡ Some b
+-- what an act gives rise to at once before all else is next
+pub first_at : (o : Options) (log : List Entry) (a b : Act) {bs : List Act} → at_once (view o log) a ≡ b ∷ bs → first (agenda o (Then a ∷ log)) ≡ Some b
 first_at o log a b e =
     let v : View = view o log in
     let g : Agenda = rest (agenda o log) in

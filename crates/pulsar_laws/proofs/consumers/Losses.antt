@@ -12,7 +12,7 @@ use Rattle.pulsar_calls.specs.declared.act.Arrival.TheVariants as arrivals
 use Rattle.pulsar_calls.specs.declared.act.Outcome.TheVariants as outcome
 use Rattle.pulsar_calls.specs.declared.act.Word.TheVariants as word
 use Rattle.pulsar_consumer_table.specs.Consumers as consumer
-use Rattle.pulsar_consumer_table.specs.Consumers.{Member, NotRevived, Revived, ends_on, hears, hears_frame, is_closed_by, loses_by, member_after, word_if, word_of, word_of_frame, word_of_loss}
+use Rattle.pulsar_consumer_table.specs.Consumers.{Member, NotRevived, Revived, ends_on, hears, hears_frame, hears_message, is_closed_by, loses_by, member_after, word_if, word_of, word_of_frame, word_of_loss}
 use Rattle.pulsar_laws.proofs.Cases.{none_some, some_is}
 use Rattle.pulsar_laws.proofs.calls.Caused.{is_caused}
 use Rattle.pulsar_laws.proofs.calls.Done.{IsLeftIn}
@@ -28,7 +28,7 @@ use Rattle.pulsar_laws.specs.Laws.{ClosesSo, HearsSo}
 
 -- WHO IT IS
 
-same_ticket : (n t u : ℕ) (m : Member) → Consumer n t ≡ consumer.who_of u m → t ≡ u
+same_ticket : (n t u : ℕ) (m : Member) → Consumer n t 0 ≡ consumer.who_of u m → t ≡ u
 same_ticket n t u m h = ap ticket_of h
 
 -- WHAT IS HEARD leaves none live where it is told that it is lost
@@ -51,21 +51,21 @@ is_ending word.Over = true
 is_ending (word.TopicEnded l) = true
 is_ending _ = false
 
-module _ (l : ℕ) (r : Reply) (m : Member) where
+module _ (now l : ℕ) (r : Reply) (m : Member) where
   abbrev worded : (a b c d : Bool) → Option Word
   worded a b c d =
       cond a (word_if d word.Due) (cond b (word_if (resubscribes l m.seen) (word.TopicEnded l)) (cond c (word_if (resubscribes l m.seen) word.Lost) None))
 
   frame_lost_by : (a b c d : Bool) → worded a b c d ≡ Some word.Lost →
-      link_of (cond a (member_after (Hears l (frame_in r)) m) (cond b (ends_on l TopicEnded m) (cond c (member_after (Loses l) m) m))).seen ≡ None
+      link_of (cond a (hears_message now l r m) (cond b (ends_on l TopicEnded m) (cond c (member_after (Loses l) m) m))).seen ≡ None
   frame_lost_by true b c d h = absurd (not_due d h)
   frame_lost_by false true c d h = absurd (not_topic (resubscribes l m.seen) l h)
   frame_lost_by false false true d h = lost_if (lives_on l m.seen) (not m.seen.is_raw) m.seen h
   frame_lost_by false false false d h = absurd (none_some h)
 
-  frame_lost : word_of_frame l r m ≡ Some word.Lost → link_of (hears_frame l r m).seen ≡ None
+  frame_lost : word_of_frame now l r m ≡ Some word.Lost → link_of (hears_frame now l r m).seen ≡ None
   frame_lost h =
-      frame_lost_by (is_body 9 r.content.body) (is_body 27 r.content.body) (is_body 16 r.content.body) (lives_on l m.seen && is_due (hears_frame l r m).seen) h
+      frame_lost_by (is_body 9 r.content.body) (is_body 27 r.content.body) (is_body 16 r.content.body) (lives_on l m.seen && is_due (hears_message now l r m).seen) h
 
   -- and it ends where it is told that its topic has
   topic_on : (b raw : Bool) (x : Word) → word_if (b && raw) (word.TopicEnded l) ≡ Some x → b ≡ true
@@ -84,38 +84,38 @@ module _ (l : ℕ) (r : Reply) (m : Member) where
       by false k = none_some k
   frame_over_by false false false d x o h = absurd (none_some h)
 
-  frame_over : (x : Word) → is_ending x ≡ true → word_of_frame l r m ≡ Some x → frame_ends l r m.seen ≡ true
+  frame_over : (x : Word) → is_ending x ≡ true → word_of_frame now l r m ≡ Some x → frame_ends l r m.seen ≡ true
   frame_over x o h =
-      frame_over_by (is_body 9 r.content.body) (is_body 27 r.content.body) (is_body 16 r.content.body) (lives_on l m.seen && is_due (hears_frame l r m).seen)
+      frame_over_by (is_body 9 r.content.body) (is_body 27 r.content.body) (is_body 16 r.content.body) (lives_on l m.seen && is_due (hears_message now l r m).seen)
       x o h
 
-heard_lost : (l : ℕ) (a : Arrival) (m : Member) → word_of l a m ≡ Some word.Lost → link_of (hears l a m).seen ≡ None
-heard_lost l (arrivals.Gives n r) m h = by (m.seen.number == n) h
+heard_lost : (now l : ℕ) (a : Arrival) (m : Member) → word_of now l a m ≡ Some word.Lost → link_of (hears now l a m).seen ≡ None
+heard_lost now l (arrivals.Gives n r) m h = by (m.seen.number == n) h
   where
-    by : (b : Bool) → cond b (word_of_frame l r m) None ≡ Some word.Lost → link_of (cond b (hears_frame l r m) m).seen ≡ None
-    by true k = frame_lost l r m k
+    by : (b : Bool) → cond b (word_of_frame now l r m) None ≡ Some word.Lost → link_of (cond b (hears_frame now l r m) m).seen ≡ None
+    by true k = frame_lost now l r m k
     by false k = absurd (none_some k)
-heard_lost l arrivals.Nothing m h = absurd (none_some h)
-heard_lost l arrivals.Readied m h = absurd (none_some h)
-heard_lost l arrivals.Settles m h = absurd (none_some h)
-heard_lost l arrivals.Passes m h = absurd (none_some h)
-heard_lost l (arrivals.Bad cause) m h = absurd (none_some h)
+heard_lost now l arrivals.Nothing m h = absurd (none_some h)
+heard_lost now l arrivals.Readied m h = absurd (none_some h)
+heard_lost now l arrivals.Settles m h = absurd (none_some h)
+heard_lost now l arrivals.Passes m h = absurd (none_some h)
+heard_lost now l (arrivals.Bad cause) m h = absurd (none_some h)
 
 loss_lost : (l : ℕ) (cause : Option Fault) (m : Member) → word_of_loss l cause m ≡ Some word.Lost → link_of (loses_by l cause m).seen ≡ None
 loss_lost l None m h = absurd (none_some h)
 loss_lost l (Some cause) m h = lost_if (lives_on l m.seen) (not m.seen.is_raw) m.seen h
 
-heard_over : (l : ℕ) (a : Arrival) (m : Member) (x : Word) → is_ending x ≡ true → word_of l a m ≡ Some x → arrival_ends l a m.seen ≡ true
-heard_over l (arrivals.Gives n r) m x o h = by (m.seen.number == n) h
+heard_over : (now l : ℕ) (a : Arrival) (m : Member) (x : Word) → is_ending x ≡ true → word_of now l a m ≡ Some x → arrival_ends l a m.seen ≡ true
+heard_over now l (arrivals.Gives n r) m x o h = by (m.seen.number == n) h
   where
-    by : (b : Bool) → cond b (word_of_frame l r m) None ≡ Some x → cond b (frame_ends l r m.seen) false ≡ true
-    by true k = frame_over l r m x o k
+    by : (b : Bool) → cond b (word_of_frame now l r m) None ≡ Some x → cond b (frame_ends l r m.seen) false ≡ true
+    by true k = frame_over now l r m x o k
     by false k = absurd (none_some k)
-heard_over l arrivals.Nothing m x o h = absurd (none_some h)
-heard_over l arrivals.Readied m x o h = absurd (none_some h)
-heard_over l arrivals.Settles m x o h = absurd (none_some h)
-heard_over l arrivals.Passes m x o h = absurd (none_some h)
-heard_over l (arrivals.Bad cause) m x o h = absurd (none_some h)
+heard_over now l arrivals.Nothing m x o h = absurd (none_some h)
+heard_over now l arrivals.Readied m x o h = absurd (none_some h)
+heard_over now l arrivals.Settles m x o h = absurd (none_some h)
+heard_over now l arrivals.Passes m x o h = absurd (none_some h)
+heard_over now l (arrivals.Bad cause) m x o h = absurd (none_some h)
 
 loss_over : (l : ℕ) (cause : Option Fault) (m : Member) (x : Word) → is_ending x ≡ true → word_of_loss l cause m ≡ Some x → ⊥
 loss_over l None m x o h = none_some h
@@ -143,9 +143,9 @@ module _ (once : EndsOnce) (o : Options) (n t : ℕ) where
   lost_here log a (inl (l, u, m, is, (there, same), h)) =
       let f : (view o log).consumers.rows t ≡ Some m = ap (view o log).consumers.rows (same_ticket n t u m same) ∙ there in
       subst (λ e. LostRow (e ∷ log)) (sym is) (
-        hears l (arrival_at ((view o log).links.live l)) m,
-        ap (option_map (hears l (arrival_at ((view o log).links.live l)))) f,
-        heard_lost l (arrival_at ((view o log).links.live l)) m h,
+        hears (view o log).now l (arrival_at ((view o log).links.live l)) m,
+        ap (option_map (hears (view o log).now l (arrival_at ((view o log).links.live l)))) f,
+        heard_lost (view o log).now l (arrival_at ((view o log).links.live l)) m h,
       )
   lost_here log a (inr (l, u, end, m, is, (there, same), h)) =
       let f : (view o log).consumers.rows t ≡ Some m = ap (view o log).consumers.rows (same_ticket n t u m same) ∙ there in
@@ -220,7 +220,7 @@ module _ (once : EndsOnce) (o : Options) (n t : ℕ) where
       let f : (view o log).consumers.rows t ≡ Some m = ap (view o log).consumers.rows (same_ticket n t u m same) ∙ there in
       subst (λ e. EndedRow once o t (e ∷ log)) (sym is)
       (ends_here once o log (Comes (ToLink l Reads)) t m (subst (λ e. IsRun o (e ∷ log)) is run) f
-      (heard_over l (arrival_at ((view o log).links.live l)) m x over h))
+      (heard_over (view o log).now l (arrival_at ((view o log).links.live l)) m x over h))
 
   close_on : (a b raw : Bool) (x : Word) → word_if (a && (b && raw)) word.Over ≡ Some x → (a && b) ≡ true
   close_on true true raw x h = refl
@@ -248,7 +248,9 @@ module _ (once : EndsOnce) (o : Options) (n t : ℕ) where
   over_here log a run (inr (inr (inl (l, u, end, m, is, serves, h)))) = absurd (loss_over l _ m word.Over refl h)
   over_here log a run (inr (inr (inr (inl k)))) = closed_ended log a word.Over run k
   over_here log a run (inr (inr (inr (inr (inl (q, k)))))) = absurd cc
-  over_here log a run (inr (inr (inr (inr (inr (q, k)))))) = absurd cc
+  over_here log a run (inr (inr (inr (inr (inr (inl (q, k))))))) = absurd cc
+  over_here log a run (inr (inr (inr (inr (inr (inr (inl (q, k)))))))) = absurd cc
+  over_here log a run (inr (inr (inr (inr (inr (inr (inr (l, r, q, k)))))))) = absurd cc
 
   topic_here : (log : List Entry) (a : Act) (j : ℕ) → IsRun o (Then a ∷ log) → Cause o who (outcome.Word (word.TopicEnded j)) (Then a) log →
       EndedRow once o t (Then a ∷ log)
@@ -257,7 +259,9 @@ module _ (once : EndsOnce) (o : Options) (n t : ℕ) where
   topic_here log a j run (inr (inr (inl (l, u, end, m, is, serves, h)))) = absurd (loss_over l _ m (word.TopicEnded j) refl h)
   topic_here log a j run (inr (inr (inr (inl k)))) = closed_ended log a (word.TopicEnded j) run k
   topic_here log a j run (inr (inr (inr (inr (inl (q, k)))))) = absurd cc
-  topic_here log a j run (inr (inr (inr (inr (inr (q, k)))))) = absurd cc
+  topic_here log a j run (inr (inr (inr (inr (inr (inl (q, k))))))) = absurd cc
+  topic_here log a j run (inr (inr (inr (inr (inr (inr (inl (q, k)))))))) = absurd cc
+  topic_here log a j run (inr (inr (inr (inr (inr (inr (inr (l, r, q, k)))))))) = absurd cc
 
   ended_here : (log : List Entry) (a : Act) (x : Word) → is_ending x ≡ true → IsRun o (Then a ∷ log) → Cause o who (outcome.Word x) (Then a) log →
       EndedRow once o t (Then a ∷ log)

@@ -41,7 +41,7 @@ use Rattle.pulsar_laws.proofs.plans.Granted.{IsLedSo}
 use Rattle.pulsar_laws.proofs.consumers.Lone.{consumers_alone_lem}
 use Rattle.pulsar_laws.proofs.consumers.Riding.{rides}
 use Rattle.pulsar_laws.proofs.calls.Same.{same_self, same_who}
-use Rattle.pulsar_laws.proofs.plans.Servers.{is_server, server_stands}
+use Rattle.pulsar_laws.proofs.plans.Servers.{is_service, service_stands}
 
 -- THE FRAME OF A FLOW is small
 
@@ -103,13 +103,13 @@ is_taking _ = false
 abbrev TakesSo : Plan → Outcome → Plan → Action → Type 0
 TakesSo p u q a = is_taking q ≡ true → (a ≡ (OfConsumer TakeFlow)) ⊎ ((is_taking p ≡ true) × (is_flow u ≡ false))
 
-arc_takes : {p q : Plan} {u : Outcome} {a : Action} → Arc p u q a → is_server p ≡ true → TakesSo p u q a
+arc_takes : {p q : Plan} {u : Outcome} {a : Action} → Arc p u q a → is_service p ≡ true → TakesSo p u q a
 arc_takes due_takes s h = inl refl
 arc_takes flowed_takes s h = inl refl
 arc_takes (serving_rests {s = service.Taking} i) s h = inr (refl, i)
 arc_takes _ s h = absurd cc
 
-server_so : (p : Plan) (u : Outcome) → is_server p ≡ true → StaysSo (TakesSo p u) (told p u)
+server_so : (p : Plan) (u : Outcome) → is_service p ≡ true → StaysSo (TakesSo p u) (told p u)
 server_so p u s = stays_by (TakesSo p u) p u (λ q a k. arc_takes k s)
 
 -- only one that takes a flow asks for something where it is told of one
@@ -125,7 +125,7 @@ flow_asks w n service.Failing l p q k r h = absurd cc
 flow_asks w n service.Closing l p q k r h = absurd cc
 flow_asks w n service.Redelivering l p q k r h = absurd cc
 
-server_asks : (b : Plan) (l p : ℕ) (q : Plan) (k : ℕ) (r : Words) → is_server b ≡ true → told b (outcome.Word (word.Flow l p)) ≡ Stays q (Ask k r) →
+server_asks : (b : Plan) (l p : ℕ) (q : Plan) (k : ℕ) (r : Words) → is_service b ≡ true → told b (outcome.Word (word.Flow l p)) ≡ Stays q (Ask k r) →
     is_taking b ≡ true
 server_asks (Serving w n s) l p q k r is h = flow_asks w n s l p q k r h
 server_asks b l p q k r is h = absurd cc
@@ -191,7 +191,7 @@ module _ (o : Options) (log : List Entry) (n t : ℕ) (was : TakesAt o log n t) 
   ]
 
   told_takes : (u : Outcome) (row : Option Plan) (q : Plan) → first (agenda o log) ≡ Some (Told (notice who u)) → (view o log).stand who ≡ row →
-      ((p : Plan) → (view o log).stand who ≡ Some p → is_server p ≡ true) → stays_some (told_some row u) ≡ Some q → is_taking q ≡ true →
+      ((p : Plan) → (view o log).stand who ≡ Some p → is_service p ≡ true) → stays_some (told_some row u) ≡ Some q → is_taking q ≡ true →
       Takes o (Then (Told (notice who u)) ∷ log) n t
   told_takes u None q fits stood servers is h = absurd (none_some is)
   told_takes u (Some p) q fits stood servers is h = turn_takes p u (told p u) q fits stood refl (server_so p u (servers p stood)) is h
@@ -220,7 +220,7 @@ told_run o log n t m run was = λ p stood h. elim (cases_Bool (is_same (Consumer
         let same : Told (notice (Consumer n t 0) m.outcome) ≡ Told m = ap (λ w. Told (notice w m.outcome)) s in
         subst (λ x. Takes o (Then x ∷ log) n t) same
         (told_takes o log n t was m.outcome ((view o log).stand (Consumer n t 0)) p (run.1 ∙ ap Some (sym same)) refl
-        (λ q stood. server_stands o log n t 0 q run.0 stood) is h)
+        (λ q stood. service_stands o n t log q run.0 stood) is h)
 
     other : (p : Plan) → is_same (Consumer n t 0) m.who ≡ false → (view o log).stand (Consumer n t 0) ≡ Some p → is_taking p ≡ true →
         Takes o (Then (Told m) ∷ log) n t
@@ -363,7 +363,7 @@ is_placed once o log n t l m p run = led (led_by o n t log (Ask l (words.SendFlo
         sym k.is_there ∙ x.2 in
         let u : k.outcome ≡ outcome.Word (word.Flow l p) = ap said (some_is (ap newest same)) in
         let r : IsRun o (Then (Told (notice (Consumer n t 0) k.outcome)) ∷ k.older) = subst (IsRun o) k.is_there run.0 in
-        let server : is_server k.before ≡ true = server_stands o k.older n t k.before r.0 k.stood in
+        let server : is_service k.before ≡ true = service_stands o n t k.older k.before r.0 k.stood in
         let taking : is_taking k.before ≡ true =
         server_asks k.before l p k.plan l (words.SendFlow m p) server (sym (ap (told k.before) u) ∙ k.leads) in
         elim (takes_run o k.older n t r.0 k.before k.stood taking) [

@@ -1,5 +1,5 @@
 -- How the plan of a consumer comes to rest: where it begins, where no flow is due any more, and where its subscription lives again.
-use Rattle.std.proofs.Common.{◌≡◌, ◌⊎◌, inl, inr, ◌∙◌, sym, ap, subst, ℕ, List, [], ◌∷◌, ◌++◌, refl, Bool, true, false, Option, Some, None}
+use Rattle.std.proofs.Common.{◌≡◌, ◌⊎◌, inl, inr, ◌∙◌, sym, ap, subst, ℕ, ◌<◌, ◌==◌, arith, List, [], ◌∷◌, ◌++◌, map, refl, Bool, true, false, Option, Some, None}
 use Rattle.pulsar_laws.proofs.ActWords.{Act, Action, Answers, Ask, Call, Consumer, Does, Makes, Outcome, Procedure, Producer, Rest, Revive, Starts, Told, ticket_of, Verdict, Who, OfConsumer}
 use Rattle.pulsar_laws.proofs.PlanWords.{begins, fails, Plan, Serving, Stays, told, Ways}
 use Rattle.pulsar_laws.proofs.RunWords.{agenda, Agenda, at_once, Begins, Each, each_append, each_either, each_first, each_map, each_rest, Entry, first, follows, follows_some, is_served, IsRun, left_with, notice, Options, rest, rest_of, Then, told_some, view, View, ways_of}
@@ -13,23 +13,29 @@ use Rattle.pulsar_client.proofs.Raising.{IsRaised, raises}
 use Rattle.pulsar_consumer_table.specs.Consumers.{is_ended_at}
 use Rattle.pulsar_plans.specs.declared.service.Service.TheVariants as service
 use Rattle.pulsar_consumer_table.specs.Asks.{revived_said}
-use Rattle.pulsar_acts.specs.Reading.{serves}
+use Rattle.std.specs.Option.{option_to_list}
+use Rattle.std.proofs.lemmas.Bool.Decides.{nat_tests}
+use Rattle.pulsar_incoming.specs.Content.{DeadLetterValues}
+use Rattle.pulsar_acts.specs.Reading.{copies, copies_by, serves}
 use Rattle.pulsar_laws.proofs.Cases.{none_some, some_is}
 use Rattle.pulsar_laws.proofs.calls.Same.{same_self}
-use Rattle.pulsar_plans.proofs.Arcs.{Arc, lives_rests, no_flow_rests, recalled_revives, resumed_revives, serving_rests, told_arc}
+use Rattle.pulsar_plans.proofs.Arcs.{Arc, due_redelivers, lives_rests, no_flow_rests, recalled_revives, redelivered_rests, resumed_revives, serving_rests, told_arc}
 use Rattle.pulsar_laws.proofs.plans.Batchers.{batcher_stands}
+use Rattle.pulsar_laws.proofs.plans.Drawn.{positive}
 use Rattle.pulsar_laws.proofs.plans.Left.{for_each}
 use Rattle.pulsar_laws.proofs.plans.Owned.{batcher_told, batches_begun, starts_own}
 use Rattle.pulsar_laws.proofs.plans.Servers.{server_gives, server_stands, serve_goes_on}
 use Rattle.pulsar_laws.proofs.plans.Standing.{moves, run_older, stands_so}
 use Rattle.pulsar_laws.proofs.producers.BatchRun.{fits_first}
 use Rattle.pulsar_laws.proofs.producers.Drawing.{answers_from}
+use Rattle.pulsar_laws.proofs.consumers.Asking.{is_asking}
 use Rattle.pulsar_laws.proofs.consumers.Flows.{first_at, start_serves}
 use Rattle.pulsar_laws.proofs.consumers.Placed.{is_taking}
 
--- its subscription is made, and nothing is under way
+-- its subscription is made, and no flow is under way
 abbrev pub is_resting : Plan → Bool
 is_resting (Serving w n service.Resting) = true
+is_resting (Serving w n service.Redelivering) = true
 is_resting _ = false
 
 -- ONE STEP OF A PLAN
@@ -41,17 +47,20 @@ reviving _ = None
 pub arc_rests : {p q : Plan} {u : Outcome} {a : Action} → Arc p u q a → is_resting q ≡ true →
     (is_resting p ≡ true) ⊎ (((is_taking p ≡ true) × (u ≡ outcome.Word word.NoFlow)) ⊎ ((l : ℕ) × (reviving p ≡ Some l) × (u ≡ outcome.Word word.Lives)))
 arc_rests (serving_rests i) h = inl h
+arc_rests due_redelivers h = inl refl
+arc_rests redelivered_rests h = inl refl
 arc_rests no_flow_rests h = inr (inl (refl, refl))
 arc_rests (lives_rests {l = l}) h = inr (inr (l, refl, refl))
 arc_rests _ h = absurd cc
 
--- one that rests takes the flow that is due
-pub due_is_taken : (p q : Plan) (a : Action) → is_resting p ≡ true → told p (outcome.Word word.Due) ≡ Stays q a → is_resting q ≡ true → ⊥
-due_is_taken (Serving w n service.Resting) q a h e k =
+-- one that rests takes the flow that is due, unless it asks for messages again
+pub due_is_taken : (p q : Plan) (a : Action) → is_resting p ≡ true → is_asking p ≡ false → told p (outcome.Word word.Due) ≡ Stays q a → is_resting q ≡ true → ⊥
+due_is_taken (Serving w n service.Resting) q a h idle e k =
     let f : Serving w n service.Taking ≡ q = cc in
     let g : false ≡ true = ap is_resting f ∙ k in
     cc
-due_is_taken p q a h e k = absurd cc
+due_is_taken (Serving w n service.Redelivering) q a h idle e k = absurd cc
+due_is_taken p q a h idle e k = absurd cc
 
 -- one that is subscribed again does just this, or was so before
 arc_revives : {p q : Plan} {u : Outcome} {a : Action} → Arc p u q a → (l : ℕ) → reviving q ≡ Some l → (a ≡ OfConsumer (Revive l)) ⊎ (p ≡ q)
@@ -140,7 +149,7 @@ module _ (o : Options) (n t : ℕ) where
 -- IT BEGINS right behind the verdict that makes its consumer
 
 abbrev begins_service : Act → Bool
-begins_service (Starts (Consumer n t key) p) = true
+begins_service (Starts (Consumer n t key) p) = key == 0
 begins_service _ = false
 
 abbrev NoService : Act → Type 0
@@ -159,24 +168,36 @@ raised_none (Answers who verdict) b other h = absurd cc
 raised_none a (Starts (Consumer n t key) p) other h = absurd cc
 raised_none a _ other h = refl
 
--- none, or it alone
-abbrev OneService : List Act → Type 0
-OneService xs = Each NoService xs ⊎ ((x : Act) × (xs ≡ x ∷ []))
+-- the plan that copies dead letters has a key
+has_key : (key : ℕ) → 0 < key → (key == 0) ≡ false
+has_key key pos = grind (arith, nat_tests)
 
-left_one : (ways : Option Ways) (maker : Who) (m : Makes) → OneService (left_with ways maker m)
-left_one None maker (makes.Consumer j) = inl tt
-left_one (Some w) maker (makes.Consumer j) = inr (serves maker j w, refl)
-left_one ways maker (makes.Producer b) = inl (for_each NoService ways b.settings b.parts (λ w e k. refl))
-left_one ways maker (makes.MultiProducer name settings) = inl tt
-left_one ways maker makes.Nothing = inl tt
-left_one ways maker makes.Client = inl tt
-left_one ways maker (makes.RawConsumer l made) = inl tt
+copies_none : (w : Ways) (key : ℕ) → 0 < key → (maker : Who) (j : Joining) → Each NoService (copies_by (Some w) key maker j)
+copies_none w key pos maker j = by j.config.dead_letter_policy
+  where
+    by : (policy : Option DeadLetterValues) → Each NoService (map (copies key maker j w) (option_to_list policy))
+    by None = tt
+    by (Some p) = (has_key key pos, tt)
+
+-- none, or one in front
+abbrev OneService : List Act → Type 0
+OneService xs = Each NoService xs ⊎ ((x : Act) × (ys : List Act) × (xs ≡ x ∷ ys) × Each NoService ys)
+
+left_one : (ways : Option Ways) (key : ℕ) → 0 < key → (maker : Who) (m : Makes) → OneService (left_with ways key maker m)
+left_one None key pos maker (makes.Consumer j) = inl tt
+left_one (Some w) key pos maker (makes.Consumer j) = inr (serves maker j w, copies_by (Some w) key maker j, refl, copies_none w key pos maker j)
+left_one ways key pos maker (makes.Producer b) = inl (for_each NoService ways b.settings b.parts (λ w e k. refl))
+left_one ways key pos maker (makes.MultiProducer name settings) = inl tt
+left_one ways key pos maker makes.Nothing = inl tt
+left_one ways key pos maker makes.Client = inl tt
+left_one ways key pos maker (makes.RawConsumer l made) = inl tt
 
 at_once_one : (v : View) (a : Act) → is_verdict a ≡ false → Each NoService (at_once v a)
 at_once_one v a h = each_map (IsRaised a) NoService (at_once v a) (λ b. raised_none a b h) (raises v a)
 
 record IsNext (o : Options) (log : List Entry) : Type 0 where
   act : Act
+  more : List Act
   left : List Act
   maker : Who
   verdict : Verdict
@@ -184,7 +205,7 @@ record IsNext (o : Options) (log : List Entry) : Type 0 where
   now : (agenda o log).now ≡ act ∷ left
   none : Each NoService left
   there : log ≡ Then (Answers maker verdict) ∷ older
-  alone : at_once (view o older) (Answers maker verdict) ≡ act ∷ []
+  alone : at_once (view o older) (Answers maker verdict) ≡ act ∷ more
 
 abbrev ServiceNext : Options → List Entry → Type 0
 ServiceNext o log = Each NoService (agenda o log).now ⊎ IsNext o log
@@ -199,19 +220,20 @@ service_next : (o : Options) (log : List Entry) → ServiceNext o log
 service_next o [] = inl tt
 service_next o (Begins e ∷ log) = inl tt
 service_next o (Then (Answers maker verdict) ∷ log) =
-    by (left_one (ways_of (view o log).chosen) maker verdict.makes) (rest_none o log (service_next o log))
+    by (left_one (ways_of (view o log).chosen) (view o log).consumers.next_key (positive o log) maker verdict.makes) (rest_none o log (service_next o log))
   where
     by : OneService (at_once (view o log) (Answers maker verdict)) → Each NoService (rest (agenda o log)).now →
         ServiceNext o (Then (Answers maker verdict) ∷ log)
     by (inl k) more = inl (each_append NoService (at_once (view o log) (Answers maker verdict)) (rest (agenda o log)).now k more)
-    by (inr (x, e)) more = inr (record {
+    by (inr (x, ys, e, none)) more = inr (record {
       act = x;
-      left = (rest (agenda o log)).now;
+      more = ys;
+      left = ys ++ (rest (agenda o log)).now;
       maker = maker;
       verdict = verdict;
       older = log;
       now = ap (λ xs. xs ++ (rest (agenda o log)).now) e;
-      none = more;
+      none = each_append NoService ys (rest (agenda o log)).now none more;
       there = refl;
       alone = e;
     })
@@ -235,14 +257,14 @@ calls_make o log (Producer m) verdict j made run = elim (answers_from o log (Pro
 ]
 calls_make o log (Consumer n t key) verdict j made run = elim (answers_from o log (Consumer n t key) verdict run) [
   | inl k ↦
-      (let r : IsRun o (Then (Told (notice (Consumer n t 0) k.outcome)) ∷ k.older) = subst (IsRun o) k.is_there run.0 in
+      (let r : IsRun o (Then (Told (notice (Consumer n t key) k.outcome)) ∷ k.older) = subst (IsRun o) k.is_there run.0 in
       let f : makes.Nothing ≡ makes.Consumer j =
-      sym (server_gives k.before k.outcome verdict (server_stands o k.older n t k.before r.0 k.stood) k.leads) ∙ made in
+      sym (server_gives k.before k.outcome verdict (server_stands o k.older n t key k.before r.0 k.stood) k.leads) ∙ made in
       absurd cc)
   | inr x ↦ elim x [
     | inl k ↦
-        (let r : IsRun o (Then (Starts (Consumer n t 0) k.procedure) ∷ k.older) = subst (IsRun o) k.is_there run.0 in
-        absurd (serve_goes_on o k.older n t k.procedure verdict r k.leads))
+        (let r : IsRun o (Then (Starts (Consumer n t key) k.procedure) ∷ k.older) = subst (IsRun o) k.is_there run.0 in
+        absurd (serve_goes_on o k.older n t key k.procedure verdict r k.leads))
     | inr e ↦ (let f : (fails Exhausted).makes ≡ makes.Consumer j = sym (ap (λ y. y.makes) e) ∙ made in absurd cc)
   ]
 ]
@@ -255,18 +277,19 @@ pub record IsMadeBy (o : Options) (log : List Entry) (n t : ℕ) : Type 0 where
   pub made : verdict.makes ≡ makes.Consumer joining
   pub number : joining.number ≡ n
 
-left_is : (ways : Option Ways) (maker : Who) (m : Makes) (n t : ℕ) (p : Procedure) → left_with ways maker m ≡ Starts (Consumer n t 0) p ∷ [] →
+left_is : (ways : Option Ways) (key : ℕ) (maker : Who) (m : Makes) (n t : ℕ) (p : Procedure) (xs : List Act) →
+    left_with ways key maker m ≡ Starts (Consumer n t 0) p ∷ xs →
     (j : Joining) × (m ≡ makes.Consumer j) × (j.number ≡ n) × (ticket_of maker ≡ t)
-left_is None maker (makes.Consumer j) n t p e = absurd cc
-left_is (Some w) maker (makes.Consumer j) n t p e = (j, refl, (let f : j.number ≡ n = cc in f), (let g : ticket_of maker ≡ t = cc in g))
-left_is ways maker (makes.Producer b) n t p e =
-    let none : Each NoService (left_with ways maker (makes.Producer b)) = for_each NoService ways b.settings b.parts (λ w x k. refl) in
+left_is None key maker (makes.Consumer j) n t p xs e = absurd cc
+left_is (Some w) key maker (makes.Consumer j) n t p xs e = (j, refl, (let f : j.number ≡ n = cc in f), (let g : ticket_of maker ≡ t = cc in g))
+left_is ways key maker (makes.Producer b) n t p xs e =
+    let none : Each NoService (left_with ways key maker (makes.Producer b)) = for_each NoService ways b.settings b.parts (λ w x k. refl) in
     let f : true ≡ false = (subst (Each NoService) e none).0 in
     absurd cc
-left_is ways maker (makes.MultiProducer name settings) n t p e = absurd cc
-left_is ways maker makes.Nothing n t p e = absurd cc
-left_is ways maker makes.Client n t p e = absurd cc
-left_is ways maker (makes.RawConsumer l made) n t p e = absurd cc
+left_is ways key maker (makes.MultiProducer name settings) n t p xs e = absurd cc
+left_is ways key maker makes.Nothing n t p xs e = absurd cc
+left_is ways key maker makes.Client n t p xs e = absurd cc
+left_is ways key maker (makes.RawConsumer l made) n t p xs e = absurd cc
 
 pub begins_made : (o : Options) (log : List Entry) (n t : ℕ) (p : Procedure) → IsRun o (Then (Starts (Consumer n t 0) p) ∷ log) → IsMadeBy o log n t
 begins_made o log n t p run = by (service_next o log)
@@ -278,7 +301,8 @@ begins_made o log n t p run = by (service_next o log)
         absurd cc
     by (inr k) =
         let head : k.act ≡ Starts (Consumer n t 0) p = fits_first o log k.act (Starts (Consumer n t 0) p) k.left k.now run.1 in
-        let x = left_is (ways_of (view o k.older).chosen) k.maker k.verdict.makes n t p (k.alone ∙ ap (λ y. y ∷ []) head) in
+        let x = left_is (ways_of (view o k.older).chosen) (view o k.older).consumers.next_key k.maker k.verdict.makes n t p k.more
+        (k.alone ∙ ap (λ y. y ∷ k.more) head) in
         let c = calls_make o k.older k.maker k.verdict x.0 x.1 (subst (IsRun o) k.there run.0) in
         let u : c.0 ≡ t = sym (ap ticket_of c.1) ∙ x.3 in
         record {

@@ -45,13 +45,13 @@ module _ (once : EndsOnce) (o : Options) where
   made_row : (older : List Entry) (n t : ℕ) (k : IsMadeBy o older n t) → Numbered o n t older
   made_row log n t k =
       let v : View = view o k.older in
-      let it : Member = member_on v.links.live k.joining.link (setup_of v.consumers.next_key k.joining) in
+      let it : Member = member_on v.links.live v.now k.joining.link (setup_of v.consumers.next_key k.joining) in
       let rows : (view o (Then (Answers (Call t) k.verdict) ∷ k.older)).consumers.rows t ≡ Some it =
-      ap (λ x. row_made (member_made v.links.live v.consumers.next_key x) (Call t) t (v.consumers.rows t)) k.made
+      ap (λ x. row_made (member_made v.links.live v.now v.consumers.next_key x) (Call t) t (v.consumers.rows t)) k.made
       ∙ joins_here (Call t) it (v.consumers.rows t) t (same_self (Call t)) in (
         it,
         ap (λ y. (view o y).consumers.rows t) k.there ∙ rows,
-        subscribed_number k.joining.link (url_at (v.links.live k.joining.link))
+        subscribed_number v.now k.joining.link (url_at (v.links.live k.joining.link))
             (record { seen = fresh (setup_of v.consumers.next_key k.joining); seekers = [] })
             ∙ k.number,
       )
@@ -96,7 +96,7 @@ module _ (once : EndsOnce) (o : Options) where
           let same : k ≡ m = some_is (sym e ∙ is) in (
             r.row,
             r.is_it,
-            ap is_ended r.seen ∙ does_end (view o log) t k a ∙ ap (λ x. is_ended x.seen || ends_by (view o log) t x a) same ∙ h,
+            ap is_ended r.seen ∙ does_end (view o log) t k a e ∙ ap (λ x. is_ended x.seen || ends_by (view o log) t x a) same ∙ h,
           )
 
   pub ends_here : (log : List Entry) (a : Act) (t : ℕ) (m : Member) → IsRun o (Then a ∷ log) → (view o log).consumers.rows t ≡ Some m →

@@ -282,7 +282,8 @@ module _ (once : EndsOnce) (o : Options) (log : List Entry) (t : ℕ) (k : Every
       by (inl x) = let e = x.6 in cc
       by (inr x) =
           let e : (u, key) ≡ (t, 0) = some_is (ap asker x.3) in
-          let f : true ≡ false = (λ i. eq-eqb key 0 (ap (λ y. y.1) e) (~ i) && eq-eqb t u (sym (ap (λ y. y.0) e)) (~ i)) ∙ d in cc
+          let f : ((key == 0) && (t == u)) ≡ true = (λ i. eq-eqb key 0 (ap (λ y. y.1) e) i && eq-eqb t u (sym (ap (λ y. y.0) e)) i) in
+          let g : true ≡ false = sym f ∙ d in cc
 
   -- it is subscribed again
   revived_settled : (who : Who) (j l : ℕ) (s : Setup) (m n : Member) → IsRun o (Then (Does who (OfConsumer (Revive j))) ∷ log) → v.consumers.rows t ≡ Some m →
@@ -301,10 +302,11 @@ module _ (once : EndsOnce) (o : Options) (log : List Entry) (t : ℕ) (k : Every
       by : (b : Bool) → is_ended m.seen ≡ b → asked_since s (does_to v t m (Does who (OfConsumer (Revive j))) ++ done_to o t log) ≡ 0
       by true ended =
           let c = consumers_alone_lem once o log t m run.0 is in
-          let same : n.seen ≡ m.seen =
-          seen_so ∙ ap (λ xs. applied xs m.seen) does
-          ∙ ap (λ b. cond b m.seen (record m.seen { engine = reader.lives j url m.seen.engine })) ended in
-          absurd (gone m.seen.ended refl c.0 c.2 (ap link_of (sym same) ∙ on) ended)
+          let s : Seen = reader.after (IsAt v.now) m.seen in
+          let same : link_of n.seen ≡ link_of m.seen =
+          ap link_of seen_so ∙ ap (λ xs. link_of (applied xs m.seen)) does
+          ∙ ap (λ b. link_of (cond b s (record s { engine = reader.lives j url s.engine }))) ended in
+          absurd (gone m.seen.ended refl c.0 c.2 (sym same ∙ on) ended)
         where
           gone : (w : Option Ending) → m.seen.ended ≡ w → (s : Setup) → m.seen ≡ seen s (done_to o t log) → link_of m.seen ≡ Some l → is_ended m.seen ≡ true → ⊥
           gone None f s q on ended = let g : false ≡ true = sym (ap is_some f) ∙ ended in cc

@@ -1,11 +1,11 @@
 -- Where the plan of a consumer rests, and a flow is due, it is to be told so still, so none is due there at the end of a step.
-use Rattle.std.proofs.Common.{◌≡◌, inl, inr, ◌∙◌, sym, ap, subst, ℕ, ◌==◌, List, [], ◌∷◌, refl, Bool, true, false, cond, eq-eqb, Option, Some, None}
+use Rattle.std.proofs.Common.{◌≡◌, inl, inr, ◌∙◌, sym, ap, subst, ℕ, ◌==◌, List, [], ◌∷◌, refl, Bool, true, false, cond, eq-eqb, Option, Some, None, Result, Ok, Err}
 use Rattle.std.proofs.lemmas.Bool.{cases_Bool}
 use Rattle.std.specs.Option.{is_some, option_map}
-use Rattle.pulsar_laws.proofs.ActWords.{Act, Action, Answers, Call, Consumer, Does, is_same, Notice, Outcome, Procedure, Revive, Starts, TakeFlow, Told, Who, OfConsumer}
+use Rattle.pulsar_laws.proofs.ActWords.{Act, Action, Answers, Ask, Call, Consumer, Does, is_same, Notice, Outcome, Procedure, Revive, Starts, TakeFlow, Told, Who, OfConsumer}
 use Rattle.pulsar_laws.proofs.PlanWords.{Gives, Plan, PlanTransition, Stays, told}
 use Rattle.pulsar_laws.proofs.RunWords.{agenda, Agenda, Begins, begun_same, EndsOnce, Entry, first, IsRun, notice, Options, stays, stays_some, Then, told_some, view, View}
-use Rattle.pulsar_laws.proofs.LinkWords.{url_at}
+use Rattle.pulsar_laws.proofs.LinkWords.{answer_at, told_at, url_at}
 use Rattle.pulsar_consumer.specs.Topic.{Live, Seen, Asks, asked, behind, first_due, first_in, is_due}
 use Rattle.pulsar_calls.specs.declared.act.Outcome.TheVariants as outcome
 use Rattle.pulsar_calls.specs.declared.act.Word.TheVariants as word
@@ -19,6 +19,10 @@ use Rattle.pulsar_laws.proofs.calls.Ticketed.{consumer_ticket}
 use Rattle.pulsar_laws.proofs.consumers.Due.{applied_number, built_due, due_to_plan, falls_due, is_waker, made_due_so, revived_due, rises}
 use Rattle.pulsar_laws.proofs.consumers.Lone.{IsKept, IsMade, IsNone, RowFrom, applied, begun_rows, none_after, row_from}
 use Rattle.pulsar_laws.proofs.consumers.Placed.{Takes, takes_run, told_flow}
+use Rattle.pulsar_session.specs.declared.states.Asked.{Asked as Placed}
+use Rattle.pulsar_session.specs.declared.states.Asked.TheVariants as placed
+use Rattle.pulsar_wire.specs.declared.error.ConnectionError.{ConnectionError}
+use Rattle.pulsar_laws.proofs.consumers.Asking.{answer, asks_run, is_asking, told_asked}
 use Rattle.pulsar_laws.proofs.consumers.Rested.{IsMadeBy, arc_rests, begins_made, due_is_taken, is_resting, revived_run}
 use Rattle.pulsar_laws.proofs.consumers.Taken.{flow_none}
 use Rattle.pulsar_plans.proofs.Arcs.{told_arc}
@@ -114,8 +118,8 @@ module _ (once : EndsOnce) (o : Options) (log : List Entry) (t : ℕ) (was : Ten
             let number : m.seen.number ≡ n.seen.number =
             sym (ap (λ (s : Seen). s.number) seen ∙ applied_number (does_to (view o older) t m (Does who (OfConsumer (Revive l)))) m.seen) in
             let own : (t == t) ≡ true = eq-eqb t t refl in
-            let d : is_due (applied (subscription_does l (url_at ((view o older).links.live l))) m.seen) ≡ true =
-            sym (ap (λ b. is_due (applied (cond b (subscription_does l (url_at ((view o older).links.live l))) []) m.seen)) own)
+            let d : is_due (applied (subscription_does (view o older).now l (url_at ((view o older).links.live l))) m.seen) ≡ true =
+            sym (ap (λ b. is_due (applied (cond b (subscription_does (view o older).now l (url_at ((view o older).links.live l))) []) m.seen)) own)
             ∙ sym (ap is_due seen) ∙ due in
             subst (λ k. Tells o k t (Then (Does who (OfConsumer (Revive l))) ∷ older)) number
             (arises (due_to_plan m.seen.number t) o (Then (Does who (OfConsumer (Revive l)))) older (revived_due o older t m e who l own d))
@@ -129,10 +133,30 @@ module _ (once : EndsOnce) (o : Options) (log : List Entry) (t : ℕ) (was : Ten
             Tells o n.seen.number t (Then (Told (notice who u)) ∷ log)
         other differs k = left_behind o log n.seen.number t (Told (notice who u)) run differs k
 
+        -- while it asks it is told what became of that, and nothing else
+        not_asking : (q : Plan) → outcome.Word word.Due ≡ u → v.stand who ≡ Some q → is_asking q ≡ true → ⊥
+        not_asking q same stood asks =
+            let k = asks_run o n.seen.number t log q run.0 stood asks in
+            elim k.2 [
+              | inl f ↦ (let e : Told (notice who u) ≡ Does who (Ask k.0 k.1) = some_is (sym run.1 ∙ f) in absurd cc)
+              | inr x ↦
+                  (let e : Told (notice who u) ≡ answer o n.seen.number t x.0 k.0 k.1 =
+                  some_is (sym run.1 ∙ ap (λ y. first (agenda o y)) x.1 ∙ told_asked o n.seen.number t x.0 k.0 k.1) in
+                  not_due (answer_at (view o x.0).now k.1 ((view o x.0).links.live k.0)) (same ∙ ap said e))
+            ]
+          where
+            not_due : (r : Result Placed ConnectionError) → outcome.Word word.Due ≡ told_at r → ⊥
+            not_due (Ok (placed.Queued place)) e = cc
+            not_due (Ok (placed.Waiting place)) e = cc
+            not_due (Err x) e = cc
+
         goes : (x : Plan) (action : Action) → told q u ≡ Stays x action → is_resting x ≡ true → Tells o n.seen.number t (Then (Told (notice who u)) ∷ log)
         goes x action leads r = elim (arc_rests (told_arc leads) r) [
           | inl before ↦
-              other (λ same. due_is_taken q x action before (ap (told q) (ap said same) ∙ leads) r)
+              other (λ same. elim (cases_Bool (is_asking q)) [
+                | inl asks ↦ not_asking q (ap said same) stood asks
+                | inr idle ↦ due_is_taken q x action before idle (ap (told q) (ap said same) ∙ leads) r
+              ])
               (was n q is due stood before)
           | inr z ↦ elim z [
             | inl took ↦ absurd (none_due took.1 (takes_run o log n.seen.number t run.0 q stood took.0))
@@ -228,7 +252,7 @@ module _ (once : EndsOnce) (o : Options) (log : List Entry) (t : ℕ) (was : Ten
             | inl i ↦ arises (due_to_plan n.seen.number t) o (Then a) log i
             | inr old ↦ kept_on n e old a p run s rests
           ]
-          at false w n e d s = kept_on n e (falls_due v t n a w d) a p run s rests
+          at false w n e d s = kept_on n e (falls_due v t n a e w d) a p run s rests
 
 tended_run : EndsOnce → (o : Options) (log : List Entry) (t : ℕ) → IsRun o log → Tended o log t
 tended_run once o [] t run = λ m p is due stood rests. absurd (none_some is)

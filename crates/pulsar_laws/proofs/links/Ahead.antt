@@ -35,7 +35,7 @@ use Rattle.pulsar_run.specs.Things.{row_after, row_by}
 use Rattle.pulsar_acts.specs.Effects.{effects, retries_on}
 use Rattle.pulsar_acts.specs.Reading.{made_due, tells}
 use Rattle.pulsar_acts.specs.Rules.{breaks_at, failed_on, idle_act, keeps_alive, multi_shares_unless, reads_on, served_on, waiters_of, why_no_multi_sends}
-use Rattle.pulsar_acts.specs.View.{addresses_after, alarms_after, alarms_on, base_on, consumers_after, consumers_left, consumers_listed, member_made, member_of, pause_for, pause_on, producers_after, room_on, started_after}
+use Rattle.pulsar_acts.specs.View.{addresses_after, alarms_after, alarms_built, alarms_made, alarms_on, base_on, builds, consumers_after, consumers_left, consumers_listed, member_made, member_of, pause_for, pause_on, producers_after, room_on, started_after}
 use Rattle.pulsar_consumer.specs.Topic.{of_raw}
 use Rattle.pulsar_consumer_table.specs.Consumers as consumer
 use Rattle.pulsar_consumer_table.specs.Consumers.{Revived, member_by, over_rows}
@@ -300,19 +300,18 @@ module _ (l : ℕ) (bytes : List ℕ) (v : View) where
   shares_same None advice t ms = refl
   shares_same (Some r) advice t ms = refl
 
-  multi_same : (r : Option CallRefusal) (t : ℕ) (topic : List ℕ) (ms : List ProducerMessageValues) →
+  multi_shares_same : (r : Option CallRefusal) (t : ℕ) (topic : List ℕ) (ms : List ProducerMessageValues) →
       multi_shares_unless r other t topic ms ≡ multi_shares_unless r v t topic ms
-  multi_same None t topic ms = refl
-  multi_same (Some r) t topic ms = refl
+  multi_shares_same None t topic ms = refl
+  multi_shares_same (Some r) t topic ms = refl
 
   parts_same : (advice : List (Option ℕ)) (asked : Asked) → parts_of other advice asked ≡ parts_of v advice asked
   parts_same advice (content.SendAll t ms) = shares_same (why_no_sends v.calls v.producers t) advice t ms
-  parts_same advice (content.MultiSendAll t topic ms) = multi_same (why_no_multi_sends v.calls v.producers.multis t) t topic ms
+  parts_same advice (content.MultiSendAll t topic ms) = multi_shares_same (why_no_multi_sends v.calls v.producers.multis t) t topic ms
   parts_same advice asked = refl
 
   made_same : (who : Who) (m : Makes) → made_due row v.now v.consumers.next_key who m ≡ made_due v.links.live v.now v.consumers.next_key who m
-  made_same who (makes.Consumer j) =
-      ap (λ url. due_to (ticket_of who) (consumer.member_of (setup_of v.consumers.next_key j) v.now j.link url)) (url_same j.link)
+  made_same who (makes.Consumer j) = ap (λ url. due_to (ticket_of who) (consumer.member_of (setup_of v.consumers.next_key j) v.now j.link url)) (url_same j.link)
   made_same who m = refl
 
   rings_ruled : (a : Alarm) → ruled other (Comes (Rings a)) ≡ ruled v (Comes (Rings a))
@@ -524,10 +523,11 @@ module _ (l : ℕ) (bytes : List ℕ) (v : View) where
   after_same (Does who (OfConsumer (Revive k))) h =
       after_by l bytes bytes v (Does who (OfConsumer (Revive k))) (λ j. refl) refl refl
       (ap
-      (λ url. record v.consumers { rows = λ t. row_by member_by (cond (t == ticket_of who) (Revived k url ∷ []) []) (v.consumers.rows t) })
+      (λ url. record v.consumers { rows = λ t. row_by member_by (cond (t == ticket_of who) (Revived v.now k url ∷ []) []) (v.consumers.rows t) })
       (url_same l bytes v k)) refl
   after_same (Answers who verdict) h =
-      after_by l bytes bytes v (Answers who verdict) (λ k. refl) refl refl
+      after_by l bytes bytes v (Answers who verdict) (λ k. refl) refl
+      (ap (λ m. alarms_made who m (alarms_built v.now (not v.calls.is_built && builds verdict.makes false) v.alarms)) (made_so verdict.makes))
       (ap
       (λ m. record (consumers_left who (consumers_listed who verdict.makes v.consumers)) {
         rows = λ t. row_after member_by (member_of m who t) false [] (v.consumers.rows t);

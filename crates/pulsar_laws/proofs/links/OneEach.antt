@@ -5,7 +5,7 @@ use Rattle.std.proofs.lemmas.Slice.Eq.{bytes_eq-Decides}
 use Rattle.std.specs.List.{list_any}
 use Rattle.std.specs.Option.{option_map}
 use Rattle.std.specs.Str.{bytes_eq}
-use Rattle.pulsar_laws.proofs.ActWords.{Act, Alarm, Arrival, Ask, Batch, CheckIdle, Comes, Dials, Does, Drains, Ends, Get, Heard, KeepAlive, LinkAct, Opens, Pings, Reads, Redelivery, Retry, Rings, StopAll, ToLink, Wake, Who}
+use Rattle.pulsar_laws.proofs.ActWords.{Act, Alarm, Arrival, Ask, Batch, CheckIdle, Comes, Dials, Does, Drains, Ends, Get, Heard, KeepAlive, LinkAct, Opens, Pings, Reads, Retry, Rings, StopAll, ToLink, Wake, Who, Redelivery}
 use Rattle.pulsar_laws.proofs.RunWords.{after, Begins, begun, Chosen, dialed, Entry, IsRun, Options, Then, Turned, turned, turned_by, view, View, begun_same}
 use Rattle.pulsar_laws.proofs.LinkWords.{address_key, Base, Becomes, Change, closed_by, Fault, is_reachable, IsOver, Nobody, Pause, Pauses, Place, Remains, rings, Runs, Seat, Series, Serves, took, took_end, took_some, Words}
 use Rattle.pulsar_calls.specs.declared.act.Arrival.TheVariants.{Readied}

@@ -8,7 +8,7 @@ use Rattle.std.specs.Option.{option_map, option_to_list}
 use Rattle.std.specs.Ordering.{is_lt, match_ordering, nat_cmp, ordering_then}
 use Rattle.std.specs.declared.cmp.Ordering.{Ordering}
 use Rattle.std.specs.declared.cmp.Ordering.TheVariants.{Less, Equal, Greater}
-use Rattle.pulsar_laws.proofs.ActWords.{Act, Alarm, Answers, Batch, Call, CheckIdle, Comes, Consumer, Does, Ends, Flush, KeepAlive, OfMulti, OfTopic, Overdue, Part, Producer, Redelivery, Retry, Rings, Shut, StopAll, Store, ToLink, Wait, Wake, numbers_from, turn_of}
+use Rattle.pulsar_laws.proofs.ActWords.{Act, Alarm, Answers, Batch, Call, CheckIdle, Comes, Consumer, Does, Ends, Flush, KeepAlive, OfMulti, OfTopic, Overdue, Part, Producer, Retry, Rings, Shut, StopAll, Store, ToLink, Wait, Wake, numbers_from, turn_of, Redelivery, Who}
 use Rattle.pulsar_laws.proofs.RunWords.{Begins, begun_same, Chosen, Each, each_append, each_map, Entry, Options, Then, Turned, turned, view, View}
 use Rattle.pulsar_laws.proofs.LinkWords.{Becomes, Change, IsOver, over_links, Pause, Remains, rings, Seat}
 use Rattle.pulsar_run.specs.Order.{InOrder, NoneBelow}
@@ -23,7 +23,7 @@ use Rattle.pulsar_producer_table.specs.Producers.{is_bare, numbers_at, timeout_a
 use Rattle.pulsar_links.specs.LinkRules.{due_part, on_link}
 use Rattle.pulsar_consumer_table.specs.Consumers.{Consumers, Member, check_after}
 use Rattle.pulsar_producer_table.specs.MultiAsks.{removed_by}
-use Rattle.pulsar_acts.specs.View.{alarms_after, alarms_made, checked_first, checked_next, member_made, multi_at, alarms_on, alarms_on_topic, alarms_over, alarms_rung, alarms_turned, alarms_waiting, builds, clear_all, delay_of, idle_period, waits_from}
+use Rattle.pulsar_acts.specs.View.{alarms_after, alarms_made, alarms_on, alarms_on_topic, alarms_over, alarms_rung, alarms_turned, alarms_waiting, builds, checked_first, checked_next, clear_all, delay_of, idle_period, member_made, multi_at, waits_from}
 use Rattle.pulsar_links.specs.Seats.{later}
 use Rattle.pulsar_agenda.proofs.Orders.{one_way3, chain3}
 use Rattle.pulsar_agenda.proofs.Sorting.{cmp3, lt3}
@@ -49,15 +49,16 @@ module _ {A : Type 0} (below : A → A → Bool) where
 -- THE ORDER OF ALARMS: by what a tick brings of them, and then by ticket
 
 abbrev ticket_in : Alarm → ℕ
-ticket_in (Wake (Consumer n t k)) = t
+ticket_in (Wake (Consumer n t key)) = t
 ticket_in _ = 0
 
+-- and by the key of those that a consumer has
 abbrev key_in : Alarm → ℕ
-key_in (Wake (Consumer n t k)) = k
+key_in (Wake (Consumer n t key)) = key
 key_in _ = 0
 
-abbrev key : Alarm → ℕ × ℕ × ℕ × ℕ × ℕ
-key a = ((part_rank (Rings a)).0, (part_rank (Rings a)).1, (part_rank (Rings a)).2, ticket_in a, key_in a)
+abbrev place : Alarm → ℕ × ℕ × ℕ × ℕ × ℕ
+place a = ((part_rank (Rings a)).0, (part_rank (Rings a)).1, (part_rank (Rings a)).2, ticket_in a, key_in a)
 
 abbrev is_before4 : ℕ × ℕ × ℕ × ℕ → ℕ × ℕ × ℕ × ℕ → Bool
 is_before4 a b = if a.0 == b.0 then is_before3 (a.1, a.2, a.3) (b.1, b.2, b.3) else nat_lt a.0 b.0
@@ -66,7 +67,7 @@ abbrev is_before5 : ℕ × ℕ × ℕ × ℕ × ℕ → ℕ × ℕ × ℕ × ℕ
 is_before5 a b = if a.0 == b.0 then is_before4 (a.1, a.2, a.3, a.4) (b.1, b.2, b.3, b.4) else nat_lt a.0 b.0
 
 abbrev alarm_below : Alarm → Alarm → Bool
-alarm_below a b = is_before5 (key a) (key b)
+alarm_below a b = is_before5 (place a) (place b)
 
 abbrev cmp4 : ℕ × ℕ × ℕ × ℕ → ℕ × ℕ × ℕ × ℕ → Ordering
 cmp4 x y = ordering_then (ordering_then (ordering_then (nat_cmp x.0 y.0) (nat_cmp x.1 y.1)) (nat_cmp x.2 y.2)) (nat_cmp x.3 y.3)
@@ -79,41 +80,46 @@ then_equal Less = refl
 then_equal Equal = refl
 then_equal Greater = refl
 
-same_cmp : (a b : Alarm) → alarm_cmp a b ≡ cmp5 (key a) (key b)
+then_left : (a b c : Ordering) → ordering_then a (ordering_then b c) ≡ ordering_then (ordering_then a b) c
+then_left Less b c = refl
+then_left Equal b c = refl
+then_left Greater b c = refl
+
+same_cmp : (a b : Alarm) → alarm_cmp a b ≡ cmp5 (place a) (place b)
 same_cmp (Retry k) (Retry l) = then_equal (nat_cmp k l)
 same_cmp (Retry k) (Wake (Call u)) = refl
-same_cmp (Retry k) (Wake (Consumer m u j)) = refl
+same_cmp (Retry k) (Wake (Consumer m u other)) = refl
 same_cmp (Retry k) (Wake (Producer m)) = refl
 same_cmp (Retry k) _ = refl
 same_cmp (Wake (Call t)) (Wake (Call u)) = then_equal (nat_cmp t u)
-same_cmp (Wake (Call t)) (Wake (Consumer m u j)) = refl
+same_cmp (Wake (Call t)) (Wake (Consumer m u other)) = refl
 same_cmp (Wake (Call t)) (Wake (Producer m)) = refl
 same_cmp (Wake (Call t)) _ = refl
-same_cmp (Wake (Consumer n t k)) (Wake (Call u)) = refl
-same_cmp (Wake (Consumer n t k)) (Wake (Consumer m u j)) = refl
-same_cmp (Wake (Consumer n t k)) (Wake (Producer m)) = refl
-same_cmp (Wake (Consumer n t k)) _ = refl
+same_cmp (Wake (Consumer n t key)) (Wake (Call u)) = refl
+same_cmp (Wake (Consumer n t key)) (Wake (Consumer m u other)) = then_left (nat_cmp n m) (nat_cmp t u) (nat_cmp key other)
+same_cmp (Wake (Consumer n t key)) (Wake (Producer m)) = refl
+same_cmp (Wake (Consumer n t key)) _ = refl
 same_cmp (Wake (Producer n)) (Wake (Call u)) = refl
-same_cmp (Wake (Producer n)) (Wake (Consumer m u j)) = refl
+same_cmp (Wake (Producer n)) (Wake (Consumer m u other)) = refl
 same_cmp (Wake (Producer n)) (Wake (Producer m)) = then_equal (nat_cmp n m)
 same_cmp (Wake (Producer n)) _ = refl
 same_cmp (Batch n) (Wake (Call u)) = refl
-same_cmp (Batch n) (Wake (Consumer m u j)) = refl
+same_cmp (Batch n) (Wake (Consumer m u other)) = refl
 same_cmp (Batch n) (Wake (Producer m)) = refl
 same_cmp (Batch n) (Batch m) = then_equal (nat_cmp n m)
 same_cmp (Batch n) _ = refl
 same_cmp (KeepAlive k) (Wake (Call u)) = refl
-same_cmp (KeepAlive k) (Wake (Consumer m u j)) = refl
+same_cmp (KeepAlive k) (Wake (Consumer m u other)) = refl
 same_cmp (KeepAlive k) (Wake (Producer m)) = refl
 same_cmp (KeepAlive k) (KeepAlive l) = then_equal (nat_cmp k l)
 same_cmp (KeepAlive k) _ = refl
 same_cmp (Redelivery n t) (Wake (Call u)) = refl
-same_cmp (Redelivery n t) (Wake (Consumer m u j)) = refl
+same_cmp (Redelivery n t) (Wake (Consumer m u other)) = refl
 same_cmp (Redelivery n t) (Wake (Producer m)) = refl
 same_cmp (Redelivery n t) (Redelivery m u) = then_equal (ordering_then (nat_cmp n m) (nat_cmp t u))
 same_cmp (Redelivery n t) _ = refl
 same_cmp CheckIdle (Wake (Call u)) = refl
-same_cmp CheckIdle (Wake (Consumer m u j)) = refl
+same_cmp CheckIdle (Wake (Consumer m u other)) = refl
 same_cmp CheckIdle (Wake (Producer m)) = refl
 same_cmp CheckIdle _ = refl
 
@@ -129,25 +135,26 @@ then_same Less b c d = refl
 then_same Equal b c d = refl
 then_same Greater b c d = refl
 
+then_five : (a b c d e : Ordering) → ordering_then (ordering_then (ordering_then (ordering_then a b) c) d) e ≡
+    ordering_then a (ordering_then (ordering_then (ordering_then b c) d) e)
+then_five Less b c d e = refl
+then_five Equal b c d e = refl
+then_five Greater b c d e = refl
+
 lt4 : (x y : ℕ × ℕ × ℕ × ℕ) → is_lt (cmp4 x y) ≡ is_before4 x y
 lt4 x y =
     ap is_lt (then_same (nat_cmp x.0 y.0) (nat_cmp x.1 y.1) (nat_cmp x.2 y.2) (nat_cmp x.3 y.3))
     ∙ lt_then x.0 y.0 (cmp3 (x.1, x.2, x.3) (y.1, y.2, y.3)) (is_before3 (x.1, x.2, x.3) (y.1, y.2, y.3)) (lt3 (x.1, x.2, x.3) (y.1, y.2, y.3))
 
-then_same4 : (a b c d e : Ordering) →
-    ordering_then (ordering_then (ordering_then (ordering_then a b) c) d) e ≡ ordering_then a (ordering_then (ordering_then (ordering_then b c) d) e)
-then_same4 Less b c d e = refl
-then_same4 Equal b c d e = refl
-then_same4 Greater b c d e = refl
-
 lt5 : (x y : ℕ × ℕ × ℕ × ℕ × ℕ) → is_lt (cmp5 x y) ≡ is_before5 x y
 lt5 x y =
-    ap is_lt (then_same4 (nat_cmp x.0 y.0) (nat_cmp x.1 y.1) (nat_cmp x.2 y.2) (nat_cmp x.3 y.3) (nat_cmp x.4 y.4))
-    ∙ lt_then x.0 y.0 (cmp4 (x.1, x.2, x.3, x.4) (y.1, y.2, y.3, y.4)) (is_before4 (x.1, x.2, x.3, x.4) (y.1, y.2, y.3, y.4))
-    (lt4 (x.1, x.2, x.3, x.4) (y.1, y.2, y.3, y.4))
+    let xs : ℕ × ℕ × ℕ × ℕ = (x.1, x.2, x.3, x.4) in
+    let ys : ℕ × ℕ × ℕ × ℕ = (y.1, y.2, y.3, y.4) in
+    ap is_lt (then_five (nat_cmp x.0 y.0) (nat_cmp x.1 y.1) (nat_cmp x.2 y.2) (nat_cmp x.3 y.3) (nat_cmp x.4 y.4))
+    ∙ lt_then x.0 y.0 (cmp4 xs ys) (is_before4 xs ys) (lt4 xs ys)
 
 below_is : (a b : Alarm) (o : Ordering) → alarm_cmp a b ≡ o → alarm_below a b ≡ is_lt o
-below_is a b o e = sym (lt5 (key a) (key b)) ∙ ap is_lt (sym (same_cmp a b) ∙ e)
+below_is a b o e = sym (lt5 (place a) (place b)) ∙ ap is_lt (sym (same_cmp a b) ∙ e)
 
 lex_way : (a d : ℕ) (i j : Bool) → (i ≡ true → j ≡ false) → cond (a == d) i (nat_lt a d) ≡ true → cond (d == a) j (nat_lt d a) ≡ false
 lex_way a d true j f h = let e : j ≡ false = f refl in rw e (grind (arith, nat_tests, common_steps))
@@ -163,28 +170,27 @@ one_way4 : (x y : ℕ × ℕ × ℕ × ℕ) → is_before4 x y ≡ true → is_b
 one_way4 x y h =
     lex_way x.0 y.0 (is_before3 (x.1, x.2, x.3) (y.1, y.2, y.3)) (is_before3 (y.1, y.2, y.3) (x.1, x.2, x.3)) (λ e. one_way3 x.1 x.2 x.3 y.1 y.2 y.3 e) h
 
-one_way : (a b : Alarm) → alarm_below a b ≡ true → alarm_below b a ≡ false
-one_way a b h =
-    let x = key a in
-    let y = key b in
-    let left : ℕ × ℕ × ℕ × ℕ = (x.1, x.2, x.3, x.4) in
-    let right : ℕ × ℕ × ℕ × ℕ = (y.1, y.2, y.3, y.4) in
-    lex_way x.0 y.0 (is_before4 left right) (is_before4 right left) (one_way4 left right) h
-
 chain4 : (x y z : ℕ × ℕ × ℕ × ℕ) → is_before4 x y ≡ false → is_before4 y z ≡ false → is_before4 x z ≡ false
 chain4 x y z h k =
     lex_chain x.0 y.0 z.0 (is_before3 (x.1, x.2, x.3) (y.1, y.2, y.3)) (is_before3 (y.1, y.2, y.3) (z.1, z.2, z.3))
     (is_before3 (x.1, x.2, x.3) (z.1, z.2, z.3)) (λ e f. chain3 x.1 x.2 x.3 y.1 y.2 y.3 z.1 z.2 z.3 e f) h k
 
+abbrev tail : ℕ × ℕ × ℕ × ℕ × ℕ → ℕ × ℕ × ℕ × ℕ
+tail x = (x.1, x.2, x.3, x.4)
+
+one_way : (a b : Alarm) → alarm_below a b ≡ true → alarm_below b a ≡ false
+one_way a b h =
+    let x = place a in
+    let y = place b in
+    lex_way x.0 y.0 (is_before4 (tail x) (tail y)) (is_before4 (tail y) (tail x)) (λ e. one_way4 (tail x) (tail y) e) h
+
 chain : (a b c : Alarm) → alarm_below a b ≡ false → alarm_below b c ≡ false → alarm_below a c ≡ false
 chain a b c h k =
-    let x = key a in
-    let y = key b in
-    let z = key c in
-    let one : ℕ × ℕ × ℕ × ℕ = (x.1, x.2, x.3, x.4) in
-    let two : ℕ × ℕ × ℕ × ℕ = (y.1, y.2, y.3, y.4) in
-    let three : ℕ × ℕ × ℕ × ℕ = (z.1, z.2, z.3, z.4) in
-    lex_chain x.0 y.0 z.0 (is_before4 one two) (is_before4 two three) (is_before4 one three) (chain4 one two three) h k
+    let x = place a in
+    let y = place b in
+    let z = place c in
+    lex_chain x.0 y.0 z.0 (is_before4 (tail x) (tail y)) (is_before4 (tail y) (tail z)) (is_before4 (tail x) (tail z))
+    (λ e f. chain4 (tail x) (tail y) (tail z) e f) h k
 
 -- so a tick brings them in its order
 lex_front : (a d b e c f : ℕ) (i : Bool) → cond (a == d) (cond (b == e) (cond (c == f) i (nat_lt c f)) (nat_lt b e)) (nat_lt a d) ≡ false →
@@ -194,9 +200,9 @@ lex_front a d b e c f false h = grind (arith, nat_tests, common_steps)
 
 brought_so : (a b : Alarm) → alarm_below a b ≡ false → part_below (Rings a) (Rings b) ≡ false
 brought_so a b h =
-    let x = key a in
-    let y = key b in
-    lex_front x.0 y.0 x.1 y.1 x.2 y.2 (if x.3 == y.3 then nat_lt x.4 y.4 else nat_lt x.3 y.3) h
+    let x = place a in
+    let y = place b in
+    lex_front x.0 y.0 x.1 y.1 x.2 y.2 (cond (x.3 == y.3) (nat_lt x.4 y.4) (nat_lt x.3 y.3)) h
 
 -- ALARMS STAND IN ORDER
 
@@ -268,28 +274,28 @@ sorted_on : (o : Chosen) (now : ℕ) (t : Option Turned) (es : List (Alarm × �
 sorted_on o now None es k = k
 sorted_on o now (Some t) es k = sorted_turned o now t.link t.change t.pause es k
 
+-- the next check of a consumer
 sorted_next : (n t : ℕ) (moment : Option ℕ) (es : List (Alarm × ℕ)) → Sorted es → Sorted (checked_next n t moment es)
 sorted_next n t None es k = sorted_clear (Redelivery n t) es k
 sorted_next n t (Some moment) es k = sorted_set (Redelivery n t) moment es k
+
+sorted_first : (n t : ℕ) (moment : Option ℕ) (es : List (Alarm × ℕ)) → Sorted es → Sorted (checked_first n t moment es)
+sorted_first n t None es k = k
+sorted_first n t (Some moment) es k = sorted_set (Redelivery n t) moment es k
+
+sorted_made : (who : Who) (made : Option Member) (es : List (Alarm × ℕ)) → Sorted es → Sorted (alarms_made who made es)
+sorted_made who None es k = k
+sorted_made (Call t) (Some m) es k = sorted_first m.seen.number t m.seen.engine.check es k
+sorted_made (Consumer n t key) (Some m) es k = k
+sorted_made (Producer n) (Some m) es k = k
 
 sorted_rung : (o : Chosen) (cs : Consumers) (now : ℕ) (a : Alarm) (es : List (Alarm × ℕ)) → Sorted es → Sorted (alarms_rung o cs now a es)
 sorted_rung o cs now (Retry l) es k = sorted_clear (Retry l) es k
 sorted_rung o cs now (Wake who) es k = sorted_clear (Wake who) es k
 sorted_rung o cs now (Batch n) es k = sorted_clear (Batch n) es k
-sorted_rung o cs now (KeepAlive l) es k = sorted_set (KeepAlive l) (later now o.connection.keep_alive) es k
 sorted_rung o cs now (Redelivery n t) es k = sorted_next n t (check_after now (cs.rows t)) es k
+sorted_rung o cs now (KeepAlive l) es k = sorted_set (KeepAlive l) (later now o.connection.keep_alive) es k
 sorted_rung o cs now CheckIdle es k = sorted_set CheckIdle (later now idle_period) es k
-
--- with a consumer its checks begin
-sorted_first : (n t : ℕ) (moment : Option ℕ) (es : List (Alarm × ℕ)) → Sorted es → Sorted (checked_first n t moment es)
-sorted_first n t None es k = k
-sorted_first n t (Some moment) es k = sorted_set (Redelivery n t) moment es k
-
-sorted_made : (w : Who) (row : Option Member) (es : List (Alarm × ℕ)) → Sorted es → Sorted (alarms_made w row es)
-sorted_made w None es k = k
-sorted_made (Call t) (Some m) es k = sorted_first m.seen.number t m.seen.engine.check es k
-sorted_made (Consumer n t j) (Some m) es k = k
-sorted_made (Producer n) (Some m) es k = k
 
 -- what is stored waits, or nothing is stored any longer
 sorted_from : (now : ℕ) (timeout : Option ℕ) (n : ℕ) (es : List (Alarm × ℕ)) → Sorted es → Sorted (waits_from now timeout n es)

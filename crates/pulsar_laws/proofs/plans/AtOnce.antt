@@ -65,8 +65,8 @@ pub data AtOnce (v : View) (who : Who) : Action → List Act → Type 0 where
   says : {action : Action} {u : Outcome} → SaysSo v action u → is_part u ≡ false → AtOnce v who action (Told (notice who u) ∷ [])
   dials : {p : Place} → AtOnce v who (Get p) (Dials p who 0 ∷ [])
   stops_all : AtOnce v who StopAll (over_links stop_act v.links ++ tells who outcome.Stopped)
-  begins_too : {m : Multi} {ask : MultiAsk} {xs : List Act} (j : Option MultiJoining) → AtOnce v who (OfMulti m ask) xs →
-      AtOnce v who (OfMulti m ask) (batches_joined (ways_of v.chosen) j ++ xs)
+  begins_too : {m : Multi} {j : MultiJoining} {xs : List Act} (r : Option MultiJoining) → AtOnce v who (OfMulti m (Join j)) xs →
+      AtOnce v who (OfMulti m (Join j)) (batches_joined (ways_of v.chosen) r ++ xs)
 
 module _ (v : View) (who : Who) where
   gets_once : (p : Place) (x : Series) → AtOnce v who (Get p) (gets_from who p x)
@@ -166,7 +166,11 @@ module _ (v : View) (who : Who) where
   performs_once StopAll = stops_all
   performs_once (Wait delay) = nothing
   performs_once (OfTopic n ask) = ask_once n ask
-  performs_once (OfMulti m ask) = begins_too (joined_by ask (multi_at v m)) (multi_asked m ask (multi_at v m) refl)
+  performs_once (OfMulti m (Join j)) = begins_too (joined_by (Join j) (multi_at v m)) (multi_asked m (Join j) (multi_at v m) refl)
+  performs_once (OfMulti m TakeMultiTurn) = multi_asked m TakeMultiTurn (multi_at v m) refl
+  performs_once (OfMulti m PassMultiTurn) = multi_asked m PassMultiTurn (multi_at v m) refl
+  performs_once (OfMulti m (Hand h)) = multi_asked m (Hand h) (multi_at v m) refl
+  performs_once (OfMulti m (Remove topic)) = multi_asked m (Remove topic) (multi_at v m) refl
   performs_once Number = numbers_once (number_drawn v.producers) refl
   performs_once (TakeNumber wanted) = numbering_once wanted (consumer.numbering v.consumers wanted)
   performs_once (OfConsumer (FindConsumer t)) = sought_once t (consumer.sought (v.consumers.rows t))

@@ -26,7 +26,10 @@ use Rattle.pulsar_links.specs.LinkRules.{answered_by, answered_on, dropped, ende
 use Rattle.pulsar_producer_table.specs.Notices.{stopped_call, stopped_takers}
 use Rattle.pulsar_outgoing.specs.declared.multi_topic.Multi.{Multi}
 use Rattle.pulsar_outgoing.specs.declared.multi_topic.MultiAsk.{MultiAsk}
-use Rattle.pulsar_outgoing.specs.declared.multi_topic.MultiAsk.TheVariants.{PassTurn as PassMultiTurn}
+use Rattle.pulsar_outgoing.specs.declared.multi_topic.Joining.{Joining}
+use Rattle.pulsar_outgoing.specs.declared.multi_topic.MultiAsk.TheVariants.{Join, PassTurn as PassMultiTurn}
+use Rattle.pulsar_outgoing.specs.declared.multi_topic.MultiSaid.{MultiSaid}
+use Rattle.pulsar_outgoing.specs.declared.multi_topic.MultiSaid.TheVariants as said
 use Rattle.pulsar_producer.specs.MultiTopic as multi
 use Rattle.pulsar_producer_table.specs.MultiAsks as of_multi
 use Rattle.pulsar_producer_table.specs.MultiAsks.{removed_by, taker_notice}
@@ -43,6 +46,14 @@ use Rattle.pulsar_laws.proofs.plans.Fitting.{Fits, all_settling, begins_fits, fi
 use Rattle.pulsar_laws.proofs.plans.Wording.{IsStoppedWord, IsWord, heard_words, is_own_word, is_stopped_word, is_word, is_worded, joins_words, lost_words, redelivered_words, stopped_words}
 use Rattle.pulsar_acts.specs.Reading.{heard_on}
 
+-- what a producer of many topics says only to the one who asks it
+abbrev pub is_asked : MultiSaid → Bool
+is_asked (said.Handed given) = true
+is_asked (said.Absent x) = true
+is_asked (said.Removed numbers) = true
+is_asked said.HasTurn = false
+is_asked said.Done = false
+
 -- what one is granted only by what it does; a turn, that a batch was cut, and that all is settled come by others too
 abbrev pub is_grant : Outcome → Bool
 is_grant (outcome.Granted (news.HasTurn version)) = false
@@ -50,6 +61,7 @@ is_grant (outcome.Granted news.Ready) = false
 is_grant (outcome.Granted news.Done) = false
 is_grant (outcome.Granted n) = true
 is_grant (outcome.Word w) = is_own_word w
+is_grant (outcome.OfMulti x) = is_asked x
 is_grant _ = false
 
 -- that, or a turn
@@ -58,6 +70,7 @@ is_given (outcome.Granted news.Ready) = false
 is_given (outcome.Granted news.Done) = false
 is_given (outcome.Granted n) = true
 is_given (outcome.Word w) = is_own_word w
+is_given (outcome.OfMulti x) = is_asked x
 is_given _ = false
 
 -- one is granted none of these, or a turn at most
@@ -72,6 +85,7 @@ free_turn (outcome.Granted news.Ready) h = refl
 free_turn (outcome.Granted news.Done) h = refl
 free_turn (outcome.Granted _) h = absurd cc
 free_turn (outcome.Word w) h = h
+free_turn (outcome.OfMulti x) h = h
 free_turn _ h = refl
 
 abbrev grants_more : Act → Bool
@@ -87,6 +101,7 @@ abbrev pub is_inner : Outcome → Bool
 is_inner (outcome.Granted news.Ready) = false
 is_inner (outcome.Granted n) = true
 is_inner (outcome.Word w) = is_own_word w
+is_inner (outcome.OfMulti x) = is_asked x
 is_inner (outcome.Parted ticket f) = true
 is_inner _ = false
 
@@ -224,6 +239,7 @@ inner_free (outcome.Granted news.Ready) h = refl
 inner_free (outcome.Granted _) h = absurd cc
 inner_free (outcome.Parted ticket f) h = absurd cc
 inner_free (outcome.Word w) h = h
+inner_free (outcome.OfMulti x) h = h
 inner_free _ h = refl
 
 pub causes_free : (v : View) (a : Act) → Each (Each IsFree) (causes v a)
@@ -336,25 +352,28 @@ IsToldTo who _ = Unit {0}
 told_to : (v : View) (who : Who) (action : Action) → Each (IsToldTo who) (performs v who action)
 told_to v who action = once_each (IsToldTo who) (λ u k b. refl) (λ p. tt) (λ l. tt) (λ w e s. tt) (performs_once v who action)
 
--- one that asks a producer of many topics is granted nothing
-multi_plain : (v : View) (m : Multi) (ask : MultiAsk) (u : Outcome) → SaysSo v (OfMulti m ask) u → is_grant u ≡ false
-multi_plain v m ask (outcome.Granted (news.Told x)) h = absurd h
-multi_plain v m ask (outcome.Granted news.Queued) h = absurd h
-multi_plain v m ask (outcome.Granted news.InLine) h = absurd h
-multi_plain v m ask (outcome.Granted (news.Drew d)) h = absurd h
-multi_plain v m ask (outcome.Granted (news.Recalled c)) h = absurd h
-multi_plain v m ask (outcome.Granted (news.Numbered n)) h = absurd h
-multi_plain v m ask (outcome.Granted (news.HasBatch items)) h = absurd h
-multi_plain v m ask (outcome.Word w) h = absurd h
-multi_plain v m ask _ h = refl
+-- one that joins a producer of many topics is granted nothing
+multi_plain : (v : View) (m : Multi) (j : Joining) (u : Outcome) → SaysSo v (OfMulti m (Join j)) u → is_grant u ≡ false
+multi_plain v m j (outcome.Granted (news.Told x)) h = absurd h
+multi_plain v m j (outcome.Granted news.Queued) h = absurd h
+multi_plain v m j (outcome.Granted news.InLine) h = absurd h
+multi_plain v m j (outcome.Granted (news.Drew d)) h = absurd h
+multi_plain v m j (outcome.Granted (news.Recalled c)) h = absurd h
+multi_plain v m j (outcome.Granted (news.Numbered n)) h = absurd h
+multi_plain v m j (outcome.Granted (news.HasBatch items)) h = absurd h
+multi_plain v m j (outcome.Word w) h = absurd h
+multi_plain v m j (outcome.OfMulti (said.Handed given)) h = absurd h
+multi_plain v m j (outcome.OfMulti (said.Absent x)) h = absurd h
+multi_plain v m j (outcome.OfMulti (said.Removed numbers)) h = absurd h
+multi_plain v m j _ h = refl
 
 -- it is told no more than that
 once_rest : {v : View} {who : Who} {action : Action} {xs : List Act} → AtOnce v who action xs → Each IsPlain (drop 1 xs)
 once_rest nothing = tt
 once_rest (says k b) = tt
 once_rest dials = tt
-once_rest {v} {who} (begins_too {m} {ask} j k) =
-    each_drop IsPlain _ (once_each IsPlain (λ u says b. multi_plain v m ask u says) (λ p. refl) (λ l. refl) (λ w e s. refl) (begins_too j k))
+once_rest {v} {who} (begins_too {m} {j} r k) =
+    each_drop IsPlain _ (once_each IsPlain (λ u says b. multi_plain v m j u says) (λ p. refl) (λ l. refl) (λ w e s. refl) (begins_too r k))
 once_rest {v} {who} stops_all =
     each_drop IsPlain (over_links stop_act v.links ++ tells who outcome.Stopped)
     (each_append IsPlain (over_links stop_act v.links) (tells who outcome.Stopped) (over_each IsPlain stop_act v.links (λ l seat. (refl, tt))) (refl, tt))

@@ -30,15 +30,17 @@ use Rattle.pulsar_searches.specs.declared.transition.Transition.TheVariants as t
 
 -- SEARCHES, AND COMMANDS THAT ASK FOR NO ACKNOWLEDGEMENT
 
--- acknowledgements and flows, which no search and no command asks for
+-- acknowledgements, flows, and messages that are asked for again, which no search and no command asks for
 abbrev pub is_own : Words → Bool
 is_own (words.SendAck n ids cumulative) = true
 is_own (words.SendFlow n permits) = true
+is_own (words.SendRedeliver n ids) = true
 is_own _ = false
 
 pub own_ack : (r : Words) → is_own r ≡ false → is_ack r ≡ false
 own_ack (words.SendAck n ids cumulative) h = absurd cc
 own_ack (words.SendFlow n permits) h = refl
+own_ack (words.SendRedeliver n ids) h = refl
 own_ack _ h = refl
 
 abbrev pub IsMildWish : Wish → Type 0

@@ -134,7 +134,7 @@ sent_same send.Sent h = refl
 sent_same _ h = absurd cc
 
 -- it was told its reply
-gives_told : (w : Ways) (e : Errand) (s : Send) (u : Outcome) (r : Content) → is_told_news u ≡ false →
+pub gives_told : (w : Ways) (e : Errand) (s : Send) (u : Outcome) (r : Content) → is_told_news u ≡ false →
     produce.send_told w e s (news_of u) ≡ transition.Gives (Ok r) →
     (reply : Reply) × (u ≡ outcome.Replied reply) × (reply.content ≡ r) × (is_body 7 r.body ≡ true)
 gives_told w e s u r n h = elim (cases_Bool (is_sent s)) [

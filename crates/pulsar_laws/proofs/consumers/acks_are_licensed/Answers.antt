@@ -1,4 +1,4 @@
-use Rattle.pulsar_laws.proofs.consumers.Acks.{acks_are_licensed_lem, acks_once_lem}
+use Rattle.pulsar_laws.proofs.consumers.Licensed.{acks_are_licensed_lem, acks_once_lem}
 use Rattle.pulsar_laws.proofs.calls.Once.{ends_once_lem}
 use Rattle.pulsar_laws.proofs.consumers.acks_are_licensed.Goals as goal
 

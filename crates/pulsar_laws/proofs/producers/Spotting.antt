@@ -5,7 +5,7 @@ use Rattle.std.proofs.lemmas.Bool.{cases_Bool, cases_lt, eqb-true}
 use Rattle.std.specs.List.{filter_map, list_any}
 use Rattle.std.specs.Map.{lookup}
 use Rattle.std.specs.Option.{option_map, option_to_list}
-use Rattle.pulsar_laws.proofs.ActWords.{Act, Alarm, Answers, Ask, Batch, Call, CheckIdle, Comes, Does, Drains, End, Ends, FailConsumer, Flush, is_same, KeepAlive, LinkAct, Notice, OfTopic, opens, PassTurn, Polls, Producer, Reads, Retry, Revive, Rings, Shut, StopAll, Store, TakeBatch, Tell, TellAll, ToLink, turn_of, Wake, Who, OfConsumer}
+use Rattle.pulsar_laws.proofs.ActWords.{Act, Alarm, Answers, Ask, Batch, Call, CheckIdle, Comes, Does, Drains, End, Ends, FailConsumer, Flush, is_same, KeepAlive, LinkAct, Notice, OfTopic, opens, PassTurn, Polls, Producer, Reads, Retry, Revive, Rings, Shut, StopAll, Store, TakeBatch, Tell, TellAll, ToLink, turn_of, Wake, Who, OfConsumer, Redelivery}
 use Rattle.pulsar_laws.proofs.PlanWords.{closed_notice}
 use Rattle.pulsar_laws.proofs.RunWords.{after, causes, Each, each_map, Entry, IsRun, joins, lost_on, notice, Options, readied, ready_notice, Then, Turned, turned, turn_notice, view, View}
 use Rattle.pulsar_laws.proofs.LinkWords.{Addresses, Base, Becomes, Change, closed_by, Fault, IsOver, Pause, rings, Runs, Seat, Series, tells_asker, took_end, took_some}
@@ -44,7 +44,7 @@ use Rattle.pulsar_laws.proofs.links.Receipts.{settles_these}
 use Rattle.pulsar_laws.proofs.links.Settling.{live_rises}
 use Rattle.pulsar_laws.proofs.plans.Led.{tells_so}
 use Rattle.pulsar_laws.proofs.plans.Natures.{IsOfBatch, is_call}
-use Rattle.pulsar_laws.proofs.plans.Wording.{heard_words, is_worded, joins_words, lost_words}
+use Rattle.pulsar_laws.proofs.plans.Wording.{heard_words, is_worded, joins_words, lost_words, redelivered_words}
 use Rattle.pulsar_laws.proofs.producers.Drawing.{drawn_run}
 use Rattle.pulsar_laws.proofs.producers.Owed.{all_owed, asked_owed, brings, count, is_hard, me, note, numbers_once, one_or_none, opens_owed, other_note, others_owed, owed, rising_once, soft_owed, unasked_owed, waiters_owed, words_owed}
 use Rattle.pulsar_laws.proofs.producers.Topics.{CameFrom, acts_each, all_after, row_as}
@@ -582,6 +582,10 @@ module _ (o : Options) (n : ℕ) (log : List Entry) where
     | inr h ↦ rung_brings al false h
   ]
 
+  -- or words alone
+  rung_words : (al : Alarm) → owed n (woken v al) ≡ 0 → brings n v (Comes (Rings al)) ≡ 0
+  rung_words al z = elim (cases_Bool (rings v.now al v.alarms)) [ inl h ↦ rung_brings al true h ∙ z | inr h ↦ rung_brings al false h ]
+
   at_own : (m : ℕ) (ds : List topic.Act) → m ≡ n → cond (n == m) ds [] ≡ ds
   at_own m ds same = ap (λ z. cond (n == z) ds []) same ∙ ap (λ b. cond b ds []) (equal_self n)
 
@@ -595,6 +599,8 @@ module _ (o : Options) (n : ℕ) (log : List Entry) where
   ]
   rings_gone (Retry l) s run k = inl (none_rung (Retry l) refl)
   rings_gone (KeepAlive l) s run k = inl (none_rung (KeepAlive l) refl)
+  rings_gone (Redelivery m t) s run k =
+      inl (rung_words (Redelivery m t) (words_owed n (woken v (Redelivery m t)) (redelivered_words v.now t (v.consumers.rows t))))
   rings_gone CheckIdle s run k = inl (none_rung CheckIdle refl)
 
   worded : (a : Act) → is_worded a ≡ true → causes v a ≡ [] → brings n v a ≡ 0

@@ -244,7 +244,7 @@ module _ (o : Options) (n : ℕ) where
   no_word e older w run (inr (inr (inr (inr (inr (inr (inl (q, inl (l, u, m, is, copies, due))))))))) = no_copier (view o older) u m copies
   no_word e older w run (inr (inr (inr (inr (inr (inr (inl (q, inr (inl (u, m, is, copies, due)))))))))) = no_copier (view o older) u m copies
   no_word e older w run (inr (inr (inr (inr (inr (inr (inl (q, inr (inr (u, d, m, settles, copies, due)))))))))) = no_copier (view o older) u m copies
-  no_word e older w run (inr (inr (inr (inr (inr (inr (inr (l, request, q, (number, u, m, is, serves, due))))))))) = no_server (view o older) u m serves
+  no_word e older w run (inr (inr (inr (inr (inr (inr (inr (l, request, q, (number, u, m, is, rung, serves, due))))))))) = no_server (view o older) u m serves
 
   pub told_by_none : (e : Entry) (older : List Entry) (u : Outcome) → IsRun o (e ∷ older) → IsToldBy (me n) u e older → ⊥
   told_by_none e older u run (who, inl is) =

@@ -1,11 +1,18 @@
 -- Where a topic producer waits: at one place at most. What an act brings to it comes from there, and then it waits no longer.
 use Rattle.std.specs.Prelude.{bytes_eq}
+use Rattle.pulsar_outgoing.specs.declared.multi_topic.Taker.TheVariants as taker
+use Rattle.pulsar_outgoing.specs.declared.multi_topic.MultiAsk.TheVariants as ask
+use Rattle.pulsar_outgoing.specs.declared.multi_topic.MultiAsk.{MultiAsk}
+use Rattle.pulsar_producer.specs.MultiTopic.{Seen as MultiSeen}
+use Rattle.pulsar_producer_table.specs.Takers.{who_of}
+use Rattle.pulsar_producer_table.specs.Multis.{next_on}
+use Rattle.pulsar_producer_table.specs.MultiAsks.{Around, given, removed_by, taker_notice}
 use Rattle.std.proofs.Common.{◌≡◌, ◌⊎◌, inl, inr, ◌∙◌, sym, ap, subst, ℕ, ◌+◌, ◌≤◌, ◌<◌, ◌==◌, ◌||◌, arith, List, [], ◌∷◌, ◌++◌, refl, length, map, Bool, true, false, ◌&&◌, cond, not, Option, Some, None}
 use Rattle.std.proofs.lemmas.Bool.{cases_Bool, cases_lt, eqb-true}
 use Rattle.std.specs.List.{filter_map, list_any}
 use Rattle.std.specs.Map.{lookup}
 use Rattle.std.specs.Option.{option_map, option_to_list}
-use Rattle.pulsar_laws.proofs.ActWords.{Act, Alarm, Answers, Ask, Batch, Call, CheckIdle, Comes, Does, Drains, End, Ends, FailConsumer, Flush, is_same, KeepAlive, LinkAct, Notice, OfTopic, opens, PassTurn, Polls, Producer, Reads, Retry, Revive, Rings, Shut, StopAll, Store, TakeBatch, Tell, TellAll, ToLink, turn_of, Wake, Who, OfConsumer, Redelivery}
+use Rattle.pulsar_laws.proofs.ActWords.{Act, Alarm, Answers, Ask, Batch, Call, CheckIdle, Comes, Does, Drains, End, Ends, FailConsumer, Flush, is_same, KeepAlive, LinkAct, Notice, OfTopic, opens, PassTurn, Polls, Producer, Reads, Retry, Revive, Rings, Shut, StopAll, Store, TakeBatch, Tell, TellAll, ToLink, turn_of, Wake, Who, OfConsumer, Redelivery, OfMulti}
 use Rattle.pulsar_laws.proofs.PlanWords.{closed_notice}
 use Rattle.pulsar_laws.proofs.RunWords.{after, causes, Each, each_map, Entry, IsRun, joins, lost_on, notice, Options, readied, ready_notice, Then, Turned, turned, turn_notice, view, View}
 use Rattle.pulsar_laws.proofs.LinkWords.{Addresses, Base, Becomes, Change, closed_by, Fault, IsOver, Pause, rings, Runs, Seat, Series, tells_asker, took_end, took_some}
@@ -31,7 +38,7 @@ use Rattle.pulsar_producer_table.specs.Producers.{is_woken, numbers_at, stored_b
 use Rattle.pulsar_producer_table.specs.declared.table.Topic.{Topic}
 use Rattle.pulsar_acts.specs.Reading.{heard_on}
 use Rattle.pulsar_acts.specs.Rules.{failed_by, failed_on, served_on, waiters_of, woken}
-use Rattle.pulsar_acts.specs.View.{base_on}
+use Rattle.pulsar_acts.specs.View.{base_on, around_multi, multi_asked_of, multi_at}
 use Rattle.pulsar_calls.specs.Order.{alone}
 use Rattle.pulsar_calls.specs.declared.act.Outcome.TheVariants as outcome
 use Rattle.pulsar_laws.specs.ProducerLaws.{rung_by, topic_acts}
@@ -610,6 +617,23 @@ module _ (o : Options) (n : ℕ) (log : List Entry) where
   passed m None = refl
   passed m (Some next) = soft_owed n (turn_notice m next ∷ []) (refl, tt)
 
+  -- whom a producer of many topics serves is no topic producer
+  taker_other : (t : Taker) → is_same (me n) (who_of t) ≡ false
+  taker_other (taker.Call t) = refl
+  taker_other (taker.Copy consumer ticket key) = refl
+
+  next_other : (t : Option Taker) → Each (λ (m : Notice). is_same (me n) m.who ≡ false) (option_to_list (option_map taker_notice t))
+  next_other None = tt
+  next_other (Some t) = (taker_other t, tt)
+
+  multi_others : (x : Around) (ask : MultiAsk) (row : Option MultiSeen) → Each (λ (m : Notice). is_same (me n) m.who ≡ false) (given x ask row).serves
+  multi_others x ask None = tt
+  multi_others x ask.PassTurn (Some s) = next_other (next_on (Some s))
+  multi_others x ask.TakeTurn (Some s) = tt
+  multi_others x (ask.Hand h) (Some s) = tt
+  multi_others x (ask.Join j) (Some s) = tt
+  multi_others x (ask.Remove topic) (Some s) = tt
+
   -- all of it
   pub gone : (a : Act) (s : Spot) → IsRun o (Then a ∷ log) → is_stop a ≡ false → IsAt n s v → Gone a s
   gone (Comes (ToLink l Reads)) s run plain k = reads l run s k
@@ -634,6 +658,14 @@ module _ (o : Options) (n : ℕ) (log : List Entry) where
       let z = soft_owed n (joins v (Does who (Shut t)))
       (each_made (λ m. is_hard m.outcome ≡ false) closed_notice (λ u. refl) (stored_by v.producers (numbers_at (v.producers.built t)))) in
       inl (omega (arith, z))
+  gone (Does who (OfMulti m ask)) s run plain k =
+      let served : List Notice = (multi_asked_of v who m ask).serves in
+      let closed : List Notice = map closed_notice (stored_by v.producers (removed_by ask (multi_at v m))) in
+      let a = others_owed n served (multi_others (around_multi v who) ask (multi_at v m)) in
+      let b = soft_owed n closed
+      (each_made (λ m. is_hard m.outcome ≡ false) closed_notice (λ u. refl) (stored_by v.producers (removed_by ask (multi_at v m)))) in
+      let c = sum_append (note n) served closed in
+      inl (omega (arith, a, b, c))
   gone (Does who (Tell m)) s run plain k = let z = other_note n m (tell_others o log n who m run) in inl (omega (arith, z))
   gone (Does who (TellAll ns)) s run plain k = let z = others_owed n ns (all_others o log n who ns run) in inl (omega (arith, z))
   gone (Does who StopAll) s run plain k = absurd cc

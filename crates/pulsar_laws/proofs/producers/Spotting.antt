@@ -643,8 +643,7 @@ module _ (o : Options) (n : ℕ) (log : List Entry) where
   gone (Comes (Rings al)) s run plain k = rings_gone al s run k
   gone (Comes (Polls t)) s run plain k = inl (worded (Comes (Polls t)) refl refl)
   gone (Does who (Ask l request)) s run plain k = inl (worded (Does who (Ask l request)) refl refl)
-  gone (Does who (OfConsumer (Revive l))) s run plain k = inl (worded (Does who (OfConsumer (Revive l))) refl refl)
-  gone (Does who (OfConsumer (FailConsumer f))) s run plain k = inl (worded (Does who (OfConsumer (FailConsumer f))) refl refl)
+  gone (Does who (OfConsumer ask)) s run plain k = inl (worded (Does who (OfConsumer ask)) refl refl)
   gone (Answers who verdict) s run plain k = inl (worded (Answers who verdict) refl refl)
   gone (Does who (OfTopic m (Store e))) s run plain k =
       readied_gone s (Does who (OfTopic m (Store e))) m (topic.Stores (turn_of who) e) run (λ w e. absurd cc) (λ w. refl) (omega arith)

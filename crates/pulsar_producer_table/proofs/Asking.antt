@@ -124,7 +124,7 @@ with_numbers owner f limits (b ∷ bs) ps =
     with_numbers owner f limits bs (with_topic owner f limits b ps) ∙ append_assoc ps.numbers (b.number ∷ []) (map (λ q. q.number) bs)
 
 -- and all else of the table stays
-with_others : (owner : Owner) (f : ℕ) (limits : Limits) (bs : List Built) (ps : Producers) →
+pub with_others : (owner : Owner) (f : ℕ) (limits : Limits) (bs : List Built) (ps : Producers) →
     with_topics owner f limits bs ps
     ≡ record ps { topics = (with_topics owner f limits bs ps).topics; numbers = (with_topics owner f limits bs ps).numbers }
 with_others owner f limits [] ps = refl

@@ -2,3 +2,4 @@ pub mod Grown
 pub mod Producing
 pub mod Asking
 pub mod Made
+pub mod MultiAsking

@@ -2,6 +2,7 @@
 
 ghost use Rattle.std.specs.Prelude.{◌≡◌, [], ◌∷◌, ℕ, IfOk, OnOk, Some, map};
 ghost use Rattle.std.specs.BTreeMap.{keys};
+ghost use Rattle.std.specs.Option.{option_to_list};
 ghost use Rattle.pulsar_wire.specs.Views.{message_id_values};
 ghost use Rattle.pulsar_consumer.specs.Topic.{Checks, FailsCopy, Forgets, IsCopied, TakesCopy};
 ghost use Rattle.pulsar_consumer_table.specs.Asks.{asks_said, due_by, letter_said};

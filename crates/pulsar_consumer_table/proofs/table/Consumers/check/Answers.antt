@@ -6,7 +6,7 @@ use Rattle.pulsar_consumer_table.specs.Consumers.{lives_at, member_after}
 use Rattle.pulsar_consumer_table.specs.KeptConsumers.{is_known, rows_in}
 use Rattle.pulsar_consumer_table.proofs.Placed.{one_placed}
 use Rattle.pulsar_consumer_table.proofs.Staying.{checks_known, checks_living}
-use Rattle.pulsar_consumer_table.proofs.copying.Consumers.check.Goals as goal
+use Rattle.pulsar_consumer_table.proofs.table.Consumers.check.Goals as goal
 
 pub invariant_of-self-2 : goal.invariant_of-self-2
 invariant_of-self-2 c =

@@ -1,5 +1,5 @@
 -- What becomes of topic producers where a producer of many topics is asked to take a producer of a topic, or to have none any longer.
-use Rattle.std.proofs.Common.{◌≡◌, ◌∙◌, ap, sym, refl, ℕ, Bool, true, List, [], ◌∷◌, Option, Some, None}
+use Rattle.std.proofs.Common.{◌≡◌, ◌∙◌, ap, sym, refl, ℕ, true, List, [], ◌∷◌, Option, Some, None}
 use Rattle.std.specs.Option.{is_some, option_map, option_to_list}
 use Rattle.pulsar_outgoing.specs.Storage.{limits_of}
 use Rattle.pulsar_outgoing.specs.declared.multi_topic.Joining.{Joining}
@@ -27,7 +27,7 @@ multis_kept x first m j ps =
 join_so : (x : Around) (first : ℕ) (m : Multi) (j : Joining) (ps : Producers) (row : Option multi.Seen) → is_some row ≡ true →
     record (made_for x first m j ps) { multis = all_changed m (joins_by x j) ps.multis }
     ≡ record (shut_all (removed_by (Join j) row) (with_joined first x.ticket m (joined_by (Join j) row) ps)) {
-      multis = all_changed m (given x (Join j) row).acts ps.multis
+      multis = all_changed m (given x (Join j) row).acts ps.multis;
     }
 join_so x first m j ps None there = absurd cc
 join_so x first m j ps (Some s) there = refl
@@ -56,7 +56,7 @@ shut_beside (n ∷ ns) ps ms = shut_beside ns (table.changed n Closes ps) ms
 remove_so : (x : Around) (first : ℕ) (m : Multi) (topic : List ℕ) (ps : Producers) (row : Option multi.Seen) → is_some row ≡ true →
     record (shut_all (numbers_at (found_in topic row)) ps) { multis = changed m (Removes topic) ps.multis }
     ≡ record (shut_all (removed_by (Remove topic) row) (with_joined first x.ticket m (joined_by (Remove topic) row) ps)) {
-      multis = all_changed m (given x (Remove topic) row).acts ps.multis
+      multis = all_changed m (given x (Remove topic) row).acts ps.multis;
     }
 remove_so x first m topic ps None there = absurd cc
 remove_so x first m topic ps (Some s) there = refl

@@ -1,9 +1,8 @@
 -- The producers of many topics of a client: what is seen of them, and what becomes of that.
 -- (Apache Pulsar, Concepts, Producers)
-use Rattle.std.specs.Prelude.{ℕ, ◌==◌, Bool, if◌then◌else◌, List, [], ◌∷◌, ◌++◌, length, map, Option, Some, None}
+use Rattle.std.specs.Prelude.{ℕ, ◌==◌, if◌then◌else◌, List, [], ◌∷◌, ◌++◌, length, map, Option, Some, None}
 use Rattle.std.specs.BTreeMap.{insert_entry}
 use Rattle.std.specs.List.{flat_map}
-use Rattle.std.specs.Option.{option_map}
 use Rattle.std.specs.Ordering.{nat_cmp}
 use Rattle.pulsar_messages.specs.Content.{ProducerOptionsValues, empty_producer_options}
 use Rattle.pulsar_producer.specs.MultiTopic as multi
@@ -14,10 +13,6 @@ use Rattle.pulsar_producer.specs.Random.{first_index}
 use Rattle.pulsar_producer.specs.Routing.{Policy}
 use Rattle.pulsar_outgoing.specs.declared.multi_topic.Handing.{Handing}
 use Rattle.pulsar_outgoing.specs.declared.multi_topic.Joining.{Joining}
-use Rattle.pulsar_outgoing.specs.declared.multi_topic.MultiSaid.{MultiSaid}
-use Rattle.pulsar_outgoing.specs.declared.multi_topic.MultiSaid.TheVariants.{HasTurn, Removed, Done}
-use Rattle.pulsar_outgoing.specs.declared.multi_topic.MultiAsk.{MultiAsk}
-use Rattle.pulsar_outgoing.specs.declared.multi_topic.MultiAsk.TheVariants as ask
 use Rattle.pulsar_outgoing.specs.declared.multi_topic.Multi.{Multi}
 use Rattle.pulsar_outgoing.specs.declared.multi_topic.Multi.TheVariants.{Own, Made}
 use Rattle.pulsar_outgoing.specs.declared.multi_topic.Taker.{Taker}

@@ -1,8 +1,8 @@
-use Rattle.std.proofs.Common.{◌≡◌, ◌∙◌, ◌++◌, ◌∷◌, [], ℕ, ap, false, subst, sym}
+use Rattle.std.proofs.Common.{◌≡◌, ◌∙◌, ◌++◌, ◌∷◌, [], ap, false, subst, sym}
 use Rattle.std.specs.List.{flat_map}
 use Rattle.std.specs.List.Sorted.{IsStrictlySortedBy}
 use Rattle.std.specs.Ordering.{nat_cmp}
-use Rattle.pulsar_consumer_table.specs.Consumers.{Member, at_row, hears_frame, word_of_frame}
+use Rattle.pulsar_consumer_table.specs.Consumers.{at_row, hears_frame}
 use Rattle.pulsar_consumer_table.specs.KeptConsumers.{rows_in, some_changed}
 use Rattle.pulsar_calls.specs.Places.{is_listed}
 use Rattle.pulsar_consumer_table.specs.Notices.{hears_to}

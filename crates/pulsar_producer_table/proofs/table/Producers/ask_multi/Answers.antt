@@ -1,4 +1,4 @@
-use Rattle.std.proofs.Common.{◌≡◌, ◌∙◌, ap, sym, map, refl, ℕ}
+use Rattle.std.proofs.Common.{◌∙◌, ap, sym, map}
 use Rattle.std.proofs.lemmas.Result.{MatchResult-weaker}
 use Rattle.pulsar_producer_table.specs.KeptProducers.{producers_of}
 use Rattle.pulsar_producer_table.specs.MultiAsks.{around, asked_so}

@@ -31,9 +31,9 @@ returns-clause-after c =
     ∙ ap (λ q. with_topics owner first (limits_of j.settings) j.parts q) c.free.ensures in
     let all : producers_of c.match-made_of.self ≡ asked_so x first m (Join j) ps = (elim c.match-made_of.branch [
       | in-Some+in_ok-join-in-Some w ↦ (ap producers_of w.self-is
-        ∙ joined_so x first m j ps made (multis_of w.join.new.self) c.requires topics
-        (w.in_ok-join-in-Some.ensures ∙ one_joins x m j made.multis c.in_ok-name.name w.in-Some.producer c.in_ok-name.ensures (sym is ∙ w.in-Some.is)))
+          ∙ joined_so x first m j ps made (multis_of w.join.new.self) c.requires topics
+          (w.in_ok-join-in-Some.ensures ∙ one_joins x m j made.multis c.in_ok-name.name w.in-Some.producer c.in_ok-name.ensures (sym is ∙ w.in-Some.is)))
       | in-None w ↦ (ap producers_of w.self-is
-        ∙ joined_so x first m j ps made made.multis c.requires topics (none_joins x m j made.multis (sym is ∙ w.in-None.is)))
+          ∙ joined_so x first m j ps made made.multis c.requires topics (none_joins x m j made.multis (sym is ∙ w.in-None.is)))
     ]) in
     MatchResult-weaker c.says.result c.says.ensures.says (λ g is. all) (λ e u. u)

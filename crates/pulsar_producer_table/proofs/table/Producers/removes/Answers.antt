@@ -12,7 +12,7 @@ returns-clause-after c =
     let ps = producers_of c.args.self.now in
     let topic = c.args.topic.now in
     let all : (x : Around) (first : ℕ) → producers_of c.closes_all.new.self ≡ asked_so x first c.args.multi (Remove topic) ps = (λ x first.
-    c.closes_all.ensures.after
+    c.in_ok-numbers.ensures.after
     ∙ removed_so x first c.args.multi topic ps (multis_of c.remove-removed.new.self) c.remove-removed.result c.requires
-        c.remove-removed.ensures.producer c.remove-removed.ensures.after) in
+    c.remove-removed.ensures.producer c.remove-removed.ensures.after) in
     MatchResult-weaker c.says.result c.says.ensures.says (λ g is. all) (λ e u. u)

@@ -40,8 +40,8 @@ joined_so x first m j ps made ms there is are =
     (λ i. record (is i) { multis = new i }) ∙ join_so x first m j ps (at m ps.multis) there
 
 -- one that was built of some partitions joins, and none of no partitions does
-pub one_joins : (x : Around) (m : Multi) (j : Joining) (ms : Multis) (topic : List ℕ) (p : producer.Seen) → topic ≡ j.topic → joining x.seed x.ticket j ≡ Some p →
-    changed m (Joins topic p) ms ≡ all_changed m (joins_by x j) ms
+pub one_joins : (x : Around) (m : Multi) (j : Joining) (ms : Multis) (topic : List ℕ) (p : producer.Seen) → topic ≡ j.topic
+    → joining x.seed x.ticket j ≡ Some p → changed m (Joins topic p) ms ≡ all_changed m (joins_by x j) ms
 one_joins x m j ms topic p same is =
     ap (λ t. changed m (Joins t p) ms) same ∙ sym (ap (λ r. all_changed m (option_to_list (option_map (Joins j.topic) r)) ms) is)
 
@@ -61,8 +61,8 @@ remove_so : (x : Around) (first : ℕ) (m : Multi) (topic : List ℕ) (ps : Prod
 remove_so x first m topic ps None there = absurd cc
 remove_so x first m topic ps (Some s) there = refl
 
-pub removed_so : (x : Around) (first : ℕ) (m : Multi) (topic : List ℕ) (ps : Producers) (ms : Multis) (r : Option producer.Seen) → is_some (at m ps.multis) ≡ true →
-    r ≡ found_in topic (at m ps.multis) → ms ≡ changed m (Removes topic) ps.multis →
+pub removed_so : (x : Around) (first : ℕ) (m : Multi) (topic : List ℕ) (ps : Producers) (ms : Multis) (r : Option producer.Seen)
+    → is_some (at m ps.multis) ≡ true → r ≡ found_in topic (at m ps.multis) → ms ≡ changed m (Removes topic) ps.multis →
     shut_all (numbers_at r) (record ps { multis = ms }) ≡ asked_so x first m (Remove topic) ps
 removed_so x first m topic ps ms r there is are =
     ap (λ q. shut_all (numbers_at q) (record ps { multis = ms })) is

@@ -118,7 +118,8 @@ impl Producers {
         requires { is_some (meaning.at multi (producers_of self.old).multis) ≡ true }
         ensures says { IfOk result (λ g. g.says ≡ says_it MultiSaid.Done) }
         ensures serves { IfOk result (λ g. g.serves ≡ None) }
-        ensures after { OnOk result (producers_of self.new ≡ asked_so (around asker []) asker.first_number multi (MultiAsk.Join joining) (producers_of self.old)) }
+        ensures after { OnOk result (producers_of self.new
+            ≡ asked_so (around asker []) asker.first_number multi (MultiAsk.Join joining) (producers_of self.old)) }
     {
         let Joining {
             topic,

@@ -16,5 +16,6 @@ returns-clause-notices c =
     ∙ ap (λ ms. (given ++ told) ++ ms) c.copy_notice.ensures
     ∙ append_assoc given told (copy_if c.in_ok-word.is_copy_due c.args.ticket row)
     ∙ ap (λ ns. given ++ ns)
-    (told_as_before c.args.clock c.args.link c.args.ticket c.args.reply (rows_in c.args.rows.now) (member_in c.in-Some.row.now) row c.in_ok-word.word
-    c.in_ok-word.is_copy_due (ap (option_map member_in) c.in-Some.ensures.value) c.in_ok-word.ensures.word c.in_ok-word.ensures.copy c.in_ok-word.ensures.after)) c.add_some.ensures
+    (told_as_before c.args.clock c.args.link c.args.ticket c.args.reply (rows_in c.args.rows.now) (member_in c.in-Some.row.now) row
+    c.in_ok-word.word c.in_ok-word.is_copy_due (ap (option_map member_in) c.in-Some.ensures.value)
+    c.in_ok-word.ensures.word c.in_ok-word.ensures.copy c.in_ok-word.ensures.after)) c.add_some.ensures

@@ -1,4 +1,5 @@
 pub mod Alone
 pub mod Served
 pub mod Wanting
+pub mod Settings
 pub mod Failing

@@ -1,6 +1,6 @@
 -- One that does nothing but to store and to tell waits for no link, request or moment. One that does nothing at all is told only what parts of
 -- calls say.
-use Rattle.std.proofs.Common.{◌≡◌, ◌⊎◌, inl, inr, ◌∙◌, sym, ap, subst, ℕ, ◌≤◌, ◌==◌, arith, List, [], ◌∷◌, refl, Bool, true, false, cond, not, Option, Some, None}
+use Rattle.std.proofs.Common.{◌≡◌, ◌⊎◌, inl, inr, ◌∙◌, sym, ap, subst, ℕ, zero, suc, ◌≤◌, ◌==◌, arith, List, [], ◌∷◌, refl, Bool, true, false, cond, not, Option, Some, None}
 use Rattle.std.proofs.lemmas.Bool.{cases_Bool}
 use Rattle.pulsar_laws.proofs.ActWords.{Act, Action, Ask, Call, Consumer, Does, Draw, Find, FindConsumer, Flush, Get, Number, OfMulti, OfTopic, Outcome, Producer, Recall, RecallConsumer, Rest, Store, TakeNumber, TakeTurn, Tell, TellAll, Told, Wait, Who, Word, is_same, ticket_of, turn_of, OfConsumer}
 use Rattle.pulsar_laws.proofs.PlanWords.{News}
@@ -24,7 +24,7 @@ use Rattle.pulsar_outgoing.specs.declared.multi_topic.MultiAsk.TheVariants.{Take
 use Rattle.pulsar_outgoing.specs.declared.multi_topic.MultiSaid.{MultiSaid}
 use Rattle.pulsar_outgoing.specs.declared.multi_topic.MultiSaid.TheVariants as said
 use Rattle.pulsar_outgoing.specs.declared.multi_topic.Taker.{Taker}
-use Rattle.pulsar_producer_table.specs.Takers.{who_at, who_of}
+use Rattle.pulsar_producer_table.specs.Takers.{turn_taker, who_at, who_of}
 use Rattle.pulsar_producer_table.specs.Producers.{stored_at}
 use Rattle.pulsar_calls.specs.Who.{behind_all, in_turn}
 use Rattle.pulsar_laws.proofs.calls.Caused.{outcomes_are_caused_lem}
@@ -129,14 +129,24 @@ absent_run o t (Then a ∷ log) idle =
 abbrev pub Other : ℕ → ℕ → Type 0
 Other t u = t ≡ u → ⊥
 
+no_less : (k : ℕ) → 1 ≤ suc k
+no_less k = omega arith
+
 turn_other : (t : ℕ) (who : Who) → is_spent t ≡ false → (Call t ≡ who → ⊥) → Other t (turn_of who)
 turn_other t (Call u) unspent other e = other (ap Call e)
 turn_other t (Consumer n u key) unspent other e = let f : false ≡ true = sym unspent ∙ ap is_spent e in absurd cc
 turn_other t (Producer n) unspent other e = let f : false ≡ true = sym unspent ∙ ap is_spent e in absurd cc
 
+-- nor a turn by it
+taker_other : (t : ℕ) (who : Who) → is_spent t ≡ false → (Call t ≡ who → ⊥) → TakerSo (Other t) (turn_taker who)
+taker_other t (Call u) unspent other = turn_other t (Call u) unspent other
+taker_other t (Consumer n u zero) unspent other = turn_other t (Consumer n u 0) unspent other
+taker_other t (Consumer n u (suc key)) unspent other = no_less key
+taker_other t (Producer n) unspent other = turn_other t (Producer n) unspent other
+
 mute_does : (t : ℕ) → is_spent t ≡ false → (a : Act) → MuteBy t a → DoesSo (Other t) (Other t) a
 mute_does t unspent (Does who (OfTopic n TakeTurn)) mute =
-    turn_other t who unspent (other_does t who (OfTopic n TakeTurn) mute (λ e. (let no : OfTopic n TakeTurn ≡ Rest = e in cc)))
+    taker_other t who unspent (other_does t who (OfTopic n TakeTurn) mute (λ e. (let no : OfTopic n TakeTurn ≡ Rest = e in cc)))
 mute_does t unspent (Does who (OfTopic n (Store x))) mute =
     turn_other t who unspent (other_does t who (OfTopic n (Store x)) mute (λ e. (let no : OfTopic n (Store x) ≡ Rest = e in cc)))
 mute_does t unspent (Does who (OfTopic n Flush)) mute =
@@ -145,7 +155,7 @@ mute_does t unspent _ mute = tt
 
 -- and one that is idle takes no turn
 idle_does : (t : ℕ) → is_spent t ≡ false → (a : Act) → IdleBy t a → DoesSo (Other t) (λ u. Unit {0}) a
-idle_does t unspent (Does who (OfTopic n TakeTurn)) idle = turn_other t who unspent (other_idle t who (OfTopic n TakeTurn) idle refl)
+idle_does t unspent (Does who (OfTopic n TakeTurn)) idle = taker_other t who unspent (other_idle t who (OfTopic n TakeTurn) idle refl)
 idle_does t unspent _ idle = tt
 
 pub idle_log : (t : ℕ) → is_spent t ≡ false → (log : List Entry) → Idle t log → LogSo (Other t) (λ u. Unit {0}) log

@@ -8,13 +8,13 @@ use Rattle.pulsar_outgoing.specs.declared.multi_topic.Missing.{Missing}
 use Rattle.pulsar_outgoing.specs.declared.multi_topic.Multi.{Multi}
 use Rattle.pulsar_outgoing.specs.declared.multi_topic.Multi.TheVariants.{Own, Made}
 use Rattle.pulsar_outgoing.specs.declared.multi_topic.MultiAsk.{MultiAsk}
-use Rattle.pulsar_outgoing.specs.declared.multi_topic.MultiAsk.TheVariants.{Hand, Join, PassTurn, Remove, TakeTurn}
+use Rattle.pulsar_outgoing.specs.declared.multi_topic.MultiAsk.TheVariants.{Hand, Join, TakeTurn}
 use Rattle.pulsar_outgoing.specs.declared.multi_topic.MultiSaid.TheVariants as said
 use Rattle.pulsar_producer.specs.MultiTopic as multi
 use Rattle.pulsar_producer.specs.MultiTopic.{Act as MultiAct, Seen, takes_in}
 use Rattle.pulsar_producer.specs.declared.multi_topic.deed.MultiDeed.{MultiDeed}
 use Rattle.pulsar_producer.specs.declared.multi_topic.deed.MultiNews.{MultiNews}
-use Rattle.pulsar_producer.specs.declared.multi_topic.deed.MultiNews.TheVariants.{Said, Told as IsTold}
+use Rattle.pulsar_producer.specs.declared.multi_topic.deed.MultiNews.TheVariants.{Said}
 use Rattle.pulsar_producer.specs.declared.multi_topic.sending.MultiSending.{MultiSending as MultiSend}
 use Rattle.pulsar_producer.specs.declared.multi_topic.sending.MultiSending.TheVariants as send
 use Rattle.pulsar_calls.specs.Who.{rank}
@@ -25,22 +25,27 @@ use Rattle.pulsar_plans.specs.Plan.{makes_of, multi_action_of, multi_news_of}
 use Rattle.pulsar_plans.specs.declared.copying.CopyState.{CopyState}
 use Rattle.pulsar_plans.specs.declared.copying.CopyState.TheVariants as copy
 use Rattle.pulsar_plans.specs.declared.plan.Plan.TheVariants.{Copying}
-use Rattle.pulsar_plans.proofs.Arcs.{Arc, Begun, BegunEnd, End, answers, begins_asking, begins_multi, begins_multi_send, begins_not, begun_arc, by_begun, copies_go, departs_asks, got_asks, multi_closes_on, multi_goes, queued_waits, stands_on, told_arc, told_end}
-use Rattle.pulsar_plans.proofs.CopyArcs.{CopyArc, handing_goes, letter_hands}
-use Rattle.pulsar_plans.proofs.MultiArcs.{MultiCloseArc, MultiSendArc, absent_builds, absent_joins, built_joins, joined_hands, multi_builds, multi_rests, removed_passes, turned_hands, turned_removes}
+use Rattle.pulsar_plans.proofs.Arcs.{Arc, BatchArc, Begun, BegunEnd, End, answers, batch_sends, batches_go, begins_asking, begins_copy, begins_multi, begins_multi_close, begins_multi_send, begins_not, begun_arc, builds_on, by_begun, copies_go, departs_asks, got_asks, multi_closes_on, multi_goes, part_sends, queued_waits, sends, stands_on, told_arc, told_end}
+use Rattle.pulsar_producer.proofs.Arcs.{BuildArc, SendArc, draws, naming_rests}
+use Rattle.pulsar_searches.specs.declared.turn.Action.TheVariants as wish
+use Rattle.pulsar_outgoing.specs.declared.multi_topic.Handing.{Handing}
+use Rattle.pulsar_plans.proofs.CopyArcs.{CopyArc, handing_goes, letter_hands, resting_rests, sending_goes, taking_rests}
+use Rattle.pulsar_plans.proofs.MultiArcs.{BuildBegun, MultiSendArc, absent_builds, absent_joins, build_names, build_numbers, built_joins, joined_hands, multi_builds, multi_rests, removed_passes, removing_passes, turned_hands, turned_removes}
 use Rattle.pulsar_acts.specs.View.{multi_at}
-use Rattle.pulsar_laws.proofs.ActWords.{Act, Action, Answers, Call, Consumer, Does, is_same, Makes, Nothing, OfMulti, Outcome, Procedure, Producer, Starts, Told, Verdict, Who}
-use Rattle.pulsar_laws.proofs.PlanWords.{Asking, Awaiting, begins, Gives, is_answer, MultiSending, Plan, Stays}
-use Rattle.pulsar_laws.proofs.RunWords.{Begins, counted, Entry, IsRun, notice, Options, start_of, started, Then, view, View}
+use Rattle.pulsar_laws.proofs.ActWords.{Act, Action, Answers, Call, Consumer, Does, is_same, Makes, Nothing, Notice, OfMulti, Outcome, Procedure, Producer, Share, Starts, Told, Verdict, Who}
+use Rattle.pulsar_laws.proofs.PlanWords.{action_of, Asking, Awaiting, Batches, begins, BuildingProducer as Build, Deed, Errand, Gives, is_answer, MultiSending, News, Plan, ProducerOrder, Sending as Send, Stays, told, Ways}
+use Rattle.pulsar_laws.proofs.RunWords.{Begins, counted, Entry, IsRun, notice, Options, performs, start_of, started, stays, stays_some, Then, told_some, view}
 use Rattle.pulsar_laws.proofs.Cases.{none_some, some_is}
 use Rattle.pulsar_laws.proofs.calls.Once.{ends_once_lem}
 use Rattle.pulsar_laws.proofs.calls.Same.{same_self}
 use Rattle.pulsar_laws.proofs.multis.Alone.{multis_alone_lem}
-use Rattle.pulsar_laws.proofs.plans.Granted.{BeginsSo, IsGrantedBy, IsLedSo, SaysSo, does_from, granted_by, says_given}
+use Rattle.pulsar_laws.proofs.plans.Granted.{BeginsSo, GivesSo, IsGrantedBy, IsLedSo, does_from, gives_so, granted_by, in_each}
 use Rattle.pulsar_laws.proofs.plans.Standing.{IsOwn, run_older, stands_so, starts_so}
 use Rattle.pulsar_laws.proofs.producers.Drawing.{answers_from}
 use Rattle.pulsar_laws.specs.BatchLaws.{OptionsBy}
+use Rattle.pulsar_laws.specs.Laws.{MultiSaysSo}
 use Rattle.pulsar_laws.specs.MultiLaws.{MadeAs, done_to, last_made, made_for, made_last, made_so}
+use Rattle.pulsar_outgoing.specs.declared.multi_topic.Taker.{Taker}
 
 -- A CALL BEGINS ONCE
 
@@ -201,7 +206,7 @@ made_by o (Then (Answers who verdict) ∷ log) t m x run e = by m (made_for m wh
         (subst (λ (z : MadeAs). OptionsBy log t (Some (Made u)) z.options) (some_is h) (here u y f))
 made_by o (Then a ∷ log) t m x run e = options_more o (Then a) log t (Some m) x.options run (made_by o log t m x run.0 e)
 
-takes_options : (r : Option _) (t : _) (s : Seen) → (takes_in r t s).options ≡ s.options
+takes_options : (r : Option Taker) (t : Taker) (s : Seen) → (takes_in r t s).options ≡ s.options
 takes_options None t s = refl
 takes_options (Some other) t s = refl
 
@@ -222,3 +227,273 @@ multi_options o log t m s run h =
     let k = multis_alone_lem o log m s h in
     let is : s.options ≡ k.0.options = ap (λ (x : Seen). x.options) k.2 ∙ seen_options k.0.name k.0.options (done_to o m log) in
     subst (OptionsBy log t (Some m)) (sym is) (made_by o log t m k.0 run k.1)
+
+-- WHO ASKS ONE: a send that hands its message on, and the copies of dead letters
+
+abbrev asks_multi : Action → Bool
+asks_multi (OfMulti m ask) = true
+asks_multi _ = false
+
+send_not : {w : Ways} {e : Errand} {s q : Send} {y : News} {d : Deed} → SendArc w e s y q d → asks_multi (action_of d) ≡ false
+send_not draws = refl
+send_not _ = refl
+
+build_not : {w : Ways} {o : ProducerOrder} {b q : Build} {y : News} {d : Deed} → BuildArc w o b y q d → asks_multi (action_of d) ≡ false
+build_not naming_rests = refl
+build_not _ = refl
+
+batch_not : {w : Ways} {e : Errand} {b q : Batches} {y : News} {d : Deed} → BatchArc w e b y q d → asks_multi (action_of d) ≡ false
+batch_not (batch_sends k) = send_not k
+batch_not _ = refl
+
+begun_not : {w : Ways} {o : ProducerOrder} {b : Build} {d : Deed} → BuildBegun w o b d → asks_multi (action_of d) ≡ false
+begun_not (build_names (wish.Get at) e) = refl
+begun_not (build_names (wish.Ask l request) e) = refl
+begun_not (build_names (wish.Wait delay) e) = refl
+begun_not (build_numbers m left) = refl
+
+not_it : (a : Action) (m : Multi) (ask : MultiAsk) → asks_multi a ≡ false → a ≡ OfMulti m ask → ⊥
+not_it a m ask h e = let f : true ≡ false = ap asks_multi (sym e) ∙ h in cc
+
+-- where one has handed its message on
+abbrev hands_by : Multi → MultiSend → Option Multi
+hands_by m send.Handing = Some m
+hands_by m _ = None
+
+abbrev copy_hands : CopyState → Option Multi
+copy_hands (copy.Handing s) = hands_by Own s
+copy_hands _ = None
+
+abbrev hands_in : Plan → Option Multi
+hands_in (MultiSending w m share s) = hands_by m s
+hands_in (Copying w t s) = copy_hands s
+hands_in _ = None
+
+multi_hands : {w : Ways} {s q : MultiSend} {y : MultiNews} {d : MultiDeed} (k m : Multi) (h : Handing) → MultiSendArc w s y q d →
+    multi_action_of k d ≡ OfMulti m (Hand h) → hands_by k q ≡ Some m
+multi_hands k m h turned_hands e = let f : k ≡ m = cc in ap Some f
+multi_hands k m h joined_hands e = let f : k ≡ m = cc in ap Some f
+multi_hands k m h (absent_builds {d} b) e = absurd (not_it (action_of d) m (Hand h) (begun_not b) e)
+multi_hands k m h (multi_builds {d} b) e = absurd (not_it (action_of d) m (Hand h) (build_not b) e)
+multi_hands k m h _ e = absurd cc
+
+copies_hand : {w : Ways} {t : List ℕ} {s q : CopyState} {u : Outcome} {a : Action} (m : Multi) (h : Handing) → CopyArc w t s u q a → a ≡ OfMulti m (Hand h) →
+    copy_hands q ≡ Some m
+copies_hand m h (handing_goes d k) e = multi_hands Own m h k e
+copies_hand m h (sending_goes d k) e = absurd (not_it (action_of d) m (Hand h) (send_not k) e)
+copies_hand m h _ e = absurd cc
+
+arc_hands : {p q : Plan} {u : Outcome} {a : Action} (m : Multi) (h : Handing) → Arc p u q a → a ≡ OfMulti m (Hand h) → hands_in q ≡ Some m
+arc_hands m h (multi_goes {m = k} d x) e = multi_hands k m h x e
+arc_hands m h (copies_go k) e = copies_hand m h k e
+arc_hands m h (builds_on d k) e = absurd (not_it (action_of d) m (Hand h) (build_not k) e)
+arc_hands m h (sends d k) e = absurd (not_it (action_of d) m (Hand h) (send_not k) e)
+arc_hands m h (part_sends d k b) e = absurd (not_it (action_of d) m (Hand h) (send_not k) e)
+arc_hands m h (batches_go d k) e = absurd (not_it (action_of d) m (Hand h) (batch_not k) e)
+arc_hands m h (multi_closes_on ask turned_removes) e = absurd cc
+arc_hands m h (multi_closes_on ask removed_passes) e = absurd cc
+arc_hands m h (multi_closes_on ask (removing_passes f)) e = absurd cc
+arc_hands m h _ e = absurd cc
+
+-- nobody begins so
+begun_turns : {p : Procedure} {q : Plan} {a : Action} (m : Multi) (ask : MultiAsk) → Begun p q a → a ≡ OfMulti m ask → ask ≡ TakeTurn
+begun_turns m ask begins_multi_send e = let f : TakeTurn ≡ ask = cc in sym f
+begun_turns m ask begins_multi_close e = let f : TakeTurn ≡ ask = cc in sym f
+begun_turns m ask _ e = absurd cc
+
+-- WHERE THERE IS NO PRODUCER OF A TOPIC, one is built with the options of the producer of many topics
+
+module _ (o : Options) (who : Who) where
+  stood_on : (log : List Entry) (u : Outcome) (b q : Plan) (a : Action) → (view o log).stand who ≡ Some b → told b u ≡ Stays q a →
+      (view o (Then (Told (notice who u)) ∷ log)).stand who ≡ Some q
+  stood_on log u b q a s e =
+      ap (λ c. cond c (stays_some (told_some ((view o log).stand who) u)) ((view o log).stand who)) (same_self who)
+      ∙ ap (λ r. stays_some (told_some r u)) s
+      ∙ ap stays e
+
+  -- it has handed its message on there
+  record IsHanded (log : List Entry) (x : Missing) : Type 0 where
+    m : Multi
+    h : Handing
+    older : List Entry
+    is_there : log ≡ Then (Does who (OfMulti m (Hand h))) ∷ older
+    seen_there : Seen
+    at : multi_at (view o older) m ≡ Some seen_there
+    options : x.order.options ≡ seen_there.options
+
+  handed_on : (log : List Entry) (x : Missing) → IsRun o (Then (Told (notice who (outcome.OfMulti (said.Absent x)))) ∷ log) → IsHanded log x
+  handed_on log x run = by k.action k.is_there
+      (in_each (GivesSo (view o k.older) k.action) (Told n) (performs (view o k.older) who k.action) (gives_so (view o k.older) who k.action) k.told)
+    where
+      n : Notice
+      n = notice who (outcome.OfMulti (said.Absent x))
+
+      k : IsGrantedBy o log n
+      k = granted_by o log n refl run
+
+      by : (a : Action) → log ≡ Then (Does who a) ∷ k.older → MultiSaysSo (said.Absent x) a (view o k.older) → IsHanded log x
+      by (OfMulti m (Hand h)) there (s, at, (none, is)) = record {
+        m = m;
+        h = h;
+        older = k.older;
+        is_there = there;
+        seen_there = s;
+        at = at;
+        options = ap (λ (y : Missing). y.order.options) is;
+      }
+      by a there h = absurd h
+
+  stands_there : (older : List Entry) (m : Multi) (h : Handing) → IsRun o (Then (Does who (OfMulti m (Hand h))) ∷ older) →
+      (q : Plan) × ((view o older).stand who ≡ Some q) × (hands_in q ≡ Some m)
+  stands_there older m h run = elim (does_from o older who (OfMulti m (Hand h)) run) [
+    | inl b ↦ (let f : Hand h ≡ TakeTurn = begun_turns m (Hand h) (begun_arc b.leads) refl in absurd cc)
+    | inr l ↦ (
+      l.plan,
+      subst (λ log. (view o log).stand who ≡ Some l.plan) (sym l.is_there) (stood_on l.older l.outcome l.before l.plan (OfMulti m (Hand h)) l.stood l.leads),
+      arc_hands m h (told_arc l.leads) refl,
+    )
+  ]
+
+  absent_options : (log : List Entry) (x : Missing) (p : Plan) (m : Multi) → IsRun o (Then (Told (notice who (outcome.OfMulti (said.Absent x)))) ∷ log) →
+      (view o log).stand who ≡ Some p → hands_in p ≡ Some m → OptionsBy log 0 (Some m) x.order.options
+  absent_options log x p m run stood hands =
+      let k = handed_on log x run in
+      let r : IsRun o (Then (Does who (OfMulti k.m (Hand k.h))) ∷ k.older) = subst (IsRun o) k.is_there run.0 in
+      let there = stands_there k.older k.m k.h r in
+      let now : (view o log).stand who ≡ Some there.0 = subst (λ l. (view o l).stand who ≡ Some there.0) (sym k.is_there) there.1 in
+      let same : p ≡ there.0 = some_is (sym stood ∙ now) in
+      let one : k.m ≡ m = some_is (sym there.2 ∙ ap hands_in (sym same) ∙ hands) in
+      let was : OptionsBy k.older 0 (Some k.m) k.seen_there.options = multi_options o k.older 0 k.m k.seen_there r.0 k.at in
+      let more : OptionsBy (Then (Does who (OfMulti k.m (Hand k.h))) ∷ k.older) 0 (Some k.m) k.seen_there.options =
+      options_more o (Then (Does who (OfMulti k.m (Hand k.h)))) k.older 0 (Some k.m) k.seen_there.options r was in
+      let here : OptionsBy log 0 (Some k.m) k.seen_there.options = subst (λ l. OptionsBy l 0 (Some k.m) k.seen_there.options) (sym k.is_there) more in
+      subst (OptionsBy log 0 (Some m)) (sym k.options) (subst (λ y. OptionsBy log 0 (Some y) k.seen_there.options) one here)
+
+-- with which options a plan builds
+abbrev InOrder : MultiSend → ProducerOptionsValues → Type 0
+InOrder (send.Building order m b) x = x ≡ order.options
+InOrder _ x = ⊥
+
+abbrev CopyOrder : CopyState → Multi → ProducerOptionsValues → Type 0
+CopyOrder (copy.Handing s) k x = (k ≡ Own) × InOrder s x
+CopyOrder _ k x = ⊥
+
+abbrev IsOrder : Plan → Multi → ProducerOptionsValues → Type 0
+IsOrder (MultiSending w m share s) k x = (k ≡ m) × InOrder s x
+IsOrder (Copying w t s) k x = CopyOrder s k x
+IsOrder _ k x = ⊥
+
+-- it did so before, or is told that there is none
+abbrev IsAbsent : MultiNews → MultiSend → ProducerOptionsValues → Type 0
+IsAbsent y s x = (z : Missing) × (y ≡ Said (said.Absent z)) × (s ≡ send.Handing) × (x ≡ z.order.options)
+
+abbrev From : Plan → Outcome → Multi → ProducerOptionsValues → Type 0
+From p u k x = IsOrder p k x ⊎ ((z : Missing) × (multi_news_of u ≡ Said (said.Absent z)) × (hands_in p ≡ Some k) × (x ≡ z.order.options))
+
+multi_order : {w : Ways} {s q : MultiSend} {y : MultiNews} {d : MultiDeed} → MultiSendArc w s y q d → (x : ProducerOptionsValues) → InOrder q x →
+    InOrder s x ⊎ IsAbsent y s x
+multi_order (absent_builds {x = z} b) x h = inr (z, refl, refl, h)
+multi_order (multi_builds b) x h = inl h
+multi_order multi_rests x h = inl h
+multi_order _ x h = absurd h
+
+multi_joins : {w : Ways} {s q : MultiSend} {y : MultiNews} {d : MultiDeed} (k m : Multi) (j : Joining) → MultiSendArc w s y q d →
+    multi_action_of k d ≡ OfMulti m (Join j) → (m ≡ k) × (InOrder s j.settings ⊎ IsAbsent y s j.settings)
+multi_joins k m j (built_joins {o} {parts} b) e =
+    let f : m ≡ k = cc in
+    let g : j ≡ record { topic = o.topic; settings = o.options; parts = parts } = cc in
+    (f, inl (ap (λ (x : Joining). x.settings) g))
+multi_joins k m j (absent_joins {x = z}) e =
+    let f : m ≡ k = cc in
+    let g : j ≡ record { topic = z.order.topic; settings = z.order.options; parts = [] } = cc in
+    (f, inr (z, refl, refl, ap (λ (x : Joining). x.settings) g))
+multi_joins k m j (absent_builds {d} b) e = absurd (not_it (action_of d) m (Join j) (begun_not b) e)
+multi_joins k m j (multi_builds {d} b) e = absurd (not_it (action_of d) m (Join j) (build_not b) e)
+multi_joins k m j _ e = absurd cc
+
+-- the same of a plan that goes by it
+from_send : (w : Ways) (m : Multi) (share : Option Share) (s : MultiSend) (u : Outcome) (k : Multi) (x : ProducerOptionsValues) → k ≡ m →
+    InOrder s x ⊎ IsAbsent (multi_news_of u) s x → From (MultiSending w m share s) u k x
+from_send w m share s u k x e (inl h) = inl (e, h)
+from_send w m share s u k x e (inr (z, is, hands, h)) = inr (z, is, ap (hands_by m) hands ∙ ap Some (sym e), h)
+
+from_copy : (w : Ways) (t : List ℕ) (s : MultiSend) (u : Outcome) (k : Multi) (x : ProducerOptionsValues) → k ≡ Own →
+    InOrder s x ⊎ IsAbsent (multi_news_of u) s x → From (Copying w t (copy.Handing s)) u k x
+from_copy w t s u k x e (inl h) = inl (e, h)
+from_copy w t s u k x e (inr (z, is, hands, h)) = inr (z, is, ap (hands_by Own) hands ∙ ap Some (sym e), h)
+
+copy_order : {w : Ways} {t : List ℕ} {s q : CopyState} {u : Outcome} {a : Action} → CopyArc w t s u q a → (k : Multi) (x : ProducerOptionsValues) →
+    CopyOrder q k x → From (Copying w t s) u k x
+copy_order {w} {t} {u = u} (handing_goes {s} d y) k x h = from_copy w t s u k x h.0 (multi_order y x h.1)
+copy_order letter_hands k x h = absurd h.1
+copy_order resting_rests k x h = absurd h
+copy_order taking_rests k x h = absurd h
+copy_order _ k x h = absurd h
+
+arc_order : {p q : Plan} {u : Outcome} {a : Action} → Arc p u q a → (k : Multi) (x : ProducerOptionsValues) → IsOrder q k x → From p u k x
+arc_order {u = u} (multi_goes {w} {m} {share} {s} d y) k x h = from_send w m share s u k x h.0 (multi_order y x h.1)
+arc_order (copies_go y) k x h = copy_order y k x h
+arc_order _ k x h = absurd h
+
+copy_joins : {w : Ways} {t : List ℕ} {s q : CopyState} {u : Outcome} {a : Action} → CopyArc w t s u q a → (k : Multi) (j : Joining) →
+    a ≡ OfMulti k (Join j) → From (Copying w t s) u k j.settings
+copy_joins {w} {t} {u = u} (handing_goes {s} d y) k j e =
+    let f = multi_joins Own k j y e in from_copy w t s u k j.settings f.0 f.1
+copy_joins (sending_goes d y) k j e = absurd (not_it (action_of d) k (Join j) (send_not y) e)
+copy_joins _ k j e = absurd cc
+
+arc_joins : {p q : Plan} {u : Outcome} {a : Action} → Arc p u q a → (k : Multi) (j : Joining) → a ≡ OfMulti k (Join j) → From p u k j.settings
+arc_joins {u = u} (multi_goes {w} {m} {share} {s} d y) k j e =
+    let f = multi_joins m k j y e in from_send w m share s u k j.settings f.0 f.1
+arc_joins (copies_go y) k j e = copy_joins y k j e
+arc_joins (builds_on d y) k j e = absurd (not_it (action_of d) k (Join j) (build_not y) e)
+arc_joins (sends d y) k j e = absurd (not_it (action_of d) k (Join j) (send_not y) e)
+arc_joins (part_sends d y b) k j e = absurd (not_it (action_of d) k (Join j) (send_not y) e)
+arc_joins (batches_go d y) k j e = absurd (not_it (action_of d) k (Join j) (batch_not y) e)
+arc_joins (multi_closes_on ask turned_removes) k j e = absurd cc
+arc_joins (multi_closes_on ask removed_passes) k j e = absurd cc
+arc_joins (multi_closes_on ask (removing_passes f)) k j e = absurd cc
+arc_joins _ k j e = absurd cc
+
+begun_order : {p : Procedure} {q : Plan} {a : Action} → Begun p q a → (k : Multi) (x : ProducerOptionsValues) → IsOrder q k x → ⊥
+begun_order begins_multi_send k x h = h.1
+begun_order begins_copy k x h = h
+begun_order _ k x h = h
+
+of_absent : (u : Outcome) (x : Missing) → multi_news_of u ≡ Said (said.Absent x) → u ≡ outcome.OfMulti (said.Absent x)
+of_absent (outcome.OfMulti y) x h = let f : y ≡ said.Absent x = cc in ap outcome.OfMulti f
+of_absent _ x h = absurd cc
+
+module _ (o : Options) (who : Who) where
+  -- what a plan goes by has the options of its producer of many topics
+  from_options : (log : List Entry) (p : Plan) (u : Outcome) (k : Multi) (x : ProducerOptionsValues) → IsRun o (Then (Told (notice who u)) ∷ log) →
+      (view o log).stand who ≡ Some p → (IsOrder p k x → OptionsBy log 0 (Some k) x) → From p u k x → OptionsBy log 0 (Some k) x
+  from_options log p u k x run stood so (inl h) = so h
+  from_options log p u k x run stood so (inr (z, is, hands, same)) =
+      let r = subst (λ y. IsRun o (Then (Told (notice who y)) ∷ log)) (of_absent u z is) run in
+      subst (OptionsBy log 0 (Some k)) (sym same) (absent_options o who log z p k r stood hands)
+
+  ordered : (log : List Entry) (q : Plan) → IsRun o log → (view o log).stand who ≡ Some q → (k : Multi) (x : ProducerOptionsValues) → IsOrder q k x →
+      OptionsBy log 0 (Some k) x
+  ordered =
+      stands_so o who (IsRun o) (run_older o) (λ log q. (k : Multi) (x : ProducerOptionsValues) → IsOrder q k x → OptionsBy log 0 (Some k) x)
+      (λ e log q m r s so k x h. options_more o e log 0 (Some k) x r (so k x h))
+      (λ log p q a r e k x h. absurd (begun_order {p = p} (begun_arc e) k x h))
+      (λ log b u q a r s so e k x h. options_more o (Then (Told (notice who u))) log 0 (Some k) x r
+      (from_options log b u k x r s (so k x) (arc_order (told_arc e) k x h)))
+
+  -- and so has what joins it
+  pub joined_options : (log : List Entry) (m : Multi) (j : Joining) → IsRun o (Then (Does who (OfMulti m (Join j))) ∷ log) →
+      OptionsBy log 0 (Some m) j.settings
+  joined_options log m j run = elim (does_from o log who (OfMulti m (Join j)) run) [ inl b ↦ absurd (begun b) | inr l ↦ led l ]
+    where
+      begun : BeginsSo o log who (OfMulti m (Join j)) → ⊥
+      begun b = let f : Join j ≡ TakeTurn = begun_turns m (Join j) (begun_arc b.leads) refl in cc
+
+      led : IsLedSo o log who (OfMulti m (Join j)) → OptionsBy log 0 (Some m) j.settings
+      led l =
+          let r : IsRun o (Then (Told (notice who l.outcome)) ∷ l.older) = subst (IsRun o) l.is_there run.0 in
+          subst (λ y. OptionsBy y 0 (Some m) j.settings) (sym l.is_there)
+          (options_more o (Then (Told (notice who l.outcome))) l.older 0 (Some m) j.settings r
+          (from_options l.older l.before l.outcome m j.settings r l.stood (ordered l.older l.before r.0 l.stood m j.settings)
+          (arc_joins (told_arc l.leads) m j refl)))

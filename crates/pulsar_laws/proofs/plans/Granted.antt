@@ -54,10 +54,8 @@ is_asked (said.Removed numbers) = true
 is_asked said.HasTurn = false
 is_asked said.Done = false
 
--- what one is granted only by what it does; a turn, that a batch was cut, and that all is settled come by others too. And that a producer of many topics has
--- none of a topic yet.
+-- what one is granted only by what it does; a turn, that a batch was cut, and that all is settled come by others too
 abbrev pub is_grant : Outcome → Bool
-is_grant (outcome.OfMulti (said.Absent x)) = true
 is_grant (outcome.Granted (news.HasTurn version)) = false
 is_grant (outcome.Granted news.Ready) = false
 is_grant (outcome.Granted news.Done) = false
@@ -68,7 +66,6 @@ is_grant _ = false
 
 -- that, or a turn
 abbrev pub is_given : Outcome → Bool
-is_given (outcome.OfMulti (said.Absent x)) = true
 is_given (outcome.Granted news.Ready) = false
 is_given (outcome.Granted news.Done) = false
 is_given (outcome.Granted n) = true
@@ -84,7 +81,6 @@ abbrev pub IsTurn : Notice → Type 0
 IsTurn n = is_grant n.outcome ≡ false
 
 free_turn : (u : Outcome) → is_given u ≡ false → is_grant u ≡ false
-free_turn (outcome.OfMulti (said.Absent x)) h = absurd cc
 free_turn (outcome.Granted news.Ready) h = refl
 free_turn (outcome.Granted news.Done) h = refl
 free_turn (outcome.Granted _) h = absurd cc
@@ -102,7 +98,6 @@ IsPlain a = grants_more a ≡ false
 -- CAUSES GRANT at most that a batch was cut, and they tell of no part of a call
 
 abbrev pub is_inner : Outcome → Bool
-is_inner (outcome.OfMulti (said.Absent x)) = true
 is_inner (outcome.Granted news.Ready) = false
 is_inner (outcome.Granted n) = true
 is_inner (outcome.Word w) = is_own_word w
@@ -240,7 +235,6 @@ causes_inner v (Does who StopAll) =
 causes_inner v _ = tt
 
 inner_free : (u : Outcome) → is_inner u ≡ false → is_given u ≡ false
-inner_free (outcome.OfMulti (said.Absent x)) h = absurd cc
 inner_free (outcome.Granted news.Ready) h = refl
 inner_free (outcome.Granted _) h = absurd cc
 inner_free (outcome.Parted ticket f) h = absurd cc
@@ -569,13 +563,6 @@ granted_by o (Then b ∷ older) n g run =
     let h = agenda o older in
     let left = clean_rest h.now h.here h.behind h.parts c.at_head c.served c.waits in
     head_granted o older n g b (at_once (view o older) b) (rest (agenda o older)).now f.left refl left.now_is f.is_it
-
--- and so of what a producer of many topics says
-pub says_given : (o : Options) (log : List Entry) (n : Notice) (k : IsGrantedBy o log n) (u : Outcome) → n.outcome ≡ u →
-    SaysSo (view o k.older) k.action u
-says_given o log n k u e =
-    subst (SaysSo (view o k.older) k.action) e
-    (in_each (GivesSo (view o k.older) k.action) (Told n) (performs (view o k.older) n.who k.action) (gives_so (view o k.older) n.who k.action) k.told)
 
 pub grants_given : (o : Options) (log : List Entry) (n : Notice) (k : IsGrantedBy o log n) (y : News) → n.outcome ≡ outcome.Granted y →
     GivenBy (view o k.older) k.action y

@@ -72,10 +72,10 @@ use Rattle.pulsar_outgoing.specs.declared.multi_topic.Joining.{Joining}
 use Rattle.pulsar_producer_table.specs.MultiAsks.{joined_by}
 use Rattle.pulsar_machine.specs.Options.{Options}
 use Rattle.pulsar_links.specs.Seats.{Seat, answer_at}
-use Rattle.pulsar_calls.specs.Who.{is_same, turn_of as taken_as}
+use Rattle.pulsar_calls.specs.Who.{is_same}
 use Rattle.pulsar_plans.specs.declared.copying.CopyState.{CopyState}
 use Rattle.pulsar_plans.specs.declared.copying.CopyState.TheVariants as copy
-use Rattle.pulsar_producer_table.specs.Takers.{who_at}
+use Rattle.pulsar_producer_table.specs.Takers.{turn_taker, who_at}
 use Rattle.pulsar_outgoing.specs.declared.multi_topic.Taker.{Taker}
 use Rattle.pulsar_outgoing.specs.declared.multi_topic.Taker.TheVariants as taker
 use Rattle.pulsar_laws.specs.Laws.{started, outcomes, deeds, Answered}
@@ -360,17 +360,17 @@ turn_of p = turn_as (dealing p)
 
 -- one has the turn of a topic producer
 abbrev pub HasTurn : View → Who → (number : ℕ) → Type 0
-HasTurn v who n = (row : Topic) × (v.producers.topics n ≡ Some row) × (row.seen.holder ≡ Some (taker.Call (taken_as who)))
+HasTurn v who n = (row : Topic) × (v.producers.topics n ≡ Some row) × (row.seen.holder ≡ Some (turn_taker who))
 
--- who waits behind the one that has the turn next: all have greater tickets; nobody takes a turn for a copy
+-- who waits behind the one that has the turn next: of a call all others have greater tickets, and the copy of a dead letter has its place by when it came
 abbrev pub AreBehind : Taker → List Taker → Type 0
 AreBehind (taker.Call t) left = AreAbove t (tickets left)
-AreBehind (taker.Copy consumer ticket key) left = ⊥
+AreBehind (taker.Copy consumer ticket key) left = Unit {0}
 
 -- The turn is passed on by the one that has it, to the lowest ticket of those that wait, which is told so.
 abbrev pub PassedInTurn : Type 0
 PassedInTurn = (o : Options) (log : List Entry) (who : Who) (n : ℕ) → IsRun o (Then (Does who (OfTopic n PassTurn)) ∷ log) →
-    (row : Topic) × ((view o log).producers.topics n ≡ Some row) × (row.seen.holder ≡ Some (taker.Call (taken_as who)))
+    (row : Topic) × ((view o log).producers.topics n ≡ Some row) × (row.seen.holder ≡ Some (turn_taker who))
     × ((next : Taker) (left : List Taker) → row.seen.waiting ≡ next ∷ left → AreBehind next left
     × In (notice (who_at n next) (outcome.Granted (news.HasTurn row.seen.given.version))) (joins (view o log) (Does who (OfTopic n PassTurn))))
 

@@ -12,7 +12,7 @@ use Rattle.pulsar_outgoing.specs.declared.multi_topic.Taker.{Taker}
 use Rattle.pulsar_outgoing.specs.declared.replies.Given.{Given}
 use Rattle.pulsar_outgoing.specs.declared.storage.Limits.{Limits}
 use Rattle.pulsar_outgoing.specs.Storage.{is_nothing, ticket_of}
-use Rattle.pulsar_producer.specs.Turns.{first_of, queued, rest_of}
+use Rattle.pulsar_producer.specs.Turns.{first_of, is_holder, queued, rest_of}
 
 -- WHAT IS DONE TO IT: an act for each call that changes it
 
@@ -83,6 +83,9 @@ fresh s =
 -- whether one has its turn at once
 abbrev pub is_free : Seen → Bool
 is_free v = is_none v.holder
+
+abbrev pub has_turn : Taker → Seen → Bool
+has_turn t v = is_holder t v.holder
 
 abbrev pub takes_in : Option Taker → Taker → Seen → Seen
 takes_in None t v = record v { holder = Some t }

@@ -4,7 +4,7 @@
 ghost use Rattle.std.specs.Prelude.{◌≡◌, not, ◌&&◌, IfOk, OnOk};
 ghost use Rattle.pulsar_producer.specs.Commands.{command, command_of};
 ghost use Rattle.pulsar_outgoing.specs.Storage.{item_of};
-ghost use Rattle.pulsar_producer.specs.Topic.{Closes, Cuts, Draws, Flushes, Halts, Passes, Remakes, Stores, Takes, TakesBatch, after, cuts, drawn, fresh, is_free, is_settled, next_batch, next_holder, stored_tickets, stores, unsent_tickets, wakes};
+ghost use Rattle.pulsar_producer.specs.Topic.{Closes, Cuts, Draws, Flushes, Halts, Passes, Remakes, Stores, Takes, TakesBatch, after, cuts, drawn, fresh, has_turn, is_free, is_settled, next_batch, next_holder, stored_tickets, stores, unsent_tickets, wakes};
 ghost use Rattle.pulsar_outgoing.specs.Storage.{is_nothing};
 
 use crate::line::Line;
@@ -144,6 +144,16 @@ impl TopicProducer {
         } else {
             self.line.join(taker)?;
             Ok(false)
+        }
+    }
+
+    /// Whether one has the turn.
+    pub fn has_turn(&self, taker: Taker) -> bool
+        ensures { result ≡ has_turn taker self.now }
+    {
+        match self.holder {
+            Some(holder) => holder == taker,
+            None => false,
         }
     }
 

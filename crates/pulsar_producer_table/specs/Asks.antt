@@ -18,7 +18,7 @@ use Rattle.pulsar_calls.specs.declared.act.Who.TheVariants.{Producer}
 use Rattle.pulsar_calls.specs.Who.{turn_of}
 use Rattle.pulsar_calls.specs.Notices.{notice}
 use Rattle.pulsar_outgoing.specs.declared.multi_topic.Taker.{Taker}
-use Rattle.pulsar_producer_table.specs.Producers.{Producers, drawn, is_settled_at, is_woken, link_at, next_batch_at, recalled, turn_passed, turn_taken}
+use Rattle.pulsar_producer_table.specs.Producers.{Producers, drawn, is_settled_at, is_woken, link_at, next_batch_at, passed_by, recalled, turn_passed, turn_taken}
 use Rattle.pulsar_producer_table.specs.Takers.{turn_taker, who_at}
 use Rattle.pulsar_producer_table.specs.declared.table.Topic.{Topic}
 
@@ -83,7 +83,11 @@ readied n act row = if is_woken act row then ready_notice n ∷ [] else []
 abbrev pub given : Around → TopicAsk → Option Topic → Given
 given x TakeTurn row = record { acts = topic.Takes x.taker ∷ []; says = turn_said row; serves = [] }
 given x PassTurn row =
-    record { acts = topic.Passes ∷ []; says = grants_it news.Done; serves = option_to_list (option_map (turn_notice x.number) (turn_passed row)) }
+    record {
+      acts = passed_by x.taker row;
+      says = grants_it news.Done;
+      serves = option_to_list (option_map (turn_notice x.number) (turn_passed x.taker row));
+    }
 given x Draw row = record { acts = drawn_by x.room; says = Some (draw_outcome x.room row); serves = [] }
 given x Recall row = record { acts = []; says = recall_said x.command; serves = [] }
 given x (Remake r) row = record { acts = topic.Remakes r.link r.given ∷ []; says = grants_it news.Done; serves = [] }

@@ -16,7 +16,7 @@ use Rattle.pulsar_producer.specs.Random.{first_index}
 use Rattle.pulsar_producer.specs.Routing.{Policy}
 use Rattle.pulsar_producer.specs.Topic as topic
 use Rattle.pulsar_outgoing.specs.Storage.{Item, is_batching, limits_of}
-use Rattle.pulsar_producer.specs.Topic.{Act, Closes, Halts, fresh, is_free, is_settled, next_batch, next_holder, stored_tickets, unsent_tickets, wakes}
+use Rattle.pulsar_producer.specs.Topic.{Act, Closes, Halts, fresh, has_turn, is_free, is_settled, next_batch, next_holder, stored_tickets, unsent_tickets, wakes}
 use Rattle.pulsar_outgoing.specs.Storage.{is_nothing}
 use Rattle.pulsar_outgoing.specs.declared.content.Built.{Built}
 use Rattle.pulsar_outgoing.specs.declared.news.Drawn.{Drawn}
@@ -105,10 +105,17 @@ abbrev pub turn_taken : Option Topic → Option (Option (List ℕ))
 turn_taken None = None
 turn_taken (Some t) = turn_in t
 
--- and for the one that has the turn next
-abbrev pub turn_passed : Option Topic → Option (Taker × Option (List ℕ))
-turn_passed None = None
-turn_passed (Some t) = option_map (λ taker. (taker, t.seen.given.version)) (next_holder t.seen)
+-- A turn is passed on by the one that has it, and by no other: who has it next, with the version of its schema.
+abbrev pub next_turn : Topic → Option (Taker × Option (List ℕ))
+next_turn t = option_map (λ taker. (taker, t.seen.given.version)) (next_holder t.seen)
+
+abbrev pub turn_passed : Taker → Option Topic → Option (Taker × Option (List ℕ))
+turn_passed who None = None
+turn_passed who (Some t) = if has_turn who t.seen then next_turn t else None
+
+abbrev pub passed_by : Taker → Option Topic → List topic.Act
+passed_by who None = []
+passed_by who (Some t) = if has_turn who t.seen then topic.Passes ∷ [] else []
 
 -- the number of a message, for a link with room or without
 abbrev pub drawn_in : (room : Bool) → Topic → Option Drawn

@@ -44,7 +44,7 @@ impl Producers {
     {
         match ask {
             TopicAsk::TakeTurn => self.gives_turn(number, who),
-            TopicAsk::PassTurn => self.passes_on(number),
+            TopicAsk::PassTurn => self.passes_on(number, who),
             TopicAsk::Draw => self.draws(number, room),
             TopicAsk::Recall => self.recalls(number),
             TopicAsk::Remake(remade) => {
@@ -77,15 +77,15 @@ impl Producers {
         }
     }
 
-    /// The turn is over: the next one who waits for it has it.
-    fn passes_on(&mut self, number: u64) -> Result<Given, NoMemory>
-        ensures says { IfOk result (λ g. g.says ≡ (asked_in (producers_of self.old) number (Who.Producer 0) None TopicAsk.PassTurn).says) }
+    /// The turn of the one that has it is over: the next one who waits for it has it.
+    fn passes_on(&mut self, number: u64, who: Who) -> Result<Given, NoMemory>
+        ensures says { IfOk result (λ g. g.says ≡ (asked_in (producers_of self.old) number who None TopicAsk.PassTurn).says) }
         ensures serves { IfOk result (λ g. option_to_list g.serves
-            ≡ (asked_in (producers_of self.old) number (Who.Producer 0) None TopicAsk.PassTurn).serves) }
+            ≡ (asked_in (producers_of self.old) number who None TopicAsk.PassTurn).serves) }
         ensures after { OnOk result (producers_of self.new
-            ≡ done_to number (asked_in (producers_of self.old) number (Who.Producer 0) None TopicAsk.PassTurn).acts (producers_of self.old)) }
+            ≡ done_to number (asked_in (producers_of self.old) number who None TopicAsk.PassTurn).acts (producers_of self.old)) }
     {
-        let next = self.pass_turn(number)?;
+        let next = self.pass_turn(number, turn_taker(who))?;
         let serves = next_notice(self.alloc, number, next)?;
         done(self.alloc, serves)
     }

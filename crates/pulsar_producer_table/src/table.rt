@@ -248,17 +248,22 @@ impl Producers {
         Ok(None)
     }
 
-    /// The turn at a topic producer is over: the one who has it now, and the version of the schema.
+    /// The turn at a topic producer is over, if this is the one that has it: who has it now, and the version of the schema.
     pub(crate) fn pass_turn(
         &mut self,
         number: u64,
+        taker: Taker,
     ) -> Result<Option<(Taker, Option<Version>)>, NoMemory>
-        ensures next { IfOk result (λ r. r ≡ meaning.turn_passed ((producers_of self.old).topics number)) }
-        ensures after { OnOk result (producers_of self.new ≡ meaning.changed number topic.Passes (producers_of self.old)) }
+        ensures next { IfOk result (λ r. r ≡ meaning.turn_passed taker ((producers_of self.old).topics number)) }
+        ensures after { OnOk result (producers_of self.new
+            ≡ meaning.done_to number (meaning.passed_by taker ((producers_of self.old).topics number)) (producers_of self.old)) }
     {
         let Some(topic) = self.topics.get_mut(&number) else {
             return Ok(None);
         };
+        if !topic.seen.has_turn(taker) {
+            return Ok(None);
+        }
         match topic.seen.pass_turn() {
             Some(taker) => Ok(Some((taker, topic.seen.version()?))),
             None => Ok(None),

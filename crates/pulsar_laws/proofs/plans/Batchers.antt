@@ -1,5 +1,5 @@
 -- The plan of a topic producer is that of its batches, and does only what such a plan does.
-use Rattle.std.proofs.Common.{inl, inr, subst, ap, List, Bool, false, ◌≡◌, subst, ℕ, List, ◌∷◌, refl, Bool, true, false, Some}
+use Rattle.std.proofs.Common.{inl, inr, subst, ap, List, Bool, false, ◌≡◌, subst, ℕ, List, ◌∷◌, refl, Bool, true, false, Some, ◌∙◌}
 use Rattle.pulsar_searches.specs.declared.turn.Action.TheVariants as wish
 use Rattle.pulsar_laws.proofs.ActWords.{Action, Does, Outcome, Procedure, Producer, Starts, OfMulti}
 use Rattle.pulsar_laws.proofs.PlanWords.{action_of, Batching, Deed, Plan}

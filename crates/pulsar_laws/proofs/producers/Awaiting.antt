@@ -1,5 +1,6 @@
 -- The plan of a topic producer where it waits for what comes from others, and what it is never told.
 use Rattle.std.proofs.Common.{◌≡◌, ◌⊎◌, inl, inr, ◌∙◌, sym, ap, subst, ℕ, List, [], ◌∷◌, refl, Bool, true, false, Option, Some, None, Result, Ok}
+use Rattle.pulsar_calls.specs.declared.act.ConsumerAsk.TheVariants.{CopyFailed, CopySent, TakeCopy}
 use Rattle.pulsar_laws.proofs.ActWords.{Act, Action, Call, Consumer, Does, FailConsumer, FindConsumer, is_same, OfTopic, Outcome, PassTurn, RecallConsumer, Rest, Revive, TakeFlow, TakeNumber, ticket_of, Told, Who, Word, OfConsumer}
 use Rattle.pulsar_laws.proofs.PlanWords.{action_of, Batches, Batching, Deed, Errand, News, Plan, Sending as Send, told, Ways}
 use Rattle.pulsar_laws.proofs.RunWords.{Begins, begun_same, Cause, Entry, In, IsRun, notice, Options, Then, view, View}
@@ -20,7 +21,8 @@ use Rattle.pulsar_links.specs.LinkRules.{told_at}
 use Rattle.pulsar_calls.specs.declared.act.Outcome.TheVariants as outcome
 use Rattle.pulsar_plans.proofs.Arcs.{Arc, BatchArc, StaysSo, batch_sends, batch_takes, batches_go}
 use Rattle.pulsar_producer.proofs.Arcs.{SendArc, asks, draws, looked_makes, looks_on_asks, looks_on_gets, looks_on_waits, makes_on_asks, makes_on_gets, makes_on_waits, recalled_looks_asks, recalled_looks_gets, recalled_looks_waits, recalled_makes}
-use Rattle.pulsar_laws.specs.Laws.{IsServedAs, SaysSo, WordComes}
+use Rattle.pulsar_laws.specs.LetterCauses.{IsCopiedBy, IsServedAs}
+use Rattle.pulsar_laws.specs.Laws.{SaysSo, WordComes}
 use Rattle.pulsar_laws.proofs.calls.Causes.{IsToldBy}
 use Rattle.pulsar_laws.proofs.calls.Same.{same_self}
 use Rattle.pulsar_laws.proofs.calls.Whereabouts.{NoFind, goes_nowhere, seekers_absent}
@@ -174,6 +176,9 @@ of_consumer (OfConsumer TakeFlow) = true
 of_consumer (OfConsumer RecallConsumer) = true
 of_consumer (OfConsumer (Revive l)) = true
 of_consumer (OfConsumer (FailConsumer f)) = true
+of_consumer (OfConsumer TakeCopy) = true
+of_consumer (OfConsumer CopySent) = true
+of_consumer (OfConsumer CopyFailed) = true
 of_consumer _ = false
 
 pub says_of : (who : Who) (w : Word) (a : Action) (v : View) → SaysSo who w a v → of_consumer a ≡ true
@@ -186,6 +191,11 @@ says_of who (word.Recalled c) (OfConsumer RecallConsumer) v h = refl
 says_of who word.Lives (OfConsumer (Revive l)) v h = refl
 says_of who word.Over (OfConsumer (Revive l)) v h = refl
 says_of who word.Over (OfConsumer (FailConsumer f)) v h = refl
+says_of who (word.Letter m) (OfConsumer TakeCopy) v h = refl
+says_of who word.NoLetter (OfConsumer TakeCopy) v h = refl
+says_of who (word.Asks l request) (OfConsumer CopySent) v h = refl
+says_of who word.NoAsk (OfConsumer CopySent) v h = refl
+says_of who word.NoAsk (OfConsumer CopyFailed) v h = refl
 says_of who w a v h = absurd h
 
 pub deed_plain : (d : Deed) → of_consumer (action_of d) ≡ false
@@ -214,8 +224,11 @@ module _ (o : Options) (n : ℕ) where
       subst (λ cs. In (me n) (consumer.seekers_at (cs.rows u)) → ⊥) (sym (begun_same (λ v. v.consumers) e (view o log) refl)) (seeks_none log run.0 u)
   seeks_none (Then a ∷ log) run u = seekers_absent (me n) (view o log) a u (finds_none log a run) (seeks_none log run.0 u)
 
+  pub no_copier : (v : View) (u : ℕ) (m : Member) → IsCopiedBy v (me n) u m → ⊥
+  no_copier v u m (there, is) = let f : me n ≡ Consumer m.seen.number u m.seen.key = is in cc
+
   pub no_server : (v : View) (u : ℕ) (m : Member) → IsServedAs v (me n) u m → ⊥
-  no_server v u m (there, is) = let f : me n ≡ Consumer m.seen.number u = is in cc
+  no_server v u m (there, is) = let f : me n ≡ Consumer m.seen.number u 0 = is in cc
 
   pub no_word : (e : Entry) (older : List Entry) (w : Word) → IsRun o (e ∷ older) → WordComes o (me n) w e older → ⊥
   no_word e older w run (inl (a, is, h)) = own_plain older a (subst (λ x. IsRun o (x ∷ older)) is run) (says_of (me n) w a (view o older) h)
@@ -224,9 +237,14 @@ module _ (o : Options) (n : ℕ) where
   no_word e older w run (inr (inr (inr (inl (l, u, who, request, m, is, serves, h))))) = no_server (view o older) u m serves
   no_word e older w run (inr (inr (inr (inr (inl (q, inl (u, m, is, serves, due))))))) = no_server (view o older) u m serves
   no_word e older w run (inr (inr (inr (inr (inl (q, inr (inl (l, who, m, is, serves, due)))))))) = no_server (view o older) (ticket_of who) m serves
-  no_word e older w run (inr (inr (inr (inr (inl (q, inr (inr (who, j, said, is, same, due)))))))) =
-      let f : me n ≡ Consumer j.number (ticket_of who) = same in cc
-  no_word e older w run (inr (inr (inr (inr (inr (q, (who, i, h))))))) = seeks_none older (run_older o e older run) (ticket_of who) i
+  no_word e older w run (inr (inr (inr (inr (inl (q, inr (inr (inl (who, j, said, is, same, due))))))))) =
+      let f : me n ≡ Consumer j.number (ticket_of who) 0 = same in cc
+  no_word e older w run (inr (inr (inr (inr (inl (q, inr (inr (inr (u, d, m, settles, serves, due))))))))) = no_server (view o older) u m serves
+  no_word e older w run (inr (inr (inr (inr (inr (inl (q, (who, i, h)))))))) = seeks_none older (run_older o e older run) (ticket_of who) i
+  no_word e older w run (inr (inr (inr (inr (inr (inr (inl (q, inl (l, u, m, is, copies, due))))))))) = no_copier (view o older) u m copies
+  no_word e older w run (inr (inr (inr (inr (inr (inr (inl (q, inr (inl (u, m, is, copies, due)))))))))) = no_copier (view o older) u m copies
+  no_word e older w run (inr (inr (inr (inr (inr (inr (inl (q, inr (inr (u, d, m, settles, copies, due)))))))))) = no_copier (view o older) u m copies
+  no_word e older w run (inr (inr (inr (inr (inr (inr (inr (l, request, q, (number, u, m, is, rung, serves, due))))))))) = no_server (view o older) u m serves
 
   pub told_by_none : (e : Entry) (older : List Entry) (u : Outcome) → IsRun o (e ∷ older) → IsToldBy (me n) u e older → ⊥
   told_by_none e older u run (who, inl is) =

@@ -427,21 +427,22 @@ is_quiet_copy (copy.Handing s) = false
 is_quiet_copy (copy.Sending e s) = false
 is_quiet_copy _ = true
 
-copy_good : {w : Ways} {t : List ℕ} (s : CopyState) (u : Outcome) → is_quiet_copy s ≡ true → TurnGood (told_copy w t s u)
-copy_good copy.Resting (outcome.Word word.CopyDue) h = (tt, tt)
-copy_good copy.Resting (outcome.Word _) h = (tt, tt)
-copy_good copy.Resting _ h = (tt, tt)
-copy_good copy.Taking (outcome.Word (word.Letter m)) h = (tt, tt)
-copy_good copy.Taking (outcome.Word word.NoLetter) h = (tt, tt)
-copy_good copy.Taking (outcome.Word _) h = (tt, tt)
-copy_good copy.Taking _ h = (tt, tt)
-copy_good copy.Settling (outcome.Word (word.Asks l request)) h = (tt, tt)
-copy_good copy.Settling (outcome.Word word.NoAsk) h = (tt, tt)
-copy_good copy.Settling (outcome.Word _) h = (tt, tt)
-copy_good copy.Settling _ h = (tt, tt)
-copy_good copy.Asking u h = (tt, tt)
-copy_good (copy.Handing s) u h = absurd cc
-copy_good (copy.Sending e s) u h = absurd cc
+copy_good : (w : Ways) (t : List ℕ) (s : CopyState) (u : Outcome) → is_quiet_copy s ≡ true → TurnGood (told_copy w t s u)
+copy_good w t copy.Resting (outcome.Word word.CopyDue) h = (tt, tt)
+copy_good w t copy.Resting (outcome.Word _) h = (tt, tt)
+copy_good w t copy.Resting _ h = (tt, tt)
+copy_good w t copy.Taking (outcome.Word (word.Letter m)) h = (tt, tt)
+copy_good w t copy.Taking (outcome.Word word.NoLetter) h = (tt, tt)
+copy_good w t copy.Taking (outcome.Word _) h = (tt, tt)
+copy_good w t copy.Taking _ h = (tt, tt)
+copy_good w t copy.Settling (outcome.Word (word.Asks l request)) h = (tt, tt)
+copy_good w t copy.Settling (outcome.Word word.NoAsk) h = (tt, tt)
+copy_good w t copy.Settling (outcome.Word _) h = (tt, tt)
+copy_good w t copy.Settling _ h = (tt, tt)
+copy_good w t copy.Asking outcome.InLine h = (tt, tt)
+copy_good w t copy.Asking _ h = (tt, tt)
+copy_good w t (copy.Handing s) u h = absurd cc
+copy_good w t (copy.Sending e s) u h = absurd cc
 
 told_good : (p : Plan) (u : Outcome) → PlanGood p → GoodOutcome u → TurnGood (told p u)
 told_good (Producing w o b) u k g =
@@ -460,7 +461,7 @@ told_good (Copying w t (copy.Handing s)) u k g =
     (copy_handed w t (multi_send_told w s (multi_news_of u)) (multi_good w s (multi_news_of u) k (multi_news_good u g)))
 told_good (Copying w t (copy.Sending e s)) u k g =
     cond_so TurnGood (overrides u) _ _ tt (copy_sent w t e (produce.send_told w e s (news_of u)) (send_good w e s (news_of u) (news_good u g)))
-told_good (Copying w t s) u k g = cond_so TurnGood (overrides u) _ _ tt (copy_good s u refl)
+told_good (Copying w t s) u k g = cond_so TurnGood (overrides u) _ _ tt (copy_good w t s u refl)
 told_good p u k g = by_arcs TurnGood p u (λ q a x. arc_good x refl k) (λ v x. end_good x refl k)
 
 begun_good : {p : Procedure} {q : Plan} {a : Action} → Begun p q a → PlanGood q × ActGood a

@@ -1,11 +1,18 @@
 -- Where a topic producer waits: at one place at most. What an act brings to it comes from there, and then it waits no longer.
 use Rattle.std.specs.Prelude.{bytes_eq}
+use Rattle.pulsar_outgoing.specs.declared.multi_topic.Taker.TheVariants as taker
+use Rattle.pulsar_outgoing.specs.declared.multi_topic.MultiAsk.TheVariants as ask
+use Rattle.pulsar_outgoing.specs.declared.multi_topic.MultiAsk.{MultiAsk}
+use Rattle.pulsar_producer.specs.MultiTopic.{Seen as MultiSeen}
+use Rattle.pulsar_producer_table.specs.Takers.{who_of}
+use Rattle.pulsar_producer_table.specs.Multis.{next_on}
+use Rattle.pulsar_producer_table.specs.MultiAsks.{Around, given, removed_by, taker_notice}
 use Rattle.std.proofs.Common.{◌≡◌, ◌⊎◌, inl, inr, ◌∙◌, sym, ap, subst, ℕ, ◌+◌, ◌≤◌, ◌<◌, ◌==◌, ◌||◌, arith, List, [], ◌∷◌, ◌++◌, refl, length, map, Bool, true, false, ◌&&◌, cond, not, Option, Some, None}
 use Rattle.std.proofs.lemmas.Bool.{cases_Bool, cases_lt, eqb-true}
 use Rattle.std.specs.List.{filter_map, list_any}
 use Rattle.std.specs.Map.{lookup}
 use Rattle.std.specs.Option.{option_map, option_to_list}
-use Rattle.pulsar_laws.proofs.ActWords.{Act, Alarm, Answers, Ask, Batch, Call, CheckIdle, Comes, Does, Drains, End, Ends, FailConsumer, Flush, is_same, KeepAlive, LinkAct, Notice, OfTopic, opens, PassTurn, Polls, Producer, Reads, Retry, Revive, Rings, Shut, StopAll, Store, TakeBatch, Tell, TellAll, ToLink, turn_of, Wake, Who, OfConsumer}
+use Rattle.pulsar_laws.proofs.ActWords.{Act, Alarm, Answers, Ask, Batch, Call, CheckIdle, Comes, Does, Drains, End, Ends, FailConsumer, Flush, is_same, KeepAlive, LinkAct, Notice, OfTopic, opens, PassTurn, Polls, Producer, Reads, Retry, Revive, Rings, Shut, StopAll, Store, TakeBatch, Tell, TellAll, ToLink, turn_of, Wake, Who, OfConsumer, Redelivery, OfMulti}
 use Rattle.pulsar_laws.proofs.PlanWords.{closed_notice}
 use Rattle.pulsar_laws.proofs.RunWords.{after, causes, Each, each_map, Entry, IsRun, joins, lost_on, notice, Options, readied, ready_notice, Then, Turned, turned, turn_notice, view, View}
 use Rattle.pulsar_laws.proofs.LinkWords.{Addresses, Base, Becomes, Change, closed_by, Fault, IsOver, Pause, rings, Runs, Seat, Series, tells_asker, took_end, took_some}
@@ -31,7 +38,7 @@ use Rattle.pulsar_producer_table.specs.Producers.{is_woken, numbers_at, stored_b
 use Rattle.pulsar_producer_table.specs.declared.table.Topic.{Topic}
 use Rattle.pulsar_acts.specs.Reading.{heard_on}
 use Rattle.pulsar_acts.specs.Rules.{failed_by, failed_on, served_on, waiters_of, woken}
-use Rattle.pulsar_acts.specs.View.{base_on}
+use Rattle.pulsar_acts.specs.View.{base_on, around_multi, multi_asked_of, multi_at}
 use Rattle.pulsar_calls.specs.Order.{alone}
 use Rattle.pulsar_calls.specs.declared.act.Outcome.TheVariants as outcome
 use Rattle.pulsar_laws.specs.ProducerLaws.{rung_by, topic_acts}
@@ -44,7 +51,7 @@ use Rattle.pulsar_laws.proofs.links.Receipts.{settles_these}
 use Rattle.pulsar_laws.proofs.links.Settling.{live_rises}
 use Rattle.pulsar_laws.proofs.plans.Led.{tells_so}
 use Rattle.pulsar_laws.proofs.plans.Natures.{IsOfBatch, is_call}
-use Rattle.pulsar_laws.proofs.plans.Wording.{heard_words, is_worded, joins_words, lost_words}
+use Rattle.pulsar_laws.proofs.plans.Wording.{heard_words, is_worded, joins_words, lost_words, redelivered_words}
 use Rattle.pulsar_laws.proofs.producers.Drawing.{drawn_run}
 use Rattle.pulsar_laws.proofs.producers.Owed.{all_owed, asked_owed, brings, count, is_hard, me, note, numbers_once, one_or_none, opens_owed, other_note, others_owed, owed, rising_once, soft_owed, unasked_owed, waiters_owed, words_owed}
 use Rattle.pulsar_laws.proofs.producers.Topics.{CameFrom, acts_each, all_after, row_as}
@@ -582,6 +589,10 @@ module _ (o : Options) (n : ℕ) (log : List Entry) where
     | inr h ↦ rung_brings al false h
   ]
 
+  -- or words alone
+  rung_words : (al : Alarm) → owed n (woken v al) ≡ 0 → brings n v (Comes (Rings al)) ≡ 0
+  rung_words al z = elim (cases_Bool (rings v.now al v.alarms)) [ inl h ↦ rung_brings al true h ∙ z | inr h ↦ rung_brings al false h ]
+
   at_own : (m : ℕ) (ds : List topic.Act) → m ≡ n → cond (n == m) ds [] ≡ ds
   at_own m ds same = ap (λ z. cond (n == z) ds []) same ∙ ap (λ b. cond b ds []) (equal_self n)
 
@@ -595,6 +606,8 @@ module _ (o : Options) (n : ℕ) (log : List Entry) where
   ]
   rings_gone (Retry l) s run k = inl (none_rung (Retry l) refl)
   rings_gone (KeepAlive l) s run k = inl (none_rung (KeepAlive l) refl)
+  rings_gone (Redelivery m t) s run k =
+      inl (rung_words (Redelivery m t) (words_owed n (woken v (Redelivery m t)) (redelivered_words v.now t (v.consumers.rows t))))
   rings_gone CheckIdle s run k = inl (none_rung CheckIdle refl)
 
   worded : (a : Act) → is_worded a ≡ true → causes v a ≡ [] → brings n v a ≡ 0
@@ -603,6 +616,23 @@ module _ (o : Options) (n : ℕ) (log : List Entry) where
   passed : (m : ℕ) (r : Option (Taker × Option (List ℕ))) → owed n (option_to_list (option_map (turn_notice m) r)) ≡ 0
   passed m None = refl
   passed m (Some next) = soft_owed n (turn_notice m next ∷ []) (refl, tt)
+
+  -- whom a producer of many topics serves is no topic producer
+  taker_other : (t : Taker) → is_same (me n) (who_of t) ≡ false
+  taker_other (taker.Call t) = refl
+  taker_other (taker.Copy consumer ticket key) = refl
+
+  next_other : (t : Option Taker) → Each (λ (m : Notice). is_same (me n) m.who ≡ false) (option_to_list (option_map taker_notice t))
+  next_other None = tt
+  next_other (Some t) = (taker_other t, tt)
+
+  multi_others : (x : Around) (ask : MultiAsk) (row : Option MultiSeen) → Each (λ (m : Notice). is_same (me n) m.who ≡ false) (given x ask row).serves
+  multi_others x ask None = tt
+  multi_others x ask.PassTurn (Some s) = next_other (next_on (Some s))
+  multi_others x ask.TakeTurn (Some s) = tt
+  multi_others x (ask.Hand h) (Some s) = tt
+  multi_others x (ask.Join j) (Some s) = tt
+  multi_others x (ask.Remove topic) (Some s) = tt
 
   -- all of it
   pub gone : (a : Act) (s : Spot) → IsRun o (Then a ∷ log) → is_stop a ≡ false → IsAt n s v → Gone a s
@@ -613,8 +643,7 @@ module _ (o : Options) (n : ℕ) (log : List Entry) where
   gone (Comes (Rings al)) s run plain k = rings_gone al s run k
   gone (Comes (Polls t)) s run plain k = inl (worded (Comes (Polls t)) refl refl)
   gone (Does who (Ask l request)) s run plain k = inl (worded (Does who (Ask l request)) refl refl)
-  gone (Does who (OfConsumer (Revive l))) s run plain k = inl (worded (Does who (OfConsumer (Revive l))) refl refl)
-  gone (Does who (OfConsumer (FailConsumer f))) s run plain k = inl (worded (Does who (OfConsumer (FailConsumer f))) refl refl)
+  gone (Does who (OfConsumer ask)) s run plain k = inl (worded (Does who (OfConsumer ask)) refl refl)
   gone (Answers who verdict) s run plain k = inl (worded (Answers who verdict) refl refl)
   gone (Does who (OfTopic m (Store e))) s run plain k =
       readied_gone s (Does who (OfTopic m (Store e))) m (topic.Stores (turn_of who) e) run (λ w e. absurd cc) (λ w. refl) (omega arith)
@@ -628,6 +657,14 @@ module _ (o : Options) (n : ℕ) (log : List Entry) where
       let z = soft_owed n (joins v (Does who (Shut t)))
       (each_made (λ m. is_hard m.outcome ≡ false) closed_notice (λ u. refl) (stored_by v.producers (numbers_at (v.producers.built t)))) in
       inl (omega (arith, z))
+  gone (Does who (OfMulti m ask)) s run plain k =
+      let served : List Notice = (multi_asked_of v who m ask).serves in
+      let closed : List Notice = map closed_notice (stored_by v.producers (removed_by ask (multi_at v m))) in
+      let a = others_owed n served (multi_others (around_multi v who) ask (multi_at v m)) in
+      let b = soft_owed n closed
+      (each_made (λ m. is_hard m.outcome ≡ false) closed_notice (λ u. refl) (stored_by v.producers (removed_by ask (multi_at v m)))) in
+      let c = sum_append (note n) served closed in
+      inl (omega (arith, a, b, c))
   gone (Does who (Tell m)) s run plain k = let z = other_note n m (tell_others o log n who m run) in inl (omega (arith, z))
   gone (Does who (TellAll ns)) s run plain k = let z = others_owed n ns (all_others o log n who ns run) in inl (omega (arith, z))
   gone (Does who StopAll) s run plain k = absurd cc

@@ -1,5 +1,6 @@
 -- Tickets at a topic producer: whoever waits there, or is told what becomes of a batch, took a turn there, stored a message or flushed it.
-use Rattle.std.proofs.Common.{◌≡◌, inl, inr, sym, ap, subst, ℕ, ◌+◌, List, [], ◌∷◌, refl, map, Bool, true, false, Option, Some, None}
+use Rattle.std.proofs.Common.{◌≡◌, inl, inr, sym, ap, subst, ℕ, ◌+◌, List, [], ◌∷◌, refl, map, Bool, true, false, Option, Some, None, arith, zero, suc, ◌≤◌}
+use Rattle.pulsar_producer_table.specs.Takers.{turn_taker}
 use Rattle.pulsar_laws.proofs.ActWords.{Act, Action, Call, Consumer, Does, Flush, Notice, OfTopic, Outcome, Procedure, Producer, Store, TakeBatch, TakeTurn, TellAll, Told, Who, turn_of}
 use Rattle.pulsar_laws.proofs.PlanWords.{action_of, Batches, Batching, BuildingProducer as Build, Deed, Errand, Fate, Member, News, news_of, ProducerOrder, Plan, Sending as Send, told_to, Ways}
 use Rattle.pulsar_laws.proofs.RunWords.{Begins, Each, Entry, In, IsRun, notice, Options, rules, Then, View, view}
@@ -50,10 +51,10 @@ build_alone _ = refl
 
 -- TICKETS THAT ARE SO: those of all that was done at a topic producer. Those of turns are so, and those of what is stored.
 
--- a turn is taken by a ticket, and for no copy
+-- a turn is taken by a ticket, or for a copy of a consumer that has a key
 abbrev pub TakerSo : (ℕ → Type 0) → Taker → Type 0
 TakerSo T (taker.Call t) = T t
-TakerSo T (taker.Copy consumer ticket key) = ⊥
+TakerSo T (taker.Copy consumer ticket key) = 1 ≤ key
 
 module _ (T P : ℕ → Type 0) where
   abbrev ItemSo : Item → Type 0
@@ -106,7 +107,7 @@ module _ (T P : ℕ → Type 0) where
 
   abbrev WhoSo : Who → Type 0
   WhoSo (Call t) = P t
-  WhoSo (Consumer n t 0) = Unit {0}
+  WhoSo (Consumer n t key) = Unit {0}
   WhoSo (Producer n) = Unit {0}
 
   abbrev pub NoticeSo : Notice → Type 0
@@ -150,7 +151,7 @@ module _ (T P : ℕ → Type 0) where
   -- ALONG A LOG in which whoever uses a topic producer is so
 
   abbrev pub DoesSo : Act → Type 0
-  DoesSo (Does who (OfTopic n TakeTurn)) = T (turn_of who)
+  DoesSo (Does who (OfTopic n TakeTurn)) = TakerSo T (turn_taker who)
   DoesSo (Does who (OfTopic n (Store e))) = P (turn_of who)
   DoesSo (Does who (OfTopic n Flush)) = P (turn_of who)
   DoesSo _ = Unit {0}
@@ -249,13 +250,19 @@ module _ (T P : ℕ → Type 0) where
   stored_so o n t log row run k is i =
       in_each P t (map ticket_of row.seen.storage.items) i (items_tickets row.seen.storage.items (row_so o n log row run k is).1)
 
--- WHO WAITS HAS A TICKET
+-- WHO WAITS IS A CALL, A TOPIC PRODUCER, OR WHAT COPIES FOR A CONSUMER
 
 abbrev Any : ℕ → Type 0
 Any t = Unit {0}
 
+any_taker : (who : Who) → TakerSo Any (turn_taker who)
+any_taker (Call t) = tt
+any_taker (Consumer n t zero) = tt
+any_taker (Consumer n t (suc key)) = omega arith
+any_taker (Producer n) = tt
+
 any_does : (a : Act) → DoesSo Any Any a
-any_does (Does who (OfTopic n TakeTurn)) = tt
+any_does (Does who (OfTopic n TakeTurn)) = any_taker who
 any_does (Does who (OfTopic n (Store e))) = tt
 any_does (Does who (OfTopic n Flush)) = tt
 any_does _ = tt
@@ -265,15 +272,14 @@ any_log [] = tt
 any_log (Begins e ∷ log) = any_log log
 any_log (Then a ∷ log) = (any_does a, any_log log)
 
-pub has_ticket : (t : Taker) → TakerSo Any t → (ticket : ℕ) × (t ≡ taker.Call ticket)
-has_ticket (taker.Call ticket) so = (ticket, refl)
-has_ticket (taker.Copy consumer ticket key) so = absurd so
+abbrev pub IsUser : Taker → Type 0
+IsUser t = TakerSo Any t
 
-pub waits_by_ticket : (o : Options) (n : ℕ) (t : Taker) (log : List Entry) (row : Topic) → IsRun o log → (view o log).producers.topics n ≡ Some row →
-    In t row.seen.waiting → (ticket : ℕ) × (t ≡ taker.Call ticket)
-waits_by_ticket o n t log row run is i = has_ticket t (waits_so Any Any o n t log row run (any_log log) is i)
+pub waits_as_user : (o : Options) (n : ℕ) (t : Taker) (log : List Entry) (row : Topic) → IsRun o log → (view o log).producers.topics n ≡ Some row →
+    In t row.seen.waiting → IsUser t
+waits_as_user o n t log row run is i = waits_so Any Any o n t log row run (any_log log) is i
 
--- and so has the one to whom a turn is passed on
+-- and so is the one to whom a turn is passed on
 abbrev with_version : Option (List ℕ) → Taker → Taker × Option (List ℕ)
 with_version version t = (t, version)
 
@@ -285,8 +291,3 @@ passed_waits t version (Some row) h = (row, refl, by row.seen.waiting h)
     by : (ws : List Taker) → option_map (with_version row.seen.given.version) (first_of ws) ≡ Some (with_version version t) → In t ws
     by [] e = absurd (none_some e)
     by (w ∷ ws) e = inl (let f : with_version row.seen.given.version w ≡ with_version version t = cc in sym (ap (λ x. x.0) f))
-
-pub passes_by_ticket : (o : Options) (n : ℕ) (t : Taker) (version : Option (List ℕ)) (log : List Entry) → IsRun o log →
-    turn_passed ((view o log).producers.topics n) ≡ Some (t, version) → (ticket : ℕ) × (t ≡ taker.Call ticket)
-passes_by_ticket o n t version log run h =
-    let k = passed_waits t version ((view o log).producers.topics n) h in waits_by_ticket o n t log k.0 run k.1 k.2

@@ -191,7 +191,8 @@ abbrev NoLetter : Option Word → Type 0
 NoLetter (Some (word.Letter m)) = ⊥
 NoLetter _ = Unit {0}
 
-letter_so : (o : Options) (w : Who) (m : ProducerMessageValues) (a : Action) (older : List Entry) → Cause o w (outcome.Word (word.Letter m)) (Then (Does w a)) older →
+letter_so : (o : Options) (w : Who) (m : ProducerMessageValues) (a : Action) (older : List Entry) →
+    Cause o w (outcome.Word (word.Letter m)) (Then (Does w a)) older →
     (a ≡ OfConsumer TakeCopy) × (consumer.letter_at ((view o older).consumers.rows (ticket_of w)) ≡ Some m)
 letter_so o w m a older (inl (OfConsumer TakeCopy, is, said)) = ((let e : a ≡ OfConsumer TakeCopy = cc in e), said)
 letter_so o w m a older (inl (action, is, said)) = absurd said
@@ -242,6 +243,7 @@ asked_by_receipt o log older w l r run b there =
     )
   where
     same : (n t key : ℕ) → w ≡ Consumer n t key → {now then : List Entry} → now ≡ then →
-        consumer.ack_for (key_of w) ((view o now).consumers.rows (ticket_of w)) ≡ Some (l, r) → consumer.ack_for key ((view o then).consumers.rows t) ≡ Some (l, r)
+        consumer.ack_for (key_of w) ((view o now).consumers.rows (ticket_of w)) ≡ Some (l, r) →
+        consumer.ack_for key ((view o then).consumers.rows t) ≡ Some (l, r)
     same n t key is {now} {then} e h =
         sym (λ i. consumer.ack_for (key_of (is i)) ((view o (e i)).consumers.rows (ticket_of (is i)))) ∙ h

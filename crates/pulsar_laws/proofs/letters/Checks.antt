@@ -157,7 +157,8 @@ module _ (once : EndsOnce) (o : Options) (n t : ℕ) where
 -- THE LAW
 
 -- what is in a step is so of a run
-in_run : (o : Options) (P : Entry → List Entry → Type 0) (log : List Entry) → IsRun o log → InThisStep P log → InThisStep (λ e older. P e older × IsRun o older) log
+in_run : (o : Options) (P : Entry → List Entry → Type 0) (log : List Entry) → IsRun o log → InThisStep P log →
+    InThisStep (λ e older. P e older × IsRun o older) log
 in_run o P [] run i = i
 in_run o P (Begins e ∷ log) run i = (i, run.0)
 in_run o P (Then a ∷ log) run (inl i) = inl (i, run.0)

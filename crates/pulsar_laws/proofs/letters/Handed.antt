@@ -264,7 +264,8 @@ module _ (o : Options) (n t key : ℕ) where
       let r : IsRun o (Then (Told (notice who k.outcome)) ∷ k.older) = subst (IsRun o) k.is_there run.0 in
       let was : Every Good k.older = (subst (Every Good) k.is_there good).1 in
       let letter : Option ProducerMessageValues = letter_told who k.older in
-      let x = arc_hands letter (started who k.older) {p = k.before} {q = k.plan} {u = k.outcome} (told_arc k.leads) refl (here Good k.older was k.before k.stood) in
+      let x = arc_hands letter (started who k.older) {p = k.before} {q = k.plan} {u = k.outcome} (told_arc k.leads) refl
+      (here Good k.older was k.before k.stood) in
       let told : letter_told who log ≡ letter =
       ap (letter_told who) k.is_there
       ∙ ap (λ b. cond b (later k.outcome letter) letter) (same_self who)

@@ -91,7 +91,7 @@ use Rattle.pulsar_producer.specs.MultiTopic as multi
 use Rattle.pulsar_producer.specs.MultiTopic.{found, is_free, order_for}
 use Rattle.pulsar_producer.specs.Producer as producer
 use Rattle.pulsar_producer_table.specs.Multis.{next_on, topic_numbers, waiting}
-use Rattle.pulsar_producer_table.specs.Takers.{who_at, who_of}
+use Rattle.pulsar_producer_table.specs.Takers.{turn_taker, who_at, who_of}
 use Rattle.pulsar_run.specs.Laws as run
 use Rattle.pulsar_session.specs.Link as session
 use Rattle.pulsar_outgoing.specs.declared.news.News.TheVariants as news
@@ -460,7 +460,7 @@ WordComes o who w e older =
 abbrev pub GetsTurn : Options → Who → News → Entry → List Entry → Type 0
 GetsTurn o who n e older =
     (other : Who) × (number : ℕ) × (t : Taker) × (version : Option (List ℕ)) × (e ≡ Then (Does other (OfTopic number PassTurn))) × (who ≡ who_at number t)
-    × (n ≡ news.HasTurn version) × (turn_passed ((view o older).producers.topics number) ≡ Some (t, version))
+    × (n ≡ news.HasTurn version) × (turn_passed (turn_taker other) ((view o older).producers.topics number) ≡ Some (t, version))
 
 -- What it asks of a producer of many topics is said at once: the turn, which nobody has; how the producer of a topic takes a message, by what its policy
 -- says of that, or refuses it; that there is no such producer, and how it is built; the topic producers of one that is removed; or nothing more.

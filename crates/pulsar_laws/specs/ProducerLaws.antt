@@ -367,16 +367,25 @@ abbrev pub AreBehind : Taker → List Taker → Type 0
 AreBehind (taker.Call t) left = AreAbove t (tickets left)
 AreBehind (taker.Copy consumer ticket key) left = Unit {0}
 
--- The turn is passed on by the one that has it, to the lowest ticket of those that wait, which is told so.
+-- a plan that serves a consumer, or copies its dead letters
+abbrev pub is_consumer : Who → Bool
+is_consumer (Call ticket) = false
+is_consumer (Consumer number ticket key) = true
+is_consumer (Producer number) = false
+
+-- The turn is passed on by the one that has it, to the lowest ticket of those that wait, which is told so. Calls, and the batches of topic
+-- producers, pass on none but their own; where the copy of a dead letter would, nothing is changed, and nobody is told.
 abbrev pub PassedInTurn : Type 0
 PassedInTurn = (o : Options) (log : List Entry) (who : Who) (n : ℕ) → IsRun o (Then (Does who (OfTopic n PassTurn)) ∷ log) →
-    (row : Topic) × ((view o log).producers.topics n ≡ Some row) × (row.seen.holder ≡ Some (turn_taker who))
+    (((row : Topic) × ((view o log).producers.topics n ≡ Some row) × (row.seen.holder ≡ Some (turn_taker who))
     × ((next : Taker) (left : List Taker) → row.seen.waiting ≡ next ∷ left → AreBehind next left
-    × In (notice (who_at n next) (outcome.Granted (news.HasTurn row.seen.given.version))) (joins (view o log) (Does who (OfTopic n PassTurn))))
+    × In (notice (who_at n next) (outcome.Granted (news.HasTurn row.seen.given.version))) (joins (view o log) (Does who (OfTopic n PassTurn)))))
+    ⊎ ((is_consumer who ≡ true) × (joins (view o log) (Does who (OfTopic n PassTurn)) ≡ [])
+    × ((m : ℕ) → (view o (Then (Does who (OfTopic n PassTurn)) ∷ log)).producers.topics m ≡ (view o log).producers.topics m)))
 
--- One that is told that its turn has come has it, if it waits for it still.
+-- One that is told that its turn has come has it, if it waits for it still: a call, or the batches of a topic producer.
 abbrev pub ToldInTurn : Type 0
-ToldInTurn = (o : Options) (log : List Entry) (who : Who) (n : ℕ) (version : Option (List ℕ)) (p : Plan) →
+ToldInTurn = (o : Options) (log : List Entry) (who : Who) (n : ℕ) (version : Option (List ℕ)) (p : Plan) → is_consumer who ≡ false →
     IsRun o (Then (Told (notice who (outcome.Granted (news.HasTurn version)))) ∷ log) → (view o log).stand who ≡ Some p → turn_of p ≡ Some n →
     HasTurn (view o log) who n
 

@@ -24,7 +24,7 @@ use Rattle.pulsar_links.specs.LinkRules.{answered_by, answered_on, dropped, ende
 use Rattle.pulsar_producer_table.specs.Notices.{stopped_call, stopped_takers}
 use Rattle.pulsar_acts.specs.View.{around_multi, multi_asked_of, multi_at, pause_for, pause_of, ways_of}
 use Rattle.pulsar_calls.specs.Who.{key_of}
-use Rattle.pulsar_producer_table.specs.Takers.{taker_of, who_of}
+use Rattle.pulsar_producer_table.specs.Takers.{taker_of, turn_taker, who_of}
 use Rattle.pulsar_outgoing.specs.declared.multi_topic.Handing.{Handing}
 use Rattle.pulsar_outgoing.specs.declared.multi_topic.Joining.{Joining as MultiJoining}
 use Rattle.pulsar_outgoing.specs.declared.multi_topic.Multi.{Multi}
@@ -330,7 +330,7 @@ module _ (o : Options) (who : Who) (u : Outcome) (older : List Entry) where
 
   -- ONE JOINS
 
-  passed_caused : (w : Who) (n : ℕ) (row : Option (Taker × Option (List ℕ))) → turn_passed (v.producers.topics n) ≡ row →
+  passed_caused : (w : Who) (n : ℕ) (row : Option (Taker × Option (List ℕ))) → turn_passed (turn_taker w) (v.producers.topics n) ≡ row →
       In it (option_to_list (option_map (turn_notice n) row)) → Cause o who u (Then (Does w (OfTopic n PassTurn))) older
   passed_caused w n None e h = absurd h
   passed_caused w n (Some next) e (inr h) = absurd h
@@ -401,7 +401,7 @@ module _ (o : Options) (who : Who) (u : Outcome) (older : List Entry) where
       ]
 
   joins_caused : (b : Act) → IsRun o (Then b ∷ older) → In it (joins v b) → Cause o who u (Then b) older
-  joins_caused (Does w (OfTopic n PassTurn)) run h = passed_caused w n (turn_passed (v.producers.topics n)) refl h
+  joins_caused (Does w (OfTopic n PassTurn)) run h = passed_caused w n (turn_passed (turn_taker w) (v.producers.topics n)) refl h
   joins_caused (Does w (OfMulti m ask)) run h = multi_joins w m ask h
   joins_caused (Does w (OfTopic n (Store entry))) run h =
       readied_caused n (topic.Stores (turn_of w) entry) (Then (Does w (OfTopic n (Store entry)))) (w, refl, refl) h

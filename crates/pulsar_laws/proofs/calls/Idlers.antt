@@ -24,7 +24,7 @@ use Rattle.pulsar_outgoing.specs.declared.multi_topic.MultiAsk.TheVariants.{Take
 use Rattle.pulsar_outgoing.specs.declared.multi_topic.MultiSaid.{MultiSaid}
 use Rattle.pulsar_outgoing.specs.declared.multi_topic.MultiSaid.TheVariants as said
 use Rattle.pulsar_outgoing.specs.declared.multi_topic.Taker.{Taker}
-use Rattle.pulsar_producer_table.specs.Takers.{who_at, who_of}
+use Rattle.pulsar_producer_table.specs.Takers.{turn_taker, who_at, who_of}
 use Rattle.pulsar_producer_table.specs.Producers.{stored_at}
 use Rattle.pulsar_calls.specs.Who.{behind_all, in_turn}
 use Rattle.pulsar_laws.proofs.calls.Caused.{outcomes_are_caused_lem}
@@ -36,7 +36,7 @@ use Rattle.pulsar_laws.proofs.calls.Sources.{step_some}
 use Rattle.pulsar_laws.proofs.calls.Whereabouts.{ApartBy, Asker, Away, NoFind, Somewhere, begun_there, goes_nowhere, moment_none, not_among, seekers_absent, then_there}
 use Rattle.pulsar_laws.proofs.plans.Spots.{same_self}
 use Rattle.pulsar_laws.proofs.calls.Begun.{has_begun}
-use Rattle.pulsar_laws.proofs.producers.Users.{DoesSo, LogSo, NoticeSo, TakerSo, passed_waits, stored_so, tells_so, waits_so}
+use Rattle.pulsar_laws.proofs.producers.Users.{DoesSo, LogSo, NoticeSo, TakerSo, as_taker, passed_waits, stored_so, tells_so, waits_so}
 use Rattle.pulsar_calls.specs.declared.act.Word.TheVariants as word
 use Rattle.pulsar_consumer_table.specs.Consumers as consumer
 use Rattle.pulsar_consumer_table.specs.Consumers.{Member}
@@ -136,7 +136,7 @@ turn_other t (Producer n) unspent other e = let f : false ≡ true = sym unspent
 
 mute_does : (t : ℕ) → is_spent t ≡ false → (a : Act) → MuteBy t a → DoesSo (Other t) (Other t) a
 mute_does t unspent (Does who (OfTopic n TakeTurn)) mute =
-    turn_other t who unspent (other_does t who (OfTopic n TakeTurn) mute (λ e. (let no : OfTopic n TakeTurn ≡ Rest = e in cc)))
+    as_taker (Other t) who (turn_other t who unspent (other_does t who (OfTopic n TakeTurn) mute (λ e. (let no : OfTopic n TakeTurn ≡ Rest = e in cc))))
 mute_does t unspent (Does who (OfTopic n (Store x))) mute =
     turn_other t who unspent (other_does t who (OfTopic n (Store x)) mute (λ e. (let no : OfTopic n (Store x) ≡ Rest = e in cc)))
 mute_does t unspent (Does who (OfTopic n Flush)) mute =
@@ -145,7 +145,8 @@ mute_does t unspent _ mute = tt
 
 -- and one that is idle takes no turn
 idle_does : (t : ℕ) → is_spent t ≡ false → (a : Act) → IdleBy t a → DoesSo (Other t) (λ u. Unit {0}) a
-idle_does t unspent (Does who (OfTopic n TakeTurn)) idle = turn_other t who unspent (other_idle t who (OfTopic n TakeTurn) idle refl)
+idle_does t unspent (Does who (OfTopic n TakeTurn)) idle =
+    as_taker (Other t) who (turn_other t who unspent (other_idle t who (OfTopic n TakeTurn) idle refl))
 idle_does t unspent _ idle = tt
 
 pub idle_log : (t : ℕ) → is_spent t ≡ false → (log : List Entry) → Idle t log → LogSo (Other t) (λ u. Unit {0}) log
@@ -202,7 +203,7 @@ no_grant _ v h = h
 pub no_turn_given : (P : ℕ → Type 0) (o : Options) (t : ℕ) (e : Entry) (older : List Entry) → IsRun o older → LogSo (Other t) P older → (n : News) →
     GetsTurn o (Call t) n e older → ⊥
 no_turn_given P o t e older run others n (other, number, turn, version, is, same, d, next) =
-    let k = passed_waits turn version ((view o older).producers.topics number) next in
+    let k = passed_waits (turn_taker other) turn version ((view o older).producers.topics number) next in
     no_turn t number turn (waits_so (Other t) P o number turn older k.0 run others k.1 k.2) same
 
 no_find : (l : ℕ) (a : Action) (v : View) → is_idle a ≡ true → Finds l a v → ⊥

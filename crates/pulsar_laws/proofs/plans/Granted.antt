@@ -34,7 +34,7 @@ use Rattle.pulsar_producer.specs.MultiTopic as multi
 use Rattle.pulsar_producer_table.specs.MultiAsks as of_multi
 use Rattle.pulsar_producer_table.specs.MultiAsks.{removed_by, taker_notice}
 use Rattle.pulsar_producer_table.specs.Multis.{next_on, waiting as multis_waiting}
-use Rattle.pulsar_producer_table.specs.Takers.{who_of}
+use Rattle.pulsar_producer_table.specs.Takers.{turn_taker, who_of}
 use Rattle.pulsar_consumer_table.specs.Notices.{redelivered_at}
 use Rattle.pulsar_acts.specs.View.{around_multi, multi_at}
 use Rattle.pulsar_calls.specs.declared.act.Alarm.TheVariants.{Redelivery}
@@ -452,7 +452,7 @@ worded : (v : View) (a : Act) → is_worded a ≡ true → Each IsCaused (joins 
 worded v a h = words_free (joins v a) (joins_words v a h)
 
 pub joins_so : (o : Options) (log : List Entry) (a : Act) → IsRun o (Then a ∷ log) → Each (JoinSo a) (joins (view o log) a)
-joins_so o log (Does who (OfTopic n PassTurn)) run = passed_so n (turn_passed ((view o log).producers.topics n))
+joins_so o log (Does who (OfTopic n PassTurn)) run = passed_so n (turn_passed (turn_taker who) ((view o log).producers.topics n))
 joins_so o log (Does who (OfTopic n (Store entry))) run = readied_so n (topic.Stores (turn_of who) entry) ((view o log).producers.topics n)
 joins_so o log (Does who (OfTopic n Flush)) run = readied_so n (topic.Flushes (turn_of who)) ((view o log).producers.topics n)
 joins_so o log (Does who (OfMulti m ask)) run = multi_joins (view o log) who m ask

@@ -2,8 +2,8 @@
 use Rattle.std.proofs.Common.{◌≡◌, ◌⊎◌, inl, inr, ◌∙◌, sym, ap, subst, ℕ, ◌+◌, ◌≤◌, ◌==◌, arith, List, ◌∷◌, refl, Bool, true, false, cond, Option, Some, None}
 use Rattle.std.proofs.lemmas.Bool.{cases_Bool, eqb-true}
 use Rattle.std.proofs.lemmas.Bool.Decides.{nat_tests}
-use Rattle.pulsar_laws.proofs.ActWords.{Action, Call, Consumer, Does, OfTopic, Outcome, PassTurn, Procedure, Producer, Rest, Share, Starts, TakeTurn, Told, Who, is_same, turn_of as taken_as}
-use Rattle.pulsar_laws.proofs.PlanWords.{Batches, Batching, begins, Errand, Gives, Leaving, Member, Plan, PlanTransition, Reporting, Sending as Send, Stays, told, Visiting, Ways}
+use Rattle.pulsar_laws.proofs.ActWords.{Action, Call, Consumer, Does, OfTopic, Outcome, PassTurn, Procedure, Producer, Rest, Share, Starts, TakeTurn, Told, Who, is_same}
+use Rattle.pulsar_laws.proofs.PlanWords.{Batches, Batching, begins, Copying, Errand, Gives, Leaving, Member, Plan, PlanTransition, Reporting, Sending as Send, Stays, told, Visiting, Ways}
 use Rattle.pulsar_laws.proofs.RunWords.{counted, Entry, In, IsRun, notice, Options, start_of, started, stays, stays_some, Then, told_some, view}
 use Rattle.pulsar_messages.specs.Claims.{is_spent}
 use Rattle.pulsar_outgoing.specs.declared.multi_topic.Taker.TheVariants as taker
@@ -15,7 +15,7 @@ use Rattle.pulsar_plans.specs.declared.plan.Plan.TheVariants.{Sending}
 use Rattle.pulsar_producer_table.specs.declared.table.Topic.{Topic}
 use Rattle.pulsar_laws.proofs.Cases.{none_some}
 pub use Rattle.pulsar_laws.proofs.plans.Standing.{stood_begun}
-use Rattle.pulsar_laws.specs.ProducerLaws.{HasTurn, turn_in, turn_of}
+use Rattle.pulsar_laws.specs.ProducerLaws.{HasTurn, is_consumer, turn_in, turn_of}
 use Rattle.pulsar_calls.specs.Who.{behind_all}
 use Rattle.pulsar_laws.proofs.producers.BatchRun.{Batched, batched_run}
 use Rattle.pulsar_laws.proofs.producers.Drawing.{Every, began_on, here}
@@ -28,8 +28,9 @@ use Rattle.pulsar_laws.proofs.calls.Once.{ends_once_lem}
 use Rattle.pulsar_laws.proofs.plans.Owned.{starts_own}
 use Rattle.pulsar_laws.proofs.calls.Begun.{has_begun}
 use Rattle.pulsar_laws.proofs.producers.Turns.{pend_kept, pending}
-use Rattle.pulsar_laws.proofs.plans.Servers.{server_does}
-use Rattle.pulsar_laws.proofs.plans.Consuming.{is_modest}
+use Rattle.pulsar_producer_table.specs.Takers.{turn_taker}
+use Rattle.pulsar_plans.specs.declared.copying.CopyState.{CopyState}
+use Rattle.pulsar_plans.specs.declared.copying.CopyState.TheVariants as copy
 use Rattle.pulsar_laws.proofs.calls.Same.{same_self}
 
 -- one that waits for the turn of this topic producer, or is past all turns
@@ -284,8 +285,8 @@ pub record IsPassing (o : Options) (log : List Entry) (who : Who) (n : ℕ) : Ty
   pub has : HasTurn (view o log) who n
   pub none_pends : pending o log who ≡ 0
   -- it is the one of its turn
-  pub is_own : (u : ℕ) → IsTicket u → u ≡ taken_as who → Call u ≡ who
-  pub is_producer : taken_as who ≡ behind_all → who ≡ Producer n
+  pub is_own : (u : ℕ) → IsTicket u → turn_taker who ≡ taker.Call u → Call u ≡ who
+  pub is_producer : turn_taker who ≡ taker.Call behind_all → who ≡ Producer n
 
 pub holds_none : (p : Plan) (n : ℕ) → holds p ≡ Some n → (turn_of p ≡ None) × (is_leaving p ≡ false)
 holds_none (Sending w e share s) n h = sending share s h
@@ -312,6 +313,15 @@ holds_none (Batching w e b) n h = batches b h
     batches : (b : Batches) → holds (Batching w e b) ≡ Some n → (turn_of (Batching w e b) ≡ None) × (is_leaving (Batching w e b) ≡ false)
     batches (batching.Sending ms c s) h = sends ms c s h
     batches _ h = absurd (none_some h)
+holds_none (Copying w t s) n h = copies s h
+  where
+    sends : (e : Errand) (s : Send) → holds_in e s ≡ Some n → (turn_in e s ≡ None) × (false ≡ false)
+    sends e (send.Waiting m) h = absurd (none_some h)
+    sends e _ h = (refl, refl)
+
+    copies : (s : CopyState) → holds (Copying w t s) ≡ Some n → (turn_of (Copying w t s) ≡ None) × (is_leaving (Copying w t s) ≡ false)
+    copies (copy.Sending e s) h = sends e s h
+    copies _ h = absurd (none_some h)
 holds_none _ n h = absurd cc
 
 pub not_all : (t : ℕ) → IsTicket t → t ≡ behind_all → ⊥
@@ -337,8 +347,8 @@ call_passing o log t n k run = elim (does_from o log (Call t) (OfTopic n PassTur
           no_more = g.passes.1;
           has = older.held t n l.before l.stood g.passes.0;
           none_pends = (clear_told o l.older t l.outcome r (clear_at o l.older r.0 older t l.before l.stood none.0 none.1)).none_pends;
-          is_own = λ u x y. ap Call y;
-          is_producer = λ y. absurd (not_all t (stood_ticket o l.older t l.before r.0 l.stood) y);
+          is_own = λ u x y. (let f : t ≡ u = cc in ap Call (sym f));
+          is_producer = λ y. (let f : t ≡ behind_all = cc in absurd (not_all t (stood_ticket o l.older t l.before r.0 l.stood) f));
         })
 
 own_passing : (o : Options) (log : List Entry) (m n : ℕ) → Every (AllTurns o) log → IsRun o (Then (Does (Producer m) (OfTopic n PassTurn)) ∷ log) →
@@ -358,12 +368,12 @@ own_passing o log m n k run =
       no_more = g.passes.1;
       has = subst (HasTurn (view o l.older) (Producer m)) (sym number) was.0;
       none_pends = omega (arith, p, z);
-      is_own = λ u x y. absurd (not_all u x y);
+      is_own = λ u x y. (let f : behind_all ≡ u = cc in absurd (not_all u x (sym f)));
       is_producer = λ y. ap Producer (sym number);
     })
 
-pub passing : (o : Options) (log : List Entry) (who : Who) (n : ℕ) → Every (AllTurns o) log → IsRun o (Then (Does who (OfTopic n PassTurn)) ∷ log) →
-    IsPassing o log who n
-passing o log (Call t) n k run = call_passing o log t n k run
-passing o log (Consumer m t key) n k run = (let f : is_modest (OfTopic n PassTurn) ≡ true = server_does o log m t (OfTopic n PassTurn) run in absurd cc)
-passing o log (Producer m) n k run = own_passing o log m n k run
+pub passing : (o : Options) (log : List Entry) (who : Who) (n : ℕ) → is_consumer who ≡ false → Every (AllTurns o) log →
+    IsRun o (Then (Does who (OfTopic n PassTurn)) ∷ log) → IsPassing o log who n
+passing o log (Call t) n h k run = call_passing o log t n k run
+passing o log (Consumer m t key) n h k run = absurd cc
+passing o log (Producer m) n h k run = own_passing o log m n k run

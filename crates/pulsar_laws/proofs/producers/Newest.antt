@@ -1,4 +1,6 @@
 -- The version that one is told with its turn is that with which the topic producer was made last.
+use Rattle.pulsar_laws.proofs.producers.Topics.{is_passed}
+use Rattle.pulsar_producer_table.specs.Takers.{turn_taker}
 use Rattle.std.proofs.Common.{◌≡◌, ◌⊎◌, inl, inr, ◌∙◌, sym, ap, subst, ℕ, List, ◌∷◌, refl, Bool, true, false, cond, Option, Some, None}
 use Rattle.std.specs.Option.{is_none, option_map}
 use Rattle.pulsar_laws.proofs.ActWords.{Does, Notice, OfTopic, Outcome, PassTurn, TakeTurn, Who}
@@ -43,10 +45,10 @@ module _ (o : Options) (who : Who) (version : Option (List ℕ)) where
 
   -- or passed on
   passed : (older : List Entry) (other : Who) (n : ℕ) (turn : Taker) (new : Option (List ℕ)) (row : Option Topic) → (view o older).producers.topics n ≡ row →
-      turn_passed row ≡ Some (turn, new) → new ≡ version → Tells (Then (Does other (OfTopic n PassTurn))) older
+      turn_passed (turn_taker other) row ≡ Some (turn, new) → new ≡ version → Tells (Then (Does other (OfTopic n PassTurn))) older
   passed older other n turn new None h g same = absurd (none_some g)
   passed older other n turn new (Some t) h g same =
-      (n, t.seen.link, t.seen.given, as_made_last_lem o older n t h, by (next_holder t.seen) g ∙ same, inr (other, refl))
+      (n, t.seen.link, t.seen.given, as_made_last_lem o older n t h, by (next_holder t.seen) (is_passed (turn_taker other) t (turn, new) g) ∙ same, inr (other, refl))
     where
       by : (next : Option Taker) → option_map {U = Taker × Option (List ℕ)} (λ taker. (taker, t.seen.given.version)) next ≡ Some (turn, new) →
           t.seen.given.version ≡ new

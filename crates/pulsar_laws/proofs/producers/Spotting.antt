@@ -4,7 +4,7 @@ use Rattle.pulsar_outgoing.specs.declared.multi_topic.Taker.TheVariants as taker
 use Rattle.pulsar_outgoing.specs.declared.multi_topic.MultiAsk.TheVariants as ask
 use Rattle.pulsar_outgoing.specs.declared.multi_topic.MultiAsk.{MultiAsk}
 use Rattle.pulsar_producer.specs.MultiTopic.{Seen as MultiSeen}
-use Rattle.pulsar_producer_table.specs.Takers.{who_of}
+use Rattle.pulsar_producer_table.specs.Takers.{turn_taker, who_of}
 use Rattle.pulsar_producer_table.specs.Multis.{next_on}
 use Rattle.pulsar_producer_table.specs.MultiAsks.{Around, given, removed_by, taker_notice}
 use Rattle.std.proofs.Common.{◌≡◌, ◌⊎◌, inl, inr, ◌∙◌, sym, ap, subst, ℕ, ◌+◌, ◌≤◌, ◌<◌, ◌==◌, ◌||◌, arith, List, [], ◌∷◌, ◌++◌, refl, length, map, Bool, true, false, ◌&&◌, cond, not, Option, Some, None}
@@ -651,7 +651,7 @@ module _ (o : Options) (n : ℕ) (log : List Entry) where
   gone (Does who (OfTopic m Flush)) s run plain k =
       readied_gone s (Does who (OfTopic m Flush)) m (topic.Flushes (turn_of who)) run (λ w e. absurd cc) (λ w. refl) (omega arith)
       (λ same. at_own m (topic.Flushes (turn_of who) ∷ []) same) k
-  gone (Does who (OfTopic m PassTurn)) s run plain k = let z = passed m (turn_passed (v.producers.topics m)) in inl (omega (arith, z))
+  gone (Does who (OfTopic m PassTurn)) s run plain k = let z = passed m (turn_passed (turn_taker who) (v.producers.topics m)) in inl (omega (arith, z))
   gone (Does who (OfTopic m _)) s run plain k = inl refl
   gone (Does who (Shut t)) s run plain k =
       let z = soft_owed n (joins v (Does who (Shut t)))

@@ -1,17 +1,19 @@
 -- A topic producer is what the acts on it made of it since it was built.
-use Rattle.std.proofs.Common.{◌≡◌, ◌⊎◌, inl, inr, ◌∙◌, sym, ap, ℕ, ◌==◌, List, [], ◌∷◌, ◌++◌, refl, false, Option, Some, None, subst}
+use Rattle.std.proofs.Common.{◌≡◌, ◌⊎◌, inl, inr, ◌∙◌, sym, ap, ℕ, ◌==◌, List, [], ◌∷◌, ◌++◌, refl, Bool, true, false, cond, Option, Some, None, subst}
 use Rattle.pulsar_producer_table.specs.Takers.{turn_taker}
 use Rattle.std.proofs.lemmas.Bool.{eqb-true}
 use Rattle.pulsar_laws.proofs.ActWords.{Act, Batch, Comes, Does, Draw, Flush, OfMulti, OfTopic, PassTurn, Remake, Rings, Shut, StopAll, Store, TakeBatch, TakeTurn, Who, turn_of, TopicAsk}
 use Rattle.pulsar_laws.proofs.RunWords.{chosen_same, Entry, IsRun, Options, room_of, Then, view, View, In, rules, Each, each_append, each_either, each_map, each_when}
 use Rattle.pulsar_laws.proofs.LinkWords.{rings}
 use Rattle.pulsar_producer.specs.Topic as topic
-use Rattle.pulsar_producer.specs.Topic.{Act as Deed, Closes, Halts, Seen, Setup, Passes, Draws, Remakes, Stores, Cuts, TakesBatch, Takes, Flushes}
+use Rattle.pulsar_producer.specs.Topic.{Act as Deed, Closes, Halts, Seen, has_turn, Setup, Passes, Draws, Remakes, Stores, Cuts, TakesBatch, Takes, Flushes}
+use Rattle.pulsar_outgoing.specs.declared.multi_topic.Taker.{Taker}
 use Rattle.pulsar_outgoing.specs.declared.multi_topic.Taker.TheVariants as taker
+use Rattle.pulsar_laws.proofs.Cases.{none_some}
 use Rattle.pulsar_calls.specs.declared.content.Remaking.{Remaking}
 use Rattle.pulsar_outgoing.specs.declared.storage.Limits.{Limits}
 use Rattle.pulsar_producer_table.specs.declared.table.Topic.{Topic}
-use Rattle.pulsar_producer_table.specs.Producers.{numbers_at, topic_after}
+use Rattle.pulsar_producer_table.specs.Producers.{next_turn, numbers_at, passed_by, topic_after, turn_passed}
 use Rattle.pulsar_laws.specs.ProducerLaws.{TopicsAlone, acts_on, drawn_by, rung_by, shut_by, topic_acts}
 use Rattle.pulsar_acts.specs.View as seen
 use Rattle.pulsar_laws.proofs.producers.Drawing.{Every, Drawn, joins_new, born_joins, topics_keep}
@@ -90,6 +92,14 @@ pub in_since : (it : Deed) (born : Option Topic) (es past : List Deed) → In it
 in_since it None es past i = i
 in_since it (Some t) es past i = absurd i
 
+-- who has the turn next, where one passes its own on
+pub is_passed : (who : Taker) (row : Topic) (next : Taker × Option (List ℕ)) → turn_passed who (Some row) ≡ Some next → next_turn row ≡ Some next
+is_passed who row next h = by (has_turn who row.seen) h
+  where
+    by : (b : Bool) → cond b (next_turn row) None ≡ Some next → next_turn row ≡ Some next
+    by true e = e
+    by false e = absurd (none_some e)
+
 -- WHAT WAS DONE TO ONE, AND BY WHICH ACT
 
 abbrev pub CameFrom : (number : ℕ) → Act → Deed → Type 0
@@ -106,7 +116,11 @@ CameFrom n a Halts = (who : Who) × (a ≡ Does who StopAll)
 
 ask_came : (v : View) (who : Who) (n : ℕ) (ask : TopicAsk) → Each (CameFrom n (Does who (OfTopic n ask))) (asked_of v who n ask).acts
 ask_came v who n TakeTurn = ((who, refl, refl), tt)
-ask_came v who n PassTurn = ((who, refl), tt)
+ask_came v who n PassTurn = passed (v.producers.topics n)
+  where
+    passed : (row : Option Topic) → Each (CameFrom n (Does who (OfTopic n PassTurn))) (passed_by (turn_taker who) row)
+    passed None = tt
+    passed (Some t) = each_either (CameFrom n (Does who (OfTopic n PassTurn))) (has_turn (turn_taker who) t.seen) (Passes ∷ []) [] ((who, refl), tt) tt
 ask_came v who n Draw = elim (room_of v n) as (λ r. Each (CameFrom n (Does who (OfTopic n Draw))) (drawn_by r)) [ None ↦ tt | Some room ↦ ((who, refl), tt) ]
 ask_came v who n (Remake r) = ((who, r, refl, refl, refl), tt)
 ask_came v who n (Store e) = ((who, refl, refl), tt)

@@ -1,5 +1,7 @@
 -- Tickets at a topic producer: whoever waits there, or is told what becomes of a batch, took a turn there, stored a message or flushed it.
-use Rattle.std.proofs.Common.{◌≡◌, inl, inr, sym, ap, subst, ℕ, ◌+◌, List, [], ◌∷◌, refl, map, Bool, true, false, Option, Some, None, arith, zero, suc, ◌≤◌}
+use Rattle.std.proofs.Common.{◌≡◌, inl, inr, sym, ap, subst, ℕ, ◌+◌, ◌==◌, List, [], ◌∷◌, refl, map, Bool, true, false, cond, Option, Some, None, arith, ◌≤◌}
+use Rattle.std.proofs.lemmas.Bool.Decides.{nat_tests}
+use Rattle.pulsar_calls.specs.Who.{behind_all}
 use Rattle.pulsar_producer_table.specs.Takers.{turn_taker}
 use Rattle.pulsar_laws.proofs.ActWords.{Act, Action, Call, Consumer, Does, Flush, Notice, OfTopic, Outcome, Procedure, Producer, Store, TakeBatch, TakeTurn, TellAll, Told, Who, turn_of}
 use Rattle.pulsar_laws.proofs.PlanWords.{action_of, Batches, Batching, BuildingProducer as Build, Deed, Errand, Fate, Member, News, news_of, ProducerOrder, Plan, Sending as Send, told_to, Ways}
@@ -22,7 +24,9 @@ use Rattle.pulsar_run.specs.Things.{along}
 use Rattle.pulsar_run.proofs.Things.{holds_along}
 use Rattle.pulsar_acts.specs.Things.{topics}
 use Rattle.pulsar_laws.proofs.Lists.{each_along, in_each}
-use Rattle.pulsar_plans.proofs.Arcs.{BatchArc, batch_sends, batch_settles, begun_arc, taken_settles, taken_starts, told_arc, Arc, Begun, batch_cuts, batches_go, begins_build, builds_on, part_sends, sends}
+use Rattle.pulsar_plans.proofs.Arcs.{BatchArc, batch_sends, batch_settles, begun_arc, taken_settles, taken_starts, told_arc, Arc, Begun, batch_cuts, batches_go, begins_build, builds_on, copies_go, multi_goes, part_sends, sends}
+use Rattle.pulsar_laws.proofs.plans.Doing.{IsCommon, IsCopied, copy_does, multi_does}
+use Rattle.pulsar_plans.specs.Plan.{multi_action_of}
 use Rattle.pulsar_laws.proofs.plans.Standing.{run_older, stands_so}
 use Rattle.pulsar_laws.specs.ProducerLaws.{topic_acts}
 use Rattle.pulsar_producer_table.specs.Producers.{next_batch_at, topic_after, turn_passed}
@@ -32,7 +36,7 @@ use Rattle.pulsar_producer.specs.Turns.{first_of}
 use Rattle.pulsar_laws.proofs.plans.Granted.{GivenBy, IsGrantedBy, IsLedSo, does_from, granted_by, grants_given}
 use Rattle.pulsar_producer.proofs.Arcs.{BuildArc, SendArc, draws, naming_rests}
 use Rattle.pulsar_laws.proofs.producers.Drawing.{born_joins, topics_keep}
-use Rattle.pulsar_laws.proofs.producers.Topics.{CameFrom, acts_each}
+use Rattle.pulsar_laws.proofs.producers.Topics.{CameFrom, acts_each, is_passed}
 use Rattle.pulsar_acts.specs.View.{topic_born}
 
 -- WHO TELLS NOBODY TOGETHER: all plans but those of batches
@@ -49,12 +53,35 @@ build_alone : {w : Ways} {o : ProducerOrder} {b q : Build} {y : News} {d : Deed}
 build_alone naming_rests = refl
 build_alone _ = refl
 
+common_alone : IsCommon (λ a. is_tell a ≡ false)
+common_alone = record { gets = λ at. refl; asks = λ l request. refl; waits = λ delay. refl; numbers = refl; rests = refl; builds = build_alone }
+
+copied_alone : IsCopied (λ a. is_tell a ≡ false)
+copied_alone = record {
+  common = common_alone;
+  multis = λ m ask. refl;
+  turns = λ n. refl;
+  takes = refl;
+  sent = refl;
+  failed = refl;
+  sends = send_alone;
+}
+
 -- TICKETS THAT ARE SO: those of all that was done at a topic producer. Those of turns are so, and those of what is stored.
 
 -- a turn is taken by a ticket, or for a copy of a consumer that has a key
 abbrev pub TakerSo : (ℕ → Type 0) → Taker → Type 0
 TakerSo T (taker.Call t) = T t
 TakerSo T (taker.Copy consumer ticket key) = 1 ≤ key
+
+pub as_taker : (T : ℕ → Type 0) (who : Who) → T (turn_of who) → TakerSo T (turn_taker who)
+as_taker T (Call t) k = k
+as_taker T (Producer n) k = k
+as_taker T (Consumer n t key) k = by (key == 0) refl
+  where
+    by : (b : Bool) → (key == 0) ≡ b → TakerSo T (cond b (taker.Call behind_all) (taker.Copy n t key))
+    by true e = k
+    by false e = grind (arith, nat_tests)
 
 module _ (T P : ℕ → Type 0) where
   abbrev ItemSo : Item → Type 0
@@ -142,6 +169,8 @@ module _ (T P : ℕ → Type 0) where
   arc_so (batches_go d x) k h = batch_so x k h
   arc_so (batch_cuts {ms} rs (inl i) b) k h = (tt, told_to_so rs (subst (Each ReportSo) (sym i) (cuts_members ms k)))
   arc_so (batch_cuts {ms} {c} rs (inr i) b) k h = (tt, told_to_so rs (subst (Each ReportSo) (sym i) (reports_so 0 c fate.Halted ms k)))
+  arc_so (multi_goes {m} d x) k h = (tt, alone_so (multi_action_of m d) (multi_does (λ a. is_tell a ≡ false) common_alone m (λ ask. refl) x))
+  arc_so (copies_go {a} x) k h = (tt, alone_so a (copy_does (λ z. is_tell z ≡ false) copied_alone x))
   arc_so _ k h = (tt, tt)
 
   begun_so : {p : Procedure} {q : Plan} {a : Action} → Begun p q a → TurnSo q a
@@ -255,14 +284,8 @@ module _ (T P : ℕ → Type 0) where
 abbrev Any : ℕ → Type 0
 Any t = Unit {0}
 
-any_taker : (who : Who) → TakerSo Any (turn_taker who)
-any_taker (Call t) = tt
-any_taker (Consumer n t zero) = tt
-any_taker (Consumer n t (suc key)) = omega arith
-any_taker (Producer n) = tt
-
 any_does : (a : Act) → DoesSo Any Any a
-any_does (Does who (OfTopic n TakeTurn)) = any_taker who
+any_does (Does who (OfTopic n TakeTurn)) = as_taker Any who tt
 any_does (Does who (OfTopic n (Store e))) = tt
 any_does (Does who (OfTopic n Flush)) = tt
 any_does _ = tt
@@ -283,10 +306,10 @@ waits_as_user o n t log row run is i = waits_so Any Any o n t log row run (any_l
 abbrev with_version : Option (List ℕ) → Taker → Taker × Option (List ℕ)
 with_version version t = (t, version)
 
-pub passed_waits : (t : Taker) (version : Option (List ℕ)) (r : Option Topic) → turn_passed r ≡ Some (t, version) →
+pub passed_waits : (who t : Taker) (version : Option (List ℕ)) (r : Option Topic) → turn_passed who r ≡ Some (t, version) →
     (row : Topic) × (r ≡ Some row) × In t row.seen.waiting
-passed_waits t version None h = absurd (none_some h)
-passed_waits t version (Some row) h = (row, refl, by row.seen.waiting h)
+passed_waits who t version None h = absurd (none_some h)
+passed_waits who t version (Some row) h = (row, refl, by row.seen.waiting (is_passed who row (t, version) h))
   where
     by : (ws : List Taker) → option_map (with_version row.seen.given.version) (first_of ws) ≡ Some (with_version version t) → In t ws
     by [] e = absurd (none_some e)

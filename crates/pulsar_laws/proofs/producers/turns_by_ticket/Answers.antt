@@ -6,7 +6,7 @@ pub returns-clause-passed : goal.returns-clause-passed
 returns-clause-passed c = λ o log t n run. passed_in_turn_lem o log t n run
 
 pub returns-clause-told : goal.returns-clause-told
-returns-clause-told c = λ o log t n version p run s w. told_in_turn_lem o log t n version p run s w
+returns-clause-told c = λ o log t n version p plain run s w. told_in_turn_lem o log t n version p plain run s w
 
 pub returns-clause-queued : goal.returns-clause-queued
 returns-clause-queued c = λ o log t w e share m run s. queued_in_turn_lem o log t w e share m run s

@@ -51,7 +51,7 @@ use Rattle.pulsar_calls.specs.declared.act.Outcome.{Outcome}
 use Rattle.pulsar_calls.specs.declared.act.Outcome.TheVariants as outcome
 use Rattle.pulsar_calls.specs.declared.act.Procedure.TheVariants as procedure
 use Rattle.pulsar_calls.specs.declared.act.Who.{Who}
-use Rattle.pulsar_calls.specs.declared.act.Who.TheVariants.{Call}
+use Rattle.pulsar_calls.specs.declared.act.Who.TheVariants.{Call, Consumer, Producer}
 use Rattle.pulsar_plans.specs.declared.plan.At.{At}
 use Rattle.pulsar_plans.specs.declared.plan.At.TheVariants as at
 use Rattle.pulsar_plans.specs.declared.plan.Plan.{Plan}

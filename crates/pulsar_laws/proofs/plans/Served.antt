@@ -10,31 +10,12 @@ use Rattle.pulsar_calls.specs.declared.act.Outcome.TheVariants as outcome
 use Rattle.pulsar_searches.specs.declared.turn.Action.TheVariants as wish
 use Rattle.pulsar_producer.specs.declared.deed.Deed.TheVariants as deed
 use Rattle.pulsar_plans.proofs.Arcs.{begun_arc, told_arc, Arc, batches_go, Begun, begins_build, builds_on, got_asks, part_sends, recalled_revives, resumed_revives, sends, copies_go, multi_goes}
-use Rattle.pulsar_laws.proofs.plans.Standing.{run_older, stands_so}
 use Rattle.pulsar_laws.proofs.plans.Batchers.{batcher_does}
 use Rattle.pulsar_laws.proofs.plans.Granted.{BeginsSo, IsLedSo, does_from}
-use Rattle.pulsar_laws.proofs.plans.Parted.{is_batches, starts_part}
+pub use Rattle.pulsar_laws.proofs.plans.Unbatched.{calls_serve_none}
 use Rattle.pulsar_laws.proofs.consumers.Reached.{reached_run}
 use Rattle.pulsar_laws.proofs.plans.Servers.{is_server, copier_does}
 use Rattle.pulsar_laws.proofs.plans.Subscribed.{Plain, TurnSo, begins_plain, is_reply, is_reviving, told_on}
-
--- OTHER PLANS serve no consumer
-
-arc_not : {p q : Plan} {u : Outcome} {a : Action} → Arc p u q a → is_server p ≡ false → is_server q ≡ false
-arc_not got_asks h = refl
-arc_not _ h = cc
-
-begun_not : {p : Procedure} {q : Plan} {a : Action} → Begun p q a → is_batches p ≡ false → is_server q ≡ false
-begun_not begins_build h = refl
-begun_not _ h = cc
-
--- ALONG A LOG
-
--- no call serves a consumer
-pub calls_serve_none : (o : Options) (log : List Entry) (t : ℕ) (p : Plan) → IsRun o log → (view o log).stand (Call t) ≡ Some p → is_server p ≡ false
-calls_serve_none o log t p run h =
-    stands_so o (Call t) (IsRun o) (run_older o) (λ log q. is_server q ≡ false) (λ e log q m r s k. k)
-    (λ log p q a r e. begun_not (begun_arc e) (starts_part o log t p r).call) (λ log b u q a r s k e. arc_not (told_arc e) k) log p run h
 
 no_flow : (d : Deed) → (OfConsumer TakeFlow) ≡ action_of d → ⊥
 no_flow (deed.Does (wish.Get p)) h = cc

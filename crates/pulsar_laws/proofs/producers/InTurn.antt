@@ -3,7 +3,7 @@ use Rattle.std.proofs.Common.{◌≡◌, ◌⊎◌, inl, inr, ◌∙◌, sym, ap
 use Rattle.std.proofs.lemmas.Bool.{cases_Bool, eqb-true}
 use Rattle.std.proofs.lemmas.Bool.Decides.{nat_tests}
 use Rattle.pulsar_laws.proofs.ActWords.{Action, Call, Consumer, Does, OfTopic, Outcome, PassTurn, Procedure, Producer, Rest, Share, Starts, TakeTurn, Told, Who, is_same}
-use Rattle.pulsar_laws.proofs.PlanWords.{Batches, Batching, begins, Copying, Errand, Gives, Leaving, Member, Plan, PlanTransition, Reporting, Sending as Send, Stays, told, Visiting, Ways}
+use Rattle.pulsar_laws.proofs.PlanWords.{Batches, Batching, begins, Errand, Gives, Leaving, Member, Plan, PlanTransition, Reporting, Sending as Send, Stays, told, Visiting, Ways}
 use Rattle.pulsar_laws.proofs.RunWords.{counted, Entry, In, IsRun, notice, Options, start_of, started, stays, stays_some, Then, told_some, view}
 use Rattle.pulsar_messages.specs.Claims.{is_spent}
 use Rattle.pulsar_outgoing.specs.declared.multi_topic.Taker.TheVariants as taker
@@ -11,7 +11,7 @@ use Rattle.pulsar_producer.specs.declared.batching.Batching.TheVariants as batch
 use Rattle.pulsar_producer.specs.declared.sending.Sending.TheVariants as send
 use Rattle.pulsar_plans.specs.declared.plan.At.{At as Spot}
 use Rattle.pulsar_plans.specs.declared.plan.At.TheVariants as at
-use Rattle.pulsar_plans.specs.declared.plan.Plan.TheVariants.{Sending}
+use Rattle.pulsar_plans.specs.declared.plan.Plan.TheVariants.{Copying, Sending}
 use Rattle.pulsar_producer_table.specs.declared.table.Topic.{Topic}
 use Rattle.pulsar_laws.proofs.Cases.{none_some}
 pub use Rattle.pulsar_laws.proofs.plans.Standing.{stood_begun}

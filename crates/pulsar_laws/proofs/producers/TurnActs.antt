@@ -25,7 +25,9 @@ use Rattle.pulsar_laws.proofs.producers.InTurn.{AllTurns, IsAt, IsPending, IsTic
 use Rattle.pulsar_plans.proofs.Arcs.{StaysSo}
 use Rattle.pulsar_laws.proofs.plans.Natures.{is_batching, is_leaving}
 use Rattle.pulsar_laws.proofs.producers.Topics.{row_as, topic_all}
-use Rattle.pulsar_laws.proofs.plans.Unbatched.{calls_unbatched}
+use Rattle.pulsar_laws.proofs.plans.Servers.{is_server}
+use Rattle.pulsar_plans.specs.declared.plan.Plan.TheVariants.{Copying}
+use Rattle.pulsar_laws.proofs.plans.Unbatched.{calls_serve_none, calls_unbatched}
 use Rattle.pulsar_laws.proofs.producers.Turns.{acts_left, all_left, passes_it, pend_kept, pending, takes_it, turn_note}
 use Rattle.pulsar_run.specs.Things.{row_by}
 
@@ -146,11 +148,12 @@ left_turns o log a run x y same k = record {
 
 -- ONE IS TOLD SOMETHING
 
--- a plan that is not of batches leaves where it is past turns
-pub past_leaves : (p : Plan) → is_past p ≡ true → is_batching p ≡ false → is_leaving p ≡ true
-past_leaves (Leaving f) h b = refl
-past_leaves (Batching w e x) h b = absurd cc
-past_leaves _ h b = absurd cc
+-- a plan that is neither of batches nor of a consumer leaves where it is past turns
+pub past_leaves : (p : Plan) → is_past p ≡ true → is_batching p ≡ false → is_server p ≡ false → is_leaving p ≡ true
+past_leaves (Leaving f) h b s = refl
+past_leaves (Batching w e x) h b s = absurd cc
+past_leaves (Copying w t x) h b s = absurd cc
+past_leaves _ h b s = absurd cc
 
 module _ (o : Options) (log : List Entry) (n : Notice) (run : IsRun o (Then (Told n) ∷ log)) (k : AllTurns o log) where
   abbrev after_told : Who → Option Plan
@@ -180,7 +183,7 @@ module _ (o : Options) (log : List Entry) (n : Notice) (run : IsRun o (Then (Tol
   at_stays t m p (Gives verdict) e s f h = tt
   at_stays t m p (Stays q a) e s f (inl w) =
       inr (past_leaves q ((subst (StaysSo (GoesSo p n.outcome)) e (told_holds p n.outcome)).waits m w f)
-      (calls_unbatched o (Then (Told n) ∷ log) t q run s))
+      (calls_unbatched o (Then (Told n) ∷ log) t q run s) (calls_serve_none o (Then (Told n) ∷ log) t q run s))
   at_stays t m p (Stays q a) e s f (inr l) = absurd (leaving_gives p n.outcome q a l e)
 
   at_told : (t m : ℕ) (r : Option Plan) → is_same (Call t) n.who ≡ true → (view o log).stand (Call t) ≡ r → is_turn_told n.outcome ≡ false → IsAt m r →

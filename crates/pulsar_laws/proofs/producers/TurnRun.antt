@@ -425,6 +425,9 @@ no_copier o log who n y = record {
     )
 
 -- the copy of a dead letter
+abbrev copy_taker : (consumer ticket key : ℕ) → Taker
+copy_taker j t key = turn_taker (Consumer j t key)
+
 copier : (o : Options) (log : List Entry) (j t key n : ℕ) (row : Topic) → (view o log).producers.topics n ≡ Some row →
     has_turn (turn_taker (Consumer j t key)) row.seen ≡ true → IsRun o (Then (Does (Consumer j t key) (OfTopic n PassTurn)) ∷ log) →
     Passer o log (Consumer j t key) n
@@ -465,7 +468,7 @@ module _ (o : Options) (log : List Entry) (who : Who) (n : ℕ) (run : IsRun o (
 
   -- where one has it not, nothing is changed
   left_topics : passed_by (turn_taker who) (was.topics n) ≡ [] → (m : ℕ) → (view o (Then pass ∷ log)).producers.topics m ≡ was.topics m
-  left_topics no_acts m = ap (λ as. (done_to n as was).topics m) no_acts
+  left_topics no_acts m = ap (λ acts. (done_to n acts was).topics m) no_acts
       ∙ (elim (m == n) as (λ b. row_by topic_after (cond b [] []) (was.topics m) ≡ was.topics m) [ true ↦ refl | false ↦ refl ])
 
   left_untouched : turn_passed (turn_taker who) (was.topics n) ≡ None → passed_by (turn_taker who) (was.topics n) ≡ [] → AllTurns o (Then pass ∷ log)
@@ -482,7 +485,7 @@ module _ (o : Options) (log : List Entry) (who : Who) (n : ℕ) (run : IsRun o (
     -- what is done to it, and what becomes of the others
     now_topics : (m : ℕ) → (view o (Then pass ∷ log)).producers.topics m ≡ (done_to n (Passes ∷ []) was).topics m
     now_topics m =
-        ap (λ as. (done_to n as was).topics m)
+        ap (λ acts. (done_to n acts was).topics m)
         (ap (passed_by (turn_taker who)) y.is_row ∙ ap (λ b. cond b (Passes ∷ []) []) it_has)
 
     abbrev Others : ℕ → Type 0
@@ -525,7 +528,7 @@ module _ (o : Options) (log : List Entry) (who : Who) (n : ℕ) (run : IsRun o (
         Turns o (Then pass ∷ log)
     pass_step few told = step_turns o log pass Others Nobody k.calls (record {
       stand = λ u. refl;
-      keeps = λ u m apart h. keeps_pass (Call u) m (λ e f. apart e) h;
+      keeps = λ u m apart h. keeps_pass (Call u) m (λ e f. apart (sym e)) h;
       holder = holder_pass;
       pender = pender_pass;
       back = λ u m r x e i. inl (back_pass u m r e i);
@@ -756,16 +759,14 @@ copier_turns : (o : Options) (log : List Entry) (j t key n : ℕ) → IsRun o (T
     AllTurns o (Then (Does (Consumer j t key) (OfTopic n PassTurn)) ∷ log)
 copier_turns o log j t key n run k = at_row ((view o log).producers.topics n) refl
   where
-    abbrev who : Who
-    who = Consumer j t key
-
-    at_row : (row : Option Topic) → (view o log).producers.topics n ≡ row → AllTurns o (Then (Does who (OfTopic n PassTurn)) ∷ log)
-    at_row None e = left_untouched o log who n run k (ap (turn_passed (turn_taker who)) e) (ap (passed_by (turn_taker who)) e)
-    at_row (Some row) e = elim (cases_Bool (has_turn (turn_taker who) row.seen)) [
-      | inl has ↦ pass_turns o log who n run k (copier o log j t key n row e has run) row.seen.waiting refl
+    at_row : (row : Option Topic) → (view o log).producers.topics n ≡ row → AllTurns o (Then (Does (Consumer j t key) (OfTopic n PassTurn)) ∷ log)
+    at_row None e =
+        left_untouched o log (Consumer j t key) n run k (ap (turn_passed (copy_taker j t key)) e) (ap (passed_by (copy_taker j t key)) e)
+    at_row (Some row) e = elim (cases_Bool (has_turn (copy_taker j t key) row.seen)) [
+      | inl has ↦ (let y = copier o log j t key n row e has run in pass_turns o log (Consumer j t key) n run k y y.row.seen.waiting refl)
       | inr not ↦
-          left_untouched o log who n run k (ap (turn_passed (turn_taker who)) e ∙ ap (λ b. cond b (next_turn row) None) not)
-          (ap (passed_by (turn_taker who)) e ∙ ap (λ b. cond b (Passes ∷ []) []) not)
+          left_untouched o log (Consumer j t key) n run k (ap (turn_passed (copy_taker j t key)) e ∙ ap (λ b. cond b (next_turn row) None) not)
+          (ap (passed_by (copy_taker j t key)) e ∙ ap (λ b. cond b (Passes ∷ []) []) not)
     ]
 
 -- ALONG A LOG
@@ -836,6 +837,12 @@ IsNext o log who n =
     × ((next : Taker) (left : List Taker) → row.seen.waiting ≡ next ∷ left → AreBehind next left
     × In (notice (who_at n next) (outcome.Granted (news.HasTurn row.seen.given.version))) (joins (view o log) (Does who (OfTopic n PassTurn))))
 
+-- nothing is changed, and nobody is told
+abbrev IsLeft : Options → List Entry → Who → ℕ → Type 0
+IsLeft o log who n =
+    (joins (view o log) (Does who (OfTopic n PassTurn)) ≡ [])
+    × ((m : ℕ) → (view o (Then (Does who (OfTopic n PassTurn)) ∷ log)).producers.topics m ≡ (view o log).producers.topics m)
+
 is_next : (o : Options) (log : List Entry) (who : Who) (n : ℕ) → IsRun o (Then (Does who (OfTopic n PassTurn)) ∷ log) → AllTurns o log →
     Passer o log who n → IsNext o log who n
 is_next o log who n run k y = (
@@ -852,26 +859,21 @@ is_next o log who n run k y = (
 pub passed_in_turn_lem : PassedInTurn
 passed_in_turn_lem o log (Consumer j t key) n run = at_row ((view o log).producers.topics n) refl
   where
-    abbrev who : Who
-    who = Consumer j t key
-
     k : AllTurns o log
     k = here (AllTurns o) log (turns_run o log run.0)
 
-    left : turn_passed (turn_taker who) ((view o log).producers.topics n) ≡ None → passed_by (turn_taker who) ((view o log).producers.topics n) ≡ [] →
-        (joins (view o log) (Does who (OfTopic n PassTurn)) ≡ [])
-        × ((m : ℕ) → (view o (Then (Does who (OfTopic n PassTurn)) ∷ log)).producers.topics m ≡ (view o log).producers.topics m)
-    left none no_acts = (ap (λ r. option_to_list (option_map (turn_notice n) r)) none, left_topics o log who n run k no_acts)
+    left : turn_passed (copy_taker j t key) ((view o log).producers.topics n) ≡ None →
+        passed_by (copy_taker j t key) ((view o log).producers.topics n) ≡ [] → IsLeft o log (Consumer j t key) n
+    left none no_acts = (ap (λ r. option_to_list (option_map (turn_notice n) r)) none, left_topics o log (Consumer j t key) n run k no_acts)
 
     at_row : (row : Option Topic) → (view o log).producers.topics n ≡ row →
-        IsNext o log who n ⊎ ((is_consumer who ≡ true) × (joins (view o log) (Does who (OfTopic n PassTurn)) ≡ [])
-        × ((m : ℕ) → (view o (Then (Does who (OfTopic n PassTurn)) ∷ log)).producers.topics m ≡ (view o log).producers.topics m))
-    at_row None e = let l = left (ap (turn_passed (turn_taker who)) e) (ap (passed_by (turn_taker who)) e) in inr (refl, l.0, l.1)
-    at_row (Some row) e = elim (cases_Bool (has_turn (turn_taker who) row.seen)) [
-      | inl has ↦ inl (is_next o log who n run k (copier o log j t key n row e has run))
+        IsNext o log (Consumer j t key) n ⊎ ((is_consumer (Consumer j t key) ≡ true) × IsLeft o log (Consumer j t key) n)
+    at_row None e = let l = left (ap (turn_passed (copy_taker j t key)) e) (ap (passed_by (copy_taker j t key)) e) in inr (refl, l.0, l.1)
+    at_row (Some row) e = elim (cases_Bool (has_turn (copy_taker j t key) row.seen)) [
+      | inl has ↦ inl (is_next o log (Consumer j t key) n run k (copier o log j t key n row e has run))
       | inr not ↦
-          (let l = left (ap (turn_passed (turn_taker who)) e ∙ ap (λ b. cond b (next_turn row) None) not)
-          (ap (passed_by (turn_taker who)) e ∙ ap (λ b. cond b (Passes ∷ []) []) not) in
+          (let l = left (ap (turn_passed (copy_taker j t key)) e ∙ ap (λ b. cond b (next_turn row) None) not)
+          (ap (passed_by (copy_taker j t key)) e ∙ ap (λ b. cond b (Passes ∷ []) []) not) in
           inr (refl, l.0, l.1))
     ]
 passed_in_turn_lem o log (Call t) n run =
